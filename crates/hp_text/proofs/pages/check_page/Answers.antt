@@ -1,0 +1,13 @@
+use Rattle.std.proofs.Common.{◌≡◌, ℕ, List, IsUtf8, true, nat_eq, sym, subst}
+use Rattle.std.specs.Str.{IsCharBoundary}
+use Rattle.std.specs.List.{starts_with}
+use Rattle.hp_text.specs.Text.{byte_order_mark}
+use Rattle.hp_text.proofs.MarkLemmas.{boundary_after_mark}
+use Rattle.hp_text.proofs.pages.check_page.Goals as goal
+
+pub range_from-requires : goal.range_from-requires
+range_from-requires c = λ _.
+    let utf8 : IsUtf8 c.args.bytes.now = c.in-Ok.ensures.cases.1 in
+    let starts : starts_with nat_eq c.args.bytes.now byte_order_mark ≡ true = sym c.if-starts_with.ensures.value in
+    let P : List ℕ → Type 0 = λ bs. IsCharBoundary bs 3 in
+    subst P (sym c.in-Ok.ensures.cases.0) (boundary_after_mark c.args.bytes.now utf8 starts)

@@ -1,0 +1,11 @@
+-- What sources and sinks say of their bytes, and when a count of faults rose.
+use Rattle.std.specs.Prelude.{◌≡◌, ℕ, ◌-◌, ◌^◌, ◌<◌, ◌⊎◌, List, Option, length}
+use Rattle.std.specs.Io.KnownBytes.{prepend_known}
+
+-- a count of faults is greater than before, or it stands at the end of its type, where it stays
+abbrev pub Rose : ℕ → ℕ → Type 0
+Rose old new = (old < new) ⊎ (new ≡ 2 ^ 64 - 1)
+
+-- between these two moments a source gave some bytes, whose number is in `amount`, and nothing else
+abbrev pub Gives : (ℕ → Type 0) → Option (List ℕ) → Option (List ℕ) → Type 0
+Gives amount old new = (bytes : List ℕ) × (amount (length bytes) × (old ≡ prepend_known bytes new))

@@ -1,0 +1,4 @@
+pub mod Device
+pub mod Text
+pub mod Page
+pub mod Memory
