@@ -1,0 +1,17 @@
+use Rattle.std.proofs.Common.{◌≡◌, length, sym, ap, ◌∙◌, refl}
+use Rattle.hp_arena.specs.Nodes.{links_of, IsRelinked, node_at}
+use Rattle.hp_arena.specs.Ring.{spliced, joined}
+use Rattle.hp_arena.proofs.links.splice.Goals as goal
+
+pub returns : goal.returns
+returns c = record {
+  links_are =
+      c.join-3.ensures.links
+      ∙ ap (λ l. joined l c.args.source c.args.source)
+      (c.join-2.ensures.links ∙ ap (λ l. joined l (node_at c.args.nodes.now c.args.source).prev c.args.target) c.join.ensures.links);
+  same = record {
+    count = c.join-3.ensures.kinds.count ∙ c.join-2.ensures.kinds.count ∙ c.join.ensures.kinds.count;
+    kind = λ s. c.join-3.ensures.kinds.kind s ∙ c.join-2.ensures.kinds.kind s ∙ c.join.ensures.kinds.kind s;
+  };
+  closed = c.join-3.ensures.closed (c.join-2.ensures.closed (c.join.ensures.closed c.requires.closed));
+}

@@ -1,0 +1,9 @@
+use Rattle.std.specs.Prelude.{ℕ, List}
+use Rattle.hp_control.specs.Tree.{Tree}
+
+-- what contracts see of a `Tree`: its branches, how much more room there is for edits, and by what number each item in
+-- a list of children is found again, branch by branch and in the same order
+pub record Seen : Type 0 where
+  pub branches : Tree
+  pub spare : ℕ
+  pub order : List (List ℕ)

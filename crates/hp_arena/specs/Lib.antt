@@ -1,0 +1,6 @@
+pub mod Ring
+pub mod Nodes
+pub mod Arena
+pub mod Leaves
+pub mod Shape
+pub mod Readers

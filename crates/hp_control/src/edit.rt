@@ -1,0 +1,199 @@
+//! The edits of a document tree. What they do to a tree stands in specs/Tree.antt.
+
+ghost use Rattle.std.specs.Prelude.{◌≡◌, ◌+◌, ◌∷◌, ◌++◌, [], length, IsTrue, ◌↔◌, OnOk, OnErr};
+ghost use Rattle.hp_control.specs.Edits.{room_of, room_of_all};
+
+use hp_elements::{Attribute, Chain, Tag, Text};
+use std::alloc::{AllocError, Global};
+use std::marker::Model;
+
+/// Which element an edit means.
+#[derive(Clone, Copy, PartialEq, Eq, Debug)]
+pub enum Ref {
+    /// The element of this id. The document is 0.
+    Fixed(u64),
+    /// The element at this depth of the stack of open elements as the chunk begins; the current node has depth 0.
+    Older(u64),
+    /// The element that the fragment makes after so many others.
+    Own(u64),
+}
+
+/// Where a child goes.
+#[derive(Clone, Copy, PartialEq, Eq, Debug)]
+pub enum Place {
+    /// Last among the children of an element. A template has its contents there.
+    Into(Ref),
+    /// Directly before the table where that has a parent, and else last into `above`.
+    Foster { table: Ref, above: Ref },
+}
+
+/// What is put into a place.
+#[derive(Drop)]
+pub enum Child<'p> {
+    Element(Ref),
+    Text(Text<'p>),
+    Comment(Text<'p>),
+    Doctype {
+        name: Text<'p>,
+        public: Option<Text<'p>>,
+        system: Option<Text<'p>>,
+    },
+}
+
+/// One step in the making of a tree.
+#[derive(Drop)]
+pub enum Edit<'p> {
+    /// Makes the next element, which has no parent.
+    NewElement {
+        tag: Tag,
+    },
+    /// Puts a child into a place. An element that has a parent is taken out of it first.
+    Put {
+        child: Child<'p>,
+        place: Place,
+    },
+    /// Takes an element out of its parent.
+    Detach {
+        node: Ref,
+    },
+    /// Appends all children of one element, in order, to those of another.
+    MoveChildren {
+        from: Ref,
+        to: Ref,
+    },
+    /// Adds the attributes whose names the element doesn't have.
+    AddMissing {
+        node: Ref,
+        attributes: Chain<Attribute>,
+    },
+}
+
+impl<'p> Edit<'p> {
+    /// How much room the edit needs in a tree: one for itself and one for each of its attributes.
+    pub fn room(&self) -> u64
+        ensures { result ≡ room_of self.now }
+    {
+        match self {
+            Edit::NewElement { tag } => tag.attributes.len() as u64 + 1,
+            Edit::AddMissing { attributes, .. } => attributes.len() as u64 + 1,
+            Edit::Put { .. } | Edit::Detach { .. } | Edit::MoveChildren { .. } => 1,
+        }
+    }
+}
+
+/// Edits in the order in which they are made.
+#[derive(Drop)]
+pub struct Edits<'p> {
+    items: Vec<Edit<'p>>,
+    /// The room that they need together.
+    room: u64,
+}
+
+impl<'p> Model for Edits<'p> {
+    ghost use Rattle.std.specs.Prelude.{◌≡◌, List};
+    ghost use Rattle.hp_control.specs.declared.edit.Edit.{Edit};
+
+    ghost Value = { List Edit };
+
+    ghost use Rattle.hp_control.specs.Edits.{room_of_all};
+
+    ghost view = { λ e. e.items.items };
+
+    ghost invariant = { λ e. e.room ≡ room_of_all e.items.items };
+}
+
+impl<'p> Edits<'p> {
+    /// No edits.
+    pub fn new(alloc: Global) -> Edits<'p>
+        ensures { result ≡ [] }
+    {
+        Edits {
+            items: Vec::new(alloc),
+            room: 0,
+        }
+    }
+
+    /// One more edit, made after the others.
+    pub fn push(&mut self, edit: Edit<'p>) -> Result<(), AllocError>
+        ensures ok { OnOk result (self.new ≡ self.old ++ edit.entry ∷ []) }
+        ensures err { OnErr result (self.new ≡ self.old) }
+    {
+        let room = self.room.checked_add(edit.room()).ok_or(AllocError)?;
+        self.items.push(edit)?;
+        self.room = room;
+        Ok(())
+    }
+
+    pub fn len(&self) -> usize
+        ensures { result ≡ length self.now }
+    {
+        self.items.len()
+    }
+
+    pub fn is_empty(&self) -> bool
+        ensures { IsTrue result ↔ (self.now ≡ []) }
+    {
+        self.items.is_empty()
+    }
+
+    /// How much room the edits need together in a tree: one each, and one for each of their attributes.
+    pub fn room(&self) -> u64
+        ensures { result ≡ room_of_all self.now }
+    {
+        self.room
+    }
+
+    pub fn as_slice(&self) -> &[Edit<'p>]
+        ensures { result.now ≡ self.now }
+    {
+        &self.items
+    }
+
+    /// The edits as a `Vec`. It takes no memory.
+    pub fn into_vec(self) -> Vec<Edit<'p>>
+        ensures { result.items ≡ self.entry }
+    {
+        self.items
+    }
+}
+
+#[cfg(test)]
+mod tests {
+    use super::*;
+    use std::test::Fail;
+
+    #[test]
+    fn edits_are_kept_in_order(rt: HostRuntime) -> Result<(), Fail> {
+        let mut edits = Edits::new(rt.alloc());
+        assert!(rt; edits.is_empty());
+        edits.push(Edit::Detach {
+            node: Ref::Fixed(7),
+        })?;
+        edits.push(Edit::Put {
+            child: Child::Element(Ref::Own(1)),
+            place: Place::Into(Ref::Older(2)),
+        })?;
+        assert_eq!(rt; edits.len(), 2);
+        assert_eq!(rt; edits.room(), 2);
+        let first = edits.as_slice().first();
+        assert!(rt;
+            matches!(
+                first,
+                Some(Edit::Detach {
+                    node: Ref::Fixed(7)
+                })
+            )
+        );
+        let all = edits.into_vec();
+        assert!(rt;
+            matches!(
+                all.last(),
+                Some(Edit::Put {
+                    place: Place::Into(Ref::Older(2)),
+                    ..
+                })
+            )
+        );
+        Ok(())
+    }
+}

@@ -1,0 +1,11 @@
+use Rattle.std.proofs.Common.{List, ℕ, ap, sym, ◌∙◌}
+use Rattle.hp_elements.specs.Sets.{in_set}
+use Rattle.hp_elements.proofs.NameLemmas.{found_text}
+use Rattle.hp_elements.proofs.SetLemmas.{other_in}
+use Rattle.hp_elements.proofs.sets.SetName.has.Goals as goal
+
+pub returns-in-Some : goal.returns-in-Some
+returns-in-Some c = c.is_in.ensures ∙ ap (λ (xs : List ℕ). in_set c.args.self c.args.namespace xs) (found_text c.args.name.now c.in-Some.known (sym c.in-Some.ensures))
+
+pub returns-in-None : goal.returns-in-None
+returns-in-None c = c.has_others.ensures ∙ sym (other_in c.args.self c.args.namespace c.args.name.now (sym c.in-None.ensures))

@@ -1,0 +1,11 @@
+pub mod Names
+pub mod Sets
+pub mod SetMasks
+pub mod Kinds
+pub mod Slots
+pub mod Spelling
+pub mod Texts
+pub mod Lists
+pub mod Tokens
+pub mod Placing
+pub mod Rules

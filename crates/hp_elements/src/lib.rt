@@ -1,0 +1,32 @@
+//! The vocabulary of the parser: names, the sets of elements that the rules name, tokens, texts and lists.
+#![tactic(auto)]
+
+mod act;
+mod chain;
+mod find;
+mod kinds;
+mod known;
+mod list;
+mod name;
+mod places;
+mod set_masks;
+mod sets;
+mod short;
+mod slots;
+mod tag;
+#[cfg(test)]
+mod tests;
+mod text;
+mod token;
+
+pub use act::{Act, Scope, Test, Which};
+pub use chain::{Chain, ChainIter};
+pub use kinds::{Kinds, Point};
+pub use known::Known;
+pub use list::List;
+pub use name::Name;
+pub use sets::{Namespace, SetName, is_in};
+pub use std::alloc::AllocError as NoMemory;
+pub use tag::{Attribute, AttributeSpace, Tag};
+pub use text::Text;
+pub use token::{CharClass, Doctype, DoctypeParts, Kind, Mode, Rest, Token, Tokens};

@@ -1,0 +1,158 @@
+//! The namespaces of elements, and the sets that the rules name.
+ghost use Rattle.std.specs.Prelude.{◌≡◌, false, slice_index};
+ghost use Rattle.hp_elements.specs.Names.{index_of, text_of};
+ghost use Rattle.hp_elements.specs.SetMasks.{mask_of, masks_of};
+ghost use Rattle.hp_elements.specs.Sets.{in_set};
+
+use crate::known::Known;
+use crate::name::Name;
+use crate::set_masks::{HTML_SETS, MATHML_SETS, SVG_SETS};
+
+/// The namespace of an element.
+#[derive(Clone, Copy, PartialEq, Eq)]
+pub enum Namespace {
+    Html,
+    MathMl,
+    Svg,
+}
+
+/// A set of elements, each of a namespace and a name. `members` of `specs/Sets.antt` has each set's elements.
+#[derive(Clone, Copy, PartialEq, Eq)]
+pub enum SetName {
+    /// MathML and SVG elements that end each scope but those of tables and of select.
+    ForeignEnds,
+    DefaultScopeEnds,
+    ListItemScopeEnds,
+    ButtonScopeEnds,
+    TableScopeEnds,
+    /// All elements but HTML `optgroup` and `option`.
+    SelectScopeEnds,
+    Special,
+    /// The special elements but HTML `address`, `div` and `p`, where the search for an open `li`, `dd` or `dt` ends.
+    ItemBarriers,
+    /// The elements whose end tags are implied.
+    Implied,
+    ImpliedButDd,
+    ImpliedButDt,
+    ImpliedButLi,
+    ImpliedButOptgroup,
+    ImpliedButOption,
+    ImpliedButP,
+    ImpliedButRb,
+    ImpliedButRp,
+    ImpliedButRt,
+    ImpliedButRtc,
+    ThoroughlyImplied,
+    Formatting,
+    /// The elements that put a marker into the list of formatting elements.
+    Markers,
+    MathMlTextPoints,
+    /// The SVG elements that are HTML integration points.
+    SvgHtmlPoints,
+    Void,
+    Breakout,
+    Headings,
+    /// `dd` and `dt`.
+    DescriptionItems,
+    /// `td` and `th`.
+    Cells,
+    /// `tbody`, `tfoot` and `thead`.
+    TableSections,
+    /// The current nodes at which characters in a table wait: `table tbody template tfoot thead tr`.
+    TableTextParents,
+    /// The current nodes from which content is put before the table: `table tbody tfoot thead tr`.
+    FosterParents,
+    TableContext,
+    TableBodyContext,
+    TableRowContext,
+    /// `optgroup` and `option`.
+    Options,
+}
+
+impl SetName {
+    /// The bit of the set in the tables of names.
+    fn mask(self) -> u64
+        ensures { result ≡ mask_of self }
+    {
+        match self {
+            SetName::ForeignEnds => 0x1,
+            SetName::DefaultScopeEnds => 0x2,
+            SetName::ListItemScopeEnds => 0x4,
+            SetName::ButtonScopeEnds => 0x8,
+            SetName::TableScopeEnds => 0x10,
+            SetName::SelectScopeEnds => 0x20,
+            SetName::Special => 0x40,
+            SetName::ItemBarriers => 0x80,
+            SetName::Implied => 0x100,
+            SetName::ImpliedButDd => 0x200,
+            SetName::ImpliedButDt => 0x400,
+            SetName::ImpliedButLi => 0x800,
+            SetName::ImpliedButOptgroup => 0x1000,
+            SetName::ImpliedButOption => 0x2000,
+            SetName::ImpliedButP => 0x4000,
+            SetName::ImpliedButRb => 0x8000,
+            SetName::ImpliedButRp => 0x10000,
+            SetName::ImpliedButRt => 0x20000,
+            SetName::ImpliedButRtc => 0x40000,
+            SetName::ThoroughlyImplied => 0x80000,
+            SetName::Formatting => 0x100000,
+            SetName::Markers => 0x200000,
+            SetName::MathMlTextPoints => 0x400000,
+            SetName::SvgHtmlPoints => 0x800000,
+            SetName::Void => 0x1000000,
+            SetName::Breakout => 0x2000000,
+            SetName::Headings => 0x4000000,
+            SetName::DescriptionItems => 0x8000000,
+            SetName::Cells => 0x10000000,
+            SetName::TableSections => 0x20000000,
+            SetName::TableTextParents => 0x40000000,
+            SetName::FosterParents => 0x80000000,
+            SetName::TableContext => 0x100000000,
+            SetName::TableBodyContext => 0x200000000,
+            SetName::TableRowContext => 0x400000000,
+            SetName::Options => 0x800000000,
+        }
+    }
+}
+
+impl SetName {
+    ghost use Rattle.hp_elements.specs.Sets.{turned};
+
+    /// Whether the elements of that namespace and name are in the set.
+    pub fn has(self, namespace: Namespace, name: &Name) -> bool
+        ensures { result ≡ in_set self namespace name.now }
+    {
+        match name.known() {
+            Some(known) => is_in(self, namespace, known),
+            None => self.has_others(),
+        }
+    }
+
+    /// Whether the elements of names that no list names are in the set.
+    fn has_others(self) -> bool
+        ensures { result ≡ turned self false }
+    {
+        match self {
+            SetName::SelectScopeEnds => true,
+            _ => false,
+        }
+    }
+}
+
+/// Whether the elements of that namespace and name are in the set. One look-up.
+pub fn is_in(set: SetName, namespace: Namespace, name: Known) -> bool
+    ensures { result ≡ in_set set namespace (text_of name) }
+{
+    sets_of(namespace, name) & set.mask() != 0
+}
+
+/// The sets that the elements of a namespace and a known name are in.
+fn sets_of(namespace: Namespace, name: Known) -> u64
+    ensures { result ≡ slice_index (masks_of namespace) (index_of name) }
+{
+    match namespace {
+        Namespace::Html => HTML_SETS[name.index()],
+        Namespace::MathMl => MATHML_SETS[name.index()],
+        Namespace::Svg => SVG_SETS[name.index()],
+    }
+}

@@ -1,0 +1,6 @@
+pub mod Blanks
+pub mod Depths
+pub mod Lists
+pub mod Pieces
+pub mod Sorting
+pub mod Steps

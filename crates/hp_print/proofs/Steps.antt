@@ -1,0 +1,176 @@
+-- The steps of the walk.
+use Rattle.std.proofs.Common.{◌≡◌, ℕ, zero, suc, ◌+◌, ◌-◌, ◌<◌, ◌≤◌, List, [], ◌∷◌, ◌++◌, length, drop, get_or, arith, refl, sym, ap, ◌∙◌, subst, Some, slice_get, append_assoc, append-nil, add-one, length-append}
+use Rattle.std.proofs.lemmas.Option.{slice_get-get_or, slice_get_within}
+use Rattle.std.proofs.lemmas.List.{drop_all}
+use Rattle.std.proofs.Math.Seq.{drop-cons}
+use Rattle.std.specs.Prelude.{Option, None, true, false, if◌then◌else◌}
+use Rattle.std.specs.Borrow.{Bor}
+use Rattle.hp_elements.specs.declared.tag.Tag.{Tag}
+use Rattle.hp_control.specs.Tree.{Tree, Item, branch, HasChild, IsForest}
+use Rattle.hp_control.specs.Tree as item
+use Rattle.hp_arena.specs.Readers.{shown}
+use Rattle.hp_arena.specs.declared.readers.NodeView.{NodeView}
+use Rattle.hp_arena.specs.declared.readers.NodeView.TheVariants as node
+use Rattle.hp_arena.specs.Arena.{Seen}
+use Rattle.hp_print.specs.declared.out.Out.{Out}
+use Rattle.hp_print.specs.declared.walk.Mark.{Mark}
+use Rattle.hp_print.specs.Out.{Prints}
+use Rattle.hp_print.specs.Print.{lines, inside, own_lines, extra, tag_extra, is_template, print}
+use Rattle.hp_print.specs.Stack.{lines_at, steps_at, rest, mark_lines, mark_steps, pending, work, todo, IsDeep, IsMark, AreMarks, Pushed, Stepped}
+use Rattle.hp_print.proofs.Depths.{deep-room}
+
+lines-none : (t : Tree) (left depth : ℕ) → lines t left depth [] ≡ []
+unfolding lines
+lines-none t zero depth = refl
+lines-none t (suc left) depth = refl
+
+lines-some : (t : Tree) (left depth : ℕ) (x : Item) (xs : List Item) → 0 < left → lines t left depth (x ∷ xs) ≡ own_lines t depth x ++ lines t (left - 1) (depth + 1 + extra t x) (inside t x) ++ lines t left depth xs
+unfolding lines
+lines-some t zero depth x xs h = absurd (omega arith)
+lines-some t (suc left) depth x xs h =
+    let a : left ≡ suc left - 1 = omega arith in ap (λ l. own_lines t depth x ++ lines t l (depth + 1 + extra t x) (inside t x) ++ lines t (suc left) depth xs) a
+
+work-none : (t : Tree) (left : ℕ) → work t left [] ≡ 0
+unfolding work
+work-none t zero = refl
+work-none t (suc left) = refl
+
+work-some : (t : Tree) (left : ℕ) (x : Item) (xs : List Item) → 0 < left → work t left (x ∷ xs) ≡ work t (left - 1) (inside t x) + 2 + work t left xs
+unfolding work
+work-some t zero x xs h = absurd (omega arith)
+work-some t (suc left) x xs h = let a : left ≡ suc left - 1 = omega arith in ap (λ l. work t l (inside t x) + 2 + work t (suc left) xs) a
+
+-- the last mark comes first
+pub pending-push : (t : Tree) (ms : List Mark) (m : Mark) → pending t (ms ++ m ∷ []) ≡ mark_lines t m ++ pending t ms
+unfolding pending
+pending-push t [] m = sym (append-nil (mark_lines t m))
+pending-push t (n ∷ ms) m = ap (λ xs. xs ++ mark_lines t n) (pending-push t ms m) ∙ append_assoc (mark_lines t m) (pending t ms) (mark_lines t n)
+
+pub todo-push : (t : Tree) (ms : List Mark) (m : Mark) → todo t (ms ++ m ∷ []) ≡ todo t ms + mark_steps t m
+unfolding todo
+todo-push t [] m = refl
+todo-push t (n ∷ ms) m = omega (arith, todo-push t ms m)
+
+pub marks-push : (t : Seen) (ms : List Mark) (m : Mark) → AreMarks t ms → IsMark t m → AreMarks t (ms ++ m ∷ [])
+marks-push t [] m all is = (is, tt)
+marks-push t (n ∷ ms) m all is = (all.0, marks-push t ms m all.1 is)
+
+pub marks-pop : (t : Seen) (ms : List Mark) (m : Mark) → AreMarks t (ms ++ m ∷ []) → AreMarks t ms
+marks-pop t [] m all = tt
+marks-pop t (n ∷ ms) m all = (all.0, marks-pop t ms m all.1)
+
+pub marks-last : (t : Seen) (ms : List Mark) (m : Mark) → AreMarks t (ms ++ m ∷ []) → IsMark t m
+marks-last t [] m all = all.0
+marks-last t (n ∷ ms) m all = marks-last t ms m all.1
+
+-- a mark is pushed
+pub pushed_some : (t : Seen) (ms : List Mark) (m : Mark) (level templates : ℕ) (items : List Item) → IsMark t m → m.level ≡ level → m.templates ≡ templates → rest t.branches m ≡ items
+    → Pushed t ms (ms ++ m ∷ []) (lines_at t.branches level templates items) (steps_at t.branches level items)
+pushed_some t ms m level templates items is at_level of_templates left =
+    rw (← at_level, ← of_templates, ← left) (record {
+      text_is = pending-push t.branches ms m;
+      steps_are = omega (arith, todo-push t.branches ms m);
+      marks = λ all. marks-push t ms m all is;
+    })
+
+-- where nothing is left, nothing is pushed
+pub pushed_none : (t : Seen) (ms : List Mark) (level templates : ℕ) (items : List Item) → items ≡ [] → Pushed t ms ms (lines_at t.branches level templates items) (steps_at t.branches level items)
+pushed_none t ms level templates items e =
+    let none : lines_at t.branches level templates items ≡ [] = ap (lines_at t.branches level templates) e ∙ lines-none t.branches (length t.branches - level) (level + templates) in
+    record { text_is = rw none refl; steps_are = omega arith; marks = λ all. all }
+
+-- the item at a place, and what is left after it
+drop_at : (xs : List Item) (n : ℕ) (x : Item) → slice_get xs n ≡ Some x → drop n xs ≡ x ∷ drop (n + 1) xs
+drop_at xs n x e =
+    let h : n < length xs = slice_get_within xs n x e in
+    let some : slice_get xs n ≡ Some (get_or xs n x) = slice_get-get_or xs n x h in
+    let is : get_or xs n x ≡ x = cc in
+    rw (add-one, drop-cons xs n x h) (ap (λ y. y ∷ drop (suc n) xs) is)
+
+-- what is left after the item at a mark
+abbrev pub after : Tree → Mark → List Item
+after t m = drop (m.at.place + 1) (branch t m.at.parent).inside
+
+abbrev pub IsItemAt : Tree → Mark → Item → Type 0
+IsItemAt t m x = slice_get (branch t m.at.parent).inside m.at.place ≡ Some x
+
+mark-text : (t : Tree) (m : Mark) (x : Item) → m.level < length t → IsItemAt t m x
+    → mark_lines t m ≡ own_lines t (m.level + m.templates) x ++ lines t (length t - m.level - 1) (m.level + m.templates + 1 + extra t x) (inside t x) ++ lines_at t m.level m.templates (after t m)
+mark-text t m x room item =
+    ap (lines_at t m.level m.templates) (drop_at (branch t m.at.parent).inside m.at.place x item)
+    ∙ lines-some t (length t - m.level) (m.level + m.templates) x (after t m) (omega arith)
+
+mark-work : (t : Tree) (m : Mark) (x : Item) → m.level < length t → IsItemAt t m x
+    → mark_steps t m ≡ work t (length t - m.level - 1) (inside t x) + 2 + work t (length t - m.level) (after t m) + 1
+mark-work t m x room item =
+    ap (steps_at t m.level) (drop_at (branch t m.at.parent).inside m.at.place x item)
+    ∙ ap (λ n. n + 1) (work-some t (length t - m.level) x (after t m) (omega arith))
+
+-- what is left after the item was marked
+abbrev pub NextPushed : Seen → Mark → List Mark → List Mark → Type 0
+NextPushed t m old new = Pushed t old new (lines_at t.branches m.level m.templates (after t.branches m)) (steps_at t.branches m.level (after t.branches m))
+
+leaf-text : (own inner next old new : List ℕ) → inner ≡ [] → new ≡ next ++ old → (own ++ inner ++ next) ++ old ≡ own ++ new
+leaf-text own inner next old new none is = rw (none, is, append-nil, append_assoc) refl
+
+element-text : (own inner next old mid new : List ℕ) → mid ≡ next ++ old → new ≡ inner ++ mid → (own ++ inner ++ next) ++ old ≡ own ++ new
+element-text own inner next old mid new is more = rw (more, is) (simp append_assoc)
+
+-- an item was printed that has nothing inside
+pub stepped_leaf : (t : Seen) (m : Mark) (x : Item) (old new : List Mark) (before after : Out) → IsForest t.branches → IsMark t m → IsItemAt t.branches m x → inside t.branches x ≡ []
+    → NextPushed t m old new → Prints before after (own_lines t.branches (m.level + m.templates) x) → Stepped t m old new before after
+stepped_leaf t m x old new before after f is item leaf pushed printed =
+    let b = t.branches in
+    let room : m.level < length b = deep-room b f m.level m.at.parent is.deep in
+    let none : lines b (length b - m.level - 1) (m.level + m.templates + 1 + extra b x) (inside b x) ≡ [] = ap (lines b (length b - m.level - 1) (m.level + m.templates + 1 + extra b x)) leaf ∙ lines-none b (length b - m.level - 1) (m.level + m.templates + 1 + extra b x) in
+    record {
+      piece = own_lines b (m.level + m.templates) x;
+      printed = printed;
+      text_is = rw (mark-text b m x room item) (leaf-text _ _ _ _ _ none pushed.text_is);
+      steps_are = omega (arith, mark-work b m x room item, pushed.steps_are);
+      marks = pushed.marks;
+    }
+
+-- an item was printed, and what stands inside it is marked
+pub stepped_element : (t : Seen) (m : Mark) (x : Item) (templates : ℕ) (old mid new : List Mark) (before after : Out) → IsForest t.branches → IsMark t m → IsItemAt t.branches m x → templates ≡ m.templates + extra t.branches x
+    → NextPushed t m old mid → Prints before after (own_lines t.branches (m.level + m.templates) x)
+    → Pushed t mid new (lines_at t.branches (m.level + 1) templates (inside t.branches x)) (steps_at t.branches (m.level + 1) (inside t.branches x)) → Stepped t m old new before after
+stepped_element t m x templates old mid new before after f is item more pushed printed below =
+    let b = t.branches in
+    let room : m.level < length b = deep-room b f m.level m.at.parent is.deep in
+    let left : length b - (m.level + 1) ≡ length b - m.level - 1 = omega arith in
+    let depth : m.level + 1 + templates ≡ m.level + m.templates + 1 + extra b x = omega arith in
+    let inner : lines_at b (m.level + 1) templates (inside b x) ≡ lines b (length b - m.level - 1) (m.level + m.templates + 1 + extra b x) (inside b x) =
+    ap (λ l. lines b l (m.level + 1 + templates) (inside b x)) left ∙ ap (λ d. lines b (length b - m.level - 1) d (inside b x)) depth in
+    let effort : work b (length b - (m.level + 1)) (inside b x) ≡ work b (length b - m.level - 1) (inside b x) = ap (λ l. work b l (inside b x)) left in
+    record {
+      piece = own_lines b (m.level + m.templates) x;
+      printed = printed;
+      text_is = rw (mark-text b m x room item, ← inner) (element-text _ _ _ _ _ _ pushed.text_is below.text_is);
+      steps_are = omega (arith, mark-work b m x room item, pushed.steps_are, below.steps_are, effort);
+      marks = λ all. below.marks (pushed.marks all);
+    }
+
+-- an item is one element below its list
+pub child_deep : (t : Tree) (m : Mark) (id : ℕ) → IsItemAt t m (item.Element id) → IsDeep t m.level m.at.parent → IsDeep t (m.level + 1) id
+child_deep t m id has deep = rw add-one (m.at.parent, m.at.place, (has, deep))
+
+pub extra_at_most : (t : Tree) (x : Item) → extra t x ≤ 1
+extra_at_most t (item.Element id) = tag_at_most (branch t id).tag where
+  tag_at_most : (tag : Option Tag) → tag_extra tag ≤ 1
+  tag_at_most None = omega arith
+  tag_at_most (Some tag) = elim (is_template tag) as (λ b. (if b then 1 else 0) ≤ 1) [ true ↦ omega arith | false ↦ omega arith ]
+extra_at_most t (item.Text text) = omega arith
+extra_at_most t (item.Comment text) = omega arith
+extra_at_most t (item.Doctype name public system) = omega arith
+
+-- nothing stands inside what is no element
+pub leaf_inside : (t : Tree) (view : NodeView) → ((id : ℕ) (tag : Bor Tag) → view ≡ node.Element id tag → ⊥) → inside t (shown view) ≡ []
+leaf_inside t (node.Doctype name public system) not_element = refl
+leaf_inside t (node.Element id tag) not_element = absurd (not_element id tag refl)
+leaf_inside t (node.Text runs) not_element = refl
+leaf_inside t (node.Comment text) not_element = refl
+
+-- the whole text is that of what stands inside the document
+pub whole_text : (t : Tree) → lines_at t 0 0 (branch t 0).inside ≡ print t
+whole_text t = let n : length t - 0 ≡ length t = omega arith in ap (λ l. lines t l 0 (branch t 0).inside) n

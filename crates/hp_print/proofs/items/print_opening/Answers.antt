@@ -1,0 +1,9 @@
+use Rattle.hp_print.proofs.Pieces.{prints_then}
+use Rattle.hp_print.proofs.items.print_opening.Goals as goal
+
+pub returns : goal.returns
+returns c =
+    let first = prints_then _ _ _ _ _ c.in_ok-indent.ensures c.in_ok-put.ensures in
+    let second = prints_then _ _ _ _ _ first (rw c.namespace_text.ensures at c.in_ok-put-2.ensures) in
+    let third = prints_then _ _ _ _ _ second (rw c.as_str.ensures at c.in_ok-put_text.ensures) in
+    prints_then _ _ _ _ _ third c.in_ok-put-3.ensures

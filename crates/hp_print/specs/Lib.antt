@@ -1,0 +1,5 @@
+pub mod Order
+pub mod Out
+pub mod Print
+pub mod Shown
+pub mod Stack

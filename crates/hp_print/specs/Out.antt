@@ -1,0 +1,13 @@
+-- What was printed so far.
+use Rattle.std.specs.Prelude.{◌≡◌, ℕ, List, ◌++◌, length}
+use Rattle.hp_print.specs.declared.out.Out.{Out}
+use Rattle.hp_print.specs.declared.out.Out.TheVariants.{Counting, Writing}
+
+-- what was printed are these bytes: they are counted, or written
+abbrev pub Has : Out → List ℕ → Type 0
+Has (Counting count) bytes = count ≡ length bytes
+Has (Writing written) bytes = written.items ≡ bytes
+
+-- these bytes were printed after the others
+pub record Prints (old new : Out) (piece : List ℕ) : Type 0 where
+  pub after : (bytes : List ℕ) → Has old bytes → Has new (bytes ++ piece)

@@ -1,0 +1,70 @@
+-- What is still to be printed, by the marks on the stack.
+use Rattle.std.specs.Prelude.{◌≡◌, ℕ, zero, suc, ◌+◌, ◌-◌, ◌<◌, ◌≤◌, List, [], ◌∷◌, ◌++◌, length, drop}
+use Rattle.hp_control.specs.Tree.{Tree, Item, branch, HasChild}
+use Rattle.hp_arena.specs.Arena.{Seen}
+use Rattle.hp_arena.specs.Readers.{IsAt}
+use Rattle.hp_print.specs.declared.out.Out.{Out}
+use Rattle.hp_print.specs.declared.walk.Mark.{Mark}
+use Rattle.hp_print.specs.Out.{Prints}
+use Rattle.hp_print.specs.Print.{lines, inside}
+
+-- the lines of these items at a depth, in a list this many elements below the document
+abbrev pub lines_at : Tree → ℕ → ℕ → List Item → List ℕ
+lines_at t level templates items = lines t (length t - level) (level + templates) items
+
+-- the items that are left at a mark
+abbrev pub rest : Tree → Mark → List Item
+rest t m = drop m.at.place (branch t m.at.parent).inside
+
+abbrev pub mark_lines : Tree → Mark → List ℕ
+mark_lines t m = lines_at t m.level m.templates (rest t m)
+
+-- the text that is still to come. The last mark comes first
+unfoldable pub pending : Tree → List Mark → List ℕ
+pending t [] = []
+pending t (m ∷ above) = pending t above ++ mark_lines t m
+
+-- how many steps these items take
+unfoldable pub work : Tree → ℕ → List Item → ℕ
+work t zero items = 0
+work t (suc left) [] = 0
+work t (suc left) (x ∷ items) = work t left (inside t x) + 2 + work t (suc left) items
+
+abbrev pub steps_at : Tree → ℕ → List Item → ℕ
+steps_at t level items = work t (length t - level) items + 1
+
+abbrev pub mark_steps : Tree → Mark → ℕ
+mark_steps t m = steps_at t m.level (rest t m)
+
+unfoldable pub todo : Tree → List Mark → ℕ
+todo t [] = 0
+todo t (m ∷ above) = todo t above + mark_steps t m
+
+-- the element is this far below the document
+abbrev pub IsDeep : Tree → ℕ → ℕ → Type 0
+IsDeep t zero id = id ≡ 0
+IsDeep t (suc level) id = (parent : ℕ) × (place : ℕ) × (HasChild t parent place id × IsDeep t level parent)
+
+-- the mark is in the tree, at its level
+pub record IsMark (t : Seen) (m : Mark) : Type 0 where
+  pub at : IsAt t m.at
+  pub deep : IsDeep t.branches m.level m.at.parent
+  pub templates : m.templates ≤ m.level
+
+abbrev pub AreMarks : Seen → List Mark → Type 0
+AreMarks t [] = Unit {0}
+AreMarks t (m ∷ above) = IsMark t m × AreMarks t above
+
+-- what is to come is this text and then what was to come before, in so many steps more at most
+pub record Pushed (t : Seen) (old new : List Mark) (text : List ℕ) (steps : ℕ) : Type 0 where
+  pub text_is : pending t.branches new ≡ text ++ pending t.branches old
+  pub steps_are : todo t.branches new ≤ todo t.branches old + steps
+  pub marks : AreMarks t old → AreMarks t new
+
+-- a piece was printed, and what is to come is the rest of what was to come at the mark and below it, in fewer steps
+pub record Stepped (t : Seen) (m : Mark) (old new : List Mark) (before after : Out) : Type 0 where
+  pub piece : List ℕ
+  pub printed : Prints before after piece
+  pub text_is : mark_lines t.branches m ++ pending t.branches old ≡ piece ++ pending t.branches new
+  pub steps_are : todo t.branches new < todo t.branches old + mark_steps t.branches m
+  pub marks : AreMarks t old → AreMarks t new

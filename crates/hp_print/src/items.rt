@@ -1,0 +1,171 @@
+//! The lines of one item.
+
+ghost use Rattle.std.specs.Prelude.{◌≡◌, [], OnOk, unwrap_or, encode_utf8_all};
+ghost use Rattle.std.specs.Option.{option_copied};
+ghost use Rattle.std.specs.List.{concat};
+ghost use Rattle.hp_control.specs.Tree.{Tree};
+ghost use Rattle.hp_arena.specs.Readers.{shown, HasTag};
+ghost use Rattle.hp_print.specs.Out.{Prints};
+ghost use Rattle.hp_print.specs.Print.{opening, namespace_word, is_template, contents_line, element_lines, text_line, comment_line, identifiers, doctype_line, own_lines, tag_extra};
+
+use crate::attributes::print_attributes;
+use crate::out::Out;
+use hp_arena::NodeView;
+use hp_elements::{Chain, Known, Namespace, NoMemory, Tag, Text};
+use std::alloc::Global;
+
+/// What stands before the name of an element.
+fn namespace_text(namespace: Namespace) -> &'static [u8]
+    ensures { result.now ≡ namespace_word namespace }
+{
+    match namespace {
+        Namespace::Html => b"",
+        Namespace::MathMl => b"math ",
+        Namespace::Svg => b"svg ",
+    }
+}
+
+/// Prints an element without its attributes.
+#[tactic(auto, using(crate::proofs::Pieces::prints_then))]
+fn print_opening(out: &mut Out, tag: &Tag, depth: u64) -> Result<(), NoMemory>
+    ensures { OnOk result (Prints out.old out.new (opening depth tag.now)) }
+{
+    out.indent(depth)?;
+    out.put(b"<")?;
+    out.put(namespace_text(tag.namespace))?;
+    out.put_text(tag.name.as_str())?;
+    out.put(b">\n")?;
+    Ok(())
+}
+
+/// Whether this is a template, whose contents stand inside.
+fn is_template(tag: &Tag) -> bool
+    ensures { result ≡ is_template tag.now }
+{
+    tag.namespace == Namespace::Html && tag.name.is(Known::Template)
+}
+
+/// How much deeper the contents of a template stand than children do.
+pub fn extra_depth(tag: &Tag) -> u32
+    ensures { result ≡ tag_extra (Some tag.now) }
+{
+    if is_template(tag) { 1 } else { 0 }
+}
+
+/// Prints a text by its runs.
+#[tactic(auto, using(crate::proofs::Pieces::prints_then))]
+fn print_text(out: &mut Out, runs: &Chain<Text<'_>>, depth: u64) -> Result<(), NoMemory>
+    ensures { OnOk result (Prints out.old out.new (text_line depth (concat runs.now))) }
+{
+    out.indent(depth)?;
+    out.put(b"\"")?;
+    print_runs(out, runs)?;
+    out.put(b"\"\n")?;
+    Ok(())
+}
+
+fn print_runs(out: &mut Out, runs: &Chain<Text<'_>>) -> Result<(), NoMemory>
+    ensures { OnOk result (Prints out.old out.new (encode_utf8_all (concat runs.now))) }
+{
+    for run in runs.iter() {
+        out.put_text(run.as_str())?;
+    }
+    Ok(())
+}
+
+/// Prints a comment.
+#[tactic(auto, using(crate::proofs::Pieces::prints_then))]
+fn print_comment(out: &mut Out, text: &Text<'_>, depth: u64) -> Result<(), NoMemory>
+    ensures { OnOk result (Prints out.old out.new (comment_line depth text.now)) }
+{
+    out.indent(depth)?;
+    out.put(b"<!-- ")?;
+    out.put_text(text.as_str())?;
+    out.put(b" -->\n")?;
+    Ok(())
+}
+
+/// Prints a doctype.
+#[tactic(auto, using(crate::proofs::Pieces::prints_then))]
+fn print_doctype(
+    out: &mut Out,
+    name: &Text<'_>,
+    public: Option<&Text<'_>>,
+    system: Option<&Text<'_>>,
+    depth: u64,
+) -> Result<(), NoMemory>
+    ensures { OnOk result (Prints out.old out.new (doctype_line depth name.now (option_copied public.entry) (option_copied system.entry))) }
+{
+    out.indent(depth)?;
+    out.put(b"<!DOCTYPE ")?;
+    out.put_text(name.as_str())?;
+    print_identifiers(out, public, system)?;
+    out.put(b">\n")?;
+    Ok(())
+}
+
+/// Prints the public and the system identifier, where there is one of them.
+#[tactic(auto, using(crate::proofs::Pieces::prints_then))]
+fn print_identifiers(
+    out: &mut Out,
+    public: Option<&Text<'_>>,
+    system: Option<&Text<'_>>,
+) -> Result<(), NoMemory>
+    ensures { OnOk result (Prints out.old out.new (identifiers (option_copied public.entry) (option_copied system.entry))) }
+{
+    if public.is_none() && system.is_none() {
+        return Ok(());
+    }
+    out.put(b" \"")?;
+    print_identifier(out, public)?;
+    out.put(b"\" \"")?;
+    print_identifier(out, system)?;
+    out.put(b"\"")?;
+    Ok(())
+}
+
+/// Prints an identifier, and nothing for one that is absent.
+fn print_identifier(out: &mut Out, identifier: Option<&Text<'_>>) -> Result<(), NoMemory>
+    ensures { OnOk result (Prints out.old out.new (encode_utf8_all (unwrap_or (option_copied identifier.entry) []))) }
+{
+    match identifier {
+        None => Ok(()),
+        Some(text) => out.put_text(text.as_str()),
+    }
+}
+
+/// Prints the lines of an element, before those of what stands inside it.
+#[tactic(auto, using(crate::proofs::Pieces::prints_then))]
+fn print_element(alloc: Global, out: &mut Out, tag: &Tag, depth: u64) -> Result<(), NoMemory>
+    ensures { OnOk result (Prints out.old out.new (element_lines depth tag.now)) }
+{
+    let inner = depth.checked_add(1).ok_or(NoMemory)?;
+    print_opening(out, tag, depth)?;
+    print_attributes(alloc, out, &tag.attributes, inner)?;
+    if is_template(tag) {
+        out.indent(inner)?;
+        out.put(b"content\n")?;
+    }
+    Ok(())
+}
+
+/// Prints the lines of an item, before those of what stands inside it.
+pub fn print_item(
+    alloc: Global,
+    out: &mut Out,
+    view: NodeView<'_, '_>,
+    depth: u64,
+) -> Result<(), NoMemory>
+    ensures { (t : Tree) → HasTag t view.entry → OnOk result (Prints out.old out.new (own_lines t depth (shown view.entry))) }
+{
+    match view {
+        NodeView::Doctype {
+            name,
+            public,
+            system,
+        } => print_doctype(out, name, public, system, depth),
+        NodeView::Element { tag, .. } => print_element(alloc, out, tag, depth),
+        NodeView::Text { runs } => print_text(out, runs, depth),
+        NodeView::Comment { text } => print_comment(out, text, depth),
+    }
+}

@@ -1,0 +1,10 @@
+//! Prints a document tree, without recursion.
+#![tactic(auto)]
+
+mod attributes;
+mod items;
+mod out;
+mod walk;
+
+pub use hp_elements::NoMemory;
+pub use walk::print_tree;

@@ -1,0 +1,123 @@
+//! The walk over the tree, with a stack of its own.
+
+ghost use Rattle.std.specs.Prelude.{◌≡◌, ◌+◌, ◌<◌, ◌≤◌, IfOk, OnOk, length, drop};
+ghost use Rattle.hp_control.specs.Tree.{branch};
+ghost use Rattle.hp_print.specs.Out.{Prints};
+ghost use Rattle.hp_print.specs.Print.{print};
+ghost use Rattle.hp_print.specs.Stack.{IsDeep, IsMark, Pushed, Stepped, lines_at, steps_at};
+
+use crate::items::{extra_depth, print_item};
+use crate::out::Out;
+use hp_arena::{At, NodeView, Tree};
+use hp_elements::NoMemory;
+use std::alloc::Global;
+
+/// An item that is to be printed, with all items after it in the same list.
+#[derive(Clone, Copy)]
+pub struct Mark {
+    pub at: At,
+    /// How many elements the item stands in.
+    pub level: u32,
+    /// How many of these are templates.
+    pub templates: u32,
+}
+
+/// The tree as text, in UTF-8.
+pub fn print_tree(alloc: Global, tree: &Tree<'_>) -> Result<Vec<u8>, NoMemory>
+    ensures { IfOk result (λ text. text.items ≡ print tree.now.branches) }
+{
+    let mut count = Out::Counting(0);
+    print_all(alloc, tree, &mut count)?;
+    let size = match count {
+        Out::Counting(size) => size,
+        Out::Writing(_) => 0,
+    };
+    let mut text = Out::Writing(Vec::with_capacity(alloc, size as usize)?);
+    print_all(alloc, tree, &mut text)?;
+    match text {
+        Out::Writing(bytes) => Ok(bytes),
+        Out::Counting(_) => Err(NoMemory),
+    }
+}
+
+/// Prints all items of the tree.
+fn print_all(alloc: Global, tree: &Tree<'_>, out: &mut Out) -> Result<(), NoMemory>
+    ensures { OnOk result (Prints out.old out.new (print tree.now.branches)) }
+{
+    let _elements = tree.len();
+    let mut stack = Vec::new(alloc);
+    push_first(tree, &mut stack, 0, 0, 0)?;
+    while let Some(mark) = stack.pop() {
+        print_mark(alloc, tree, &mut stack, mark, out)?;
+    }
+    Ok(())
+}
+
+/// Prints the first item at a mark, and marks what is left there and what stands inside the item.
+fn print_mark(
+    alloc: Global,
+    tree: &Tree<'_>,
+    stack: &mut Vec<Mark>,
+    mark: Mark,
+    out: &mut Out,
+) -> Result<(), NoMemory>
+    requires { IsMark tree.now mark }
+    ensures { OnOk result (Stepped tree.now mark stack.old.items stack.new.items out.old out.new) }
+{
+    let _elements = tree.len();
+    push_next(tree, stack, mark)?;
+    let view = tree.view(mark.at);
+    print_item(alloc, out, view, mark.level as u64 + mark.templates as u64)?;
+    match view {
+        NodeView::Element { id, tag } => {
+            let templates = mark.templates + extra_depth(tag);
+            push_first(tree, stack, id, mark.level + 1, templates)?;
+            Ok(())
+        }
+        _ => Ok(()),
+    }
+}
+
+/// Marks the item after the one at a mark, if there is one.
+fn push_next(tree: &Tree<'_>, stack: &mut Vec<Mark>, mark: Mark) -> Result<(), NoMemory>
+    requires { IsMark tree.now mark }
+    ensures { let t = tree.now.branches in let items = drop (mark.at.place + 1) (branch t mark.at.parent).inside in OnOk result (Pushed tree.now stack.old.items stack.new.items (lines_at t mark.level mark.templates items) (steps_at t mark.level items)) }
+{
+    match tree.next_sibling(mark.at) {
+        Some(at) => {
+            stack.push(Mark {
+                at,
+                level: mark.level,
+                templates: mark.templates,
+            })?;
+            Ok(())
+        }
+        None => Ok(()),
+    }
+}
+
+/// Marks the first item inside an element, if there is one.
+fn push_first(
+    tree: &Tree<'_>,
+    stack: &mut Vec<Mark>,
+    id: u32,
+    level: u32,
+    templates: u32,
+) -> Result<(), NoMemory>
+    requires there { id < length tree.now.branches }
+    requires deep { IsDeep tree.now.branches level id }
+    requires templates { templates ≤ level }
+    ensures { let t = tree.now.branches in let items = (branch t id).inside in OnOk result (Pushed tree.now stack.old.items stack.new.items (lines_at t level templates items) (steps_at t level items)) }
+{
+    match tree.first_inside(id) {
+        Some(at) => {
+            stack.push(Mark {
+                at,
+                level,
+                templates,
+            })?;
+            Ok(())
+        }
+        None => Ok(()),
+    }
+}

@@ -1,0 +1,4 @@
+pub mod Growth
+pub mod PageText
+pub mod PlainTree
+pub mod Written

@@ -1,0 +1,5 @@
+pub mod Page
+pub mod Plain
+pub mod Answers
+pub mod Status
+pub mod Words

@@ -1,0 +1,110 @@
+//! The top call.
+ghost use Rattle.std.specs.Prelude.{◌≡◌, ◌≢◌, ◌⊎◌, ◌↔◌, ◌+◌, ◌≤◌, Some, Ok, Err, [], length, IfOk, OnOk, IfErr, IfSome, IsUtf8};
+ghost use Rattle.std.specs.Io.KnownBytes.{append_known};
+ghost use Rattle.hp_text.specs.Device.{Rose, Gives};
+ghost use Rattle.hp_program.specs.Answers.{IsTooLarge, IsNotText, IsMarked, IsPlain, ComesExactly, TakesPart};
+ghost use Rattle.hp_program.specs.Plain.{printed_page};
+
+use crate::gate::Gate;
+use crate::page_text::has_markup;
+use crate::plain::print_plain;
+use crate::status::Status;
+use crate::words::Words;
+use hp_text::{PAGE_LIMIT, ReadRefusal, Sink, Source, check_page, read_page, write_whole};
+use std::alloc::Global;
+use std::sync::Wait;
+use std::thread::Threads;
+
+/// The status of a page that was not read.
+fn refused(refusal: ReadRefusal) -> Status
+    ensures fault { (result ≡ Status.ReadFault) ↔ (refusal ≡ ReadRefusal.Fault) }
+    ensures too_large { (result ≡ Status.TooLarge) ↔ (refusal ≡ ReadRefusal.TooLarge) }
+    ensures no_memory { (result ≡ Status.NoMemory) ↔ (refusal ≡ ReadRefusal.NoMemory) }
+{
+    match refusal {
+        ReadRefusal::Fault => Status::ReadFault,
+        ReadRefusal::TooLarge => Status::TooLarge,
+        ReadRefusal::NoMemory => Status::NoMemory,
+    }
+}
+
+/// What is written for the bytes of a page.
+fn answer(alloc: Global, bytes: &[u8]) -> Result<Vec<u8>, Status>
+    requires { length bytes.now ≤ PAGE_LIMIT }
+    ensures text { IfOk result (λ text. text.items ≡ printed_page bytes.now) }
+    ensures plain { OnOk result (IsPlain bytes.now) }
+    ensures not_utf8 { result ≡ Err Status.NotUtf8 → IsNotText bytes.now }
+    ensures not_yet { result ≡ Err Status.NotYet → IsMarked bytes.now }
+    ensures refusals { IfErr result (λ status. (status ≡ Status.NotUtf8) ⊎ (status ≡ Status.NotYet) ⊎ (status ≡ Status.NoMemory)) }
+{
+    let Ok(page) = check_page(bytes) else {
+        return Err(Status::NotUtf8);
+    };
+    if has_markup(page.text()) {
+        return Err(Status::NotYet);
+    }
+    match print_plain(alloc, page) {
+        Ok(text) => Ok(text),
+        Err(_) => Err(Status::NoMemory),
+    }
+}
+
+/// Reads the page, and writes its printed tree to `out`. The first refusal decides, in the order words, reading,
+/// UTF-8, markup, writing; want of memory may come at any of them. `left` and `taken` tell what was read and
+/// written, where the page and the output tell it.
+pub fn hpar<R: Threads + Wait + Sync, S: Source, K: Sink, N: Sink, G: Gate + Sync>(
+    rt: &R,
+    alloc: Global,
+    words: &Words,
+    page: &mut S,
+    out: &mut K,
+    notes: &mut N,
+    gate: &G,
+) -> Status
+    // One word is enough, and then nothing is read.
+    ensures usage { (result ≡ Status.Usage) ↔ (words.now ≢ []) }
+    ensures usage_first { result ≡ Status.Usage → page.new ≡ page.old }
+
+    // What the page calls for, where it is told.
+    ensures too_large { IfSome (S.left page.old) (λ bytes. ComesExactly Status.TooLarge
+        ((words.now ≡ []) × IsTooLarge bytes) result (Rose (S.faults page.old) (S.faults page.new))) }
+    ensures too_large_gives { result ≡ Status.TooLarge → Gives (λ n. n ≡ PAGE_LIMIT + 1) (S.left page.old) (S.left page.new) }
+    ensures not_utf8 { IfSome (S.left page.old) (λ bytes. ComesExactly Status.NotUtf8
+        ((words.now ≡ []) × IsNotText bytes) result (Rose (S.faults page.old) (S.faults page.new))) }
+    ensures not_yet { IfSome (S.left page.old) (λ bytes. ComesExactly Status.NotYet
+        ((words.now ≡ []) × IsMarked bytes) result (Rose (S.faults page.old) (S.faults page.new))) }
+
+    // A fault comes only where the count of faults rose.
+    ensures read_fault { result ≡ Status.ReadFault → Rose (S.faults page.old) (S.faults page.new) }
+    ensures write_fault { result ≡ Status.WriteFault → Rose (K.faults out.old) (K.faults out.new) }
+
+    // What was read, and what was written of which text.
+    ensures done_read { result ≡ Status.Done → IfSome (S.left page.old) (λ _. S.left page.new ≡ Some []) }
+    ensures done { result ≡ Status.Done → IfSome (S.left page.old) (λ bytes.
+        K.taken out.new ≡ append_known (K.taken out.old) (printed_page bytes)) }
+    ensures part { result ≡ Status.WriteFault → IfSome (S.left page.old) (λ bytes.
+        TakesPart (printed_page bytes) (K.taken out.old) (K.taken out.new)) }
+    ensures nothing { result ≢ Status.Done → result ≢ Status.WriteFault → out.new ≡ out.old }
+    ensures silent { notes.new ≡ notes.old }
+
+    // Where nothing stands against the page and no device failed, only memory can be wanting.
+    ensures complete { words.now ≡ [] → ¬ (Rose (S.faults page.old) (S.faults page.new)) →
+        ¬ (Rose (K.faults out.old) (K.faults out.new)) → IfSome (S.left page.old) (λ bytes.
+        IsPlain bytes → (result ≡ Status.Done) ⊎ (result ≡ Status.NoMemory)) }
+{
+    if !words.is_empty() {
+        return Status::Usage;
+    }
+    let bytes = match read_page(alloc, page) {
+        Ok(bytes) => bytes,
+        Err(refusal) => return refused(refusal),
+    };
+    let text = match answer(alloc, &bytes) {
+        Ok(text) => text,
+        Err(status) => return status,
+    };
+    match write_whole(out, &text) {
+        Ok(()) => Status::Done,
+        Err(_) => Status::WriteFault,
+    }
+}

@@ -1,0 +1,80 @@
+//! The words that the program is called with.
+ghost use Rattle.std.specs.Prelude.{◌≡◌, ◌⊎◌, ◌↔◌, [], ◌∷◌, ◌++◌, IsTrue, IfErr, OnOk, OnErr};
+
+use crate::status::Status;
+use hp_text::NoMemory;
+use std::alloc::Global;
+use std::env;
+use std::io::ErrorKind;
+use std::marker::Model;
+use std::rt::Env;
+
+/// The words after the program's name. A contract sees the list of their texts.
+#[derive(Drop)]
+pub struct Words {
+    words: Option<Vec<String>>,
+}
+
+impl Model for Words {
+    ghost use Rattle.std.specs.Prelude.{List, ℕ};
+
+    ghost Value = { List (List ℕ) };
+
+    ghost use Rattle.hp_program.specs.Words.{texts};
+
+    ghost view = { λ w. texts w.words };
+}
+
+impl Words {
+    /// No words. Takes no memory.
+    pub fn new() -> Words
+        ensures { result ≡ [] }
+    {
+        Words { words: None }
+    }
+
+    /// Appends a word.
+    pub fn push(&mut self, alloc: Global, word: &str) -> Result<(), NoMemory>
+        ensures ok { OnOk result (self.new ≡ self.old ++ word.now ∷ []) }
+        ensures err { OnErr result (self.new ≡ self.old) }
+    {
+        let text = String::from_str(alloc, word)?;
+        match &mut self.words {
+            Some(words) => words.push(text)?,
+            None => {
+                let mut words = Vec::new(alloc);
+                words.push(text)?;
+                self.words = Some(words);
+            }
+        }
+        Ok(())
+    }
+
+    /// There is no word.
+    pub fn is_empty(&self) -> bool
+        ensures { IsTrue result ↔ (self.now ≡ []) }
+    {
+        match &self.words {
+            Some(words) => words.is_empty(),
+            None => true,
+        }
+    }
+}
+
+/// The words after the program's name. One that isn't UTF-8 is none that the program knows.
+pub fn program_words<R: Env + AllocGlobal>(rt: &R) -> Result<Words, Status>
+    ensures { IfErr result (λ status. (status ≡ Status.Usage) ⊎ (status ≡ Status.NoMemory)) }
+{
+    let args = match env::args(rt) {
+        Ok(args) => args,
+        Err(fault) if fault.kind() == ErrorKind::OutOfMemory => return Err(Status::NoMemory),
+        Err(_) => return Err(Status::Usage),
+    };
+    let mut words = Words::new();
+    for word in args.skip(1) {
+        if words.push(rt.alloc(), word.as_str()).is_err() {
+            return Err(Status::NoMemory);
+        }
+    }
+    Ok(words)
+}

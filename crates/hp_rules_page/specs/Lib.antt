@@ -1,0 +1,3 @@
+pub mod Late
+pub mod Page
+pub mod Table

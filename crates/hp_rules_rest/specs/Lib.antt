@@ -1,0 +1,4 @@
+pub mod Foreign
+pub mod Select
+pub mod Table
+pub mod Whole

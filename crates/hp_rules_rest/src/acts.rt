@@ -1,0 +1,179 @@
+//! The acts of the rows, flat: a test names the later place where the row goes on where it fails.
+//! `tools/row_tables.py` prints the rows from specs/.
+ghost use Rattle.std.specs.Prelude.{◌≡◌};
+ghost use Rattle.hp_elements.specs.Rules.{acts_numbered};
+ghost use Rattle.hp_rules_rest.specs.Table.{all_rows};
+
+use hp_elements::Act::{self, *};
+use hp_elements::{Known, Mode, Rest, Scope, SetName, Test, Which};
+
+/// The acts of the row of that number, and none past the last row.
+pub(crate) fn acts(row: u16) -> &'static [Act]
+    ensures { result.now ≡ acts_numbered all_rows row }
+{
+    match row {
+        // in select
+        0 => &[],
+        1 => &[Characters],
+        2 => &[Comment],
+        3 => &[],
+        4 => &[As(Mode::InBody)],
+        5 => &[
+            If {
+                test: Test::CurrentIs(Known::Option),
+                otherwise: 2,
+            },
+            Pop,
+            Insert,
+        ],
+        6 => &[
+            If {
+                test: Test::CurrentIs(Known::Option),
+                otherwise: 2,
+            },
+            Pop,
+            If {
+                test: Test::CurrentIs(Known::Optgroup),
+                otherwise: 4,
+            },
+            Pop,
+            Insert,
+        ],
+        7 => &[
+            If {
+                test: Test::CurrentIs(Known::Option),
+                otherwise: 2,
+            },
+            Pop,
+            If {
+                test: Test::CurrentIs(Known::Optgroup),
+                otherwise: 4,
+            },
+            Pop,
+            Insert,
+            Pop,
+        ],
+        8 => &[
+            If {
+                test: Test::CurrentIs(Known::Option),
+                otherwise: 3,
+            },
+            If {
+                test: Test::BelowIs(Known::Optgroup),
+                otherwise: 3,
+            },
+            Pop,
+            If {
+                test: Test::CurrentIs(Known::Optgroup),
+                otherwise: 5,
+            },
+            Pop,
+        ],
+        9 => &[
+            If {
+                test: Test::CurrentIs(Known::Option),
+                otherwise: 2,
+            },
+            Pop,
+        ],
+        10 => &[
+            If {
+                test: Test::InScope(Scope::Select, Which::Named(Known::Select)),
+                otherwise: 3,
+            },
+            Through(Which::Named(Known::Select)),
+            Reset,
+        ],
+        11 => &[
+            If {
+                test: Test::InScope(Scope::Select, Which::Named(Known::Select)),
+                otherwise: 4,
+            },
+            Through(Which::Named(Known::Select)),
+            Reset,
+            Again,
+        ],
+        12 => &[As(Mode::InHead)],
+        13 => &[As(Mode::InBody)],
+        14 => &[],
+        // in select in table
+        15 => &[Through(Which::Named(Known::Select)), Reset, Again],
+        16 => &[
+            If {
+                test: Test::InScope(Scope::Table, Which::Its),
+                otherwise: 4,
+            },
+            Through(Which::Named(Known::Select)),
+            Reset,
+            Again,
+        ],
+        17 => &[As(Mode::InSelect)],
+        // in template
+        18 => &[As(Mode::InBody)],
+        19 => &[As(Mode::InHead)],
+        20 => &[
+            ReplaceTemplateMode(Mode::InTable),
+            Switch(Mode::InTable),
+            Again,
+        ],
+        21 => &[
+            ReplaceTemplateMode(Mode::InColumnGroup),
+            Switch(Mode::InColumnGroup),
+            Again,
+        ],
+        22 => &[
+            ReplaceTemplateMode(Mode::InTableBody),
+            Switch(Mode::InTableBody),
+            Again,
+        ],
+        23 => &[ReplaceTemplateMode(Mode::InRow), Switch(Mode::InRow), Again],
+        24 => &[
+            ReplaceTemplateMode(Mode::InBody),
+            Switch(Mode::InBody),
+            Again,
+        ],
+        25 => &[],
+        26 => &[
+            If {
+                test: Test::TemplateInStack,
+                otherwise: 7,
+            },
+            Through(Which::Named(Known::Template)),
+            ClearToMarker,
+            PopTemplateMode,
+            Reset,
+            Again,
+            Done,
+            Stop,
+        ],
+        // foreign
+        27 => &[Replacement],
+        28 => &[Characters],
+        29 => &[Characters, FramesetNotOk],
+        30 => &[Comment],
+        31 => &[],
+        32 => &[PopToPoint, AsPresent],
+        33 => &[
+            If {
+                test: Test::HasFontAttribute,
+                otherwise: 4,
+            },
+            PopToPoint,
+            AsPresent,
+            Done,
+            InsertAsCurrent,
+        ],
+        34 => &[InsertAsCurrent],
+        35 => &[
+            If {
+                test: Test::NamesForeign,
+                otherwise: 3,
+            },
+            ThroughForeign,
+            Done,
+            AsPresent,
+        ],
+        36 => &[],
+        37.. => &[],
+    }
+}

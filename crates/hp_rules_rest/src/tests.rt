@@ -1,0 +1,335 @@
+//! The rows of all four crates against an independent reading of the rules, which `tools/rule_table.py` prints: every mode
+//! and foreign content, with the start and end tag of every known name and of another one, each class of characters,
+//! a comment, a doctype and the end of input.
+mod body;
+mod names;
+mod page;
+mod rest;
+mod table;
+
+use hp_elements::{
+    Act, Chain, CharClass, Doctype, DoctypeParts, Known, Mode, Name, Namespace, NoMemory, Tag,
+    Test, Text, Token, Which,
+};
+use names::NAMES;
+use std::alloc::Global;
+use std::process::Abort;
+use std::test::Fail;
+
+/// What a way goes through: an act, or a test with its answer.
+#[derive(Clone, Copy)]
+enum Step {
+    Does(Act),
+    Asked(Test, bool),
+}
+
+/// The crates whose rows are compared.
+#[derive(Clone, Copy)]
+enum Part {
+    Page,
+    Body,
+    Table,
+    Rest,
+}
+
+/// A reading of some modes: see the files that `tools/rule_table.py` prints.
+#[derive(Clone, Copy)]
+struct Reading {
+    part: Part,
+    named: &'static [(usize, bool, Known, u8)],
+    nameless: &'static [&'static [u8]; 8],
+    steps: &'static [Step],
+    ways: &'static [(usize, u8, &'static [usize])],
+}
+
+static PAGE_MODES: [Mode; 11] = [
+    Mode::Initial,
+    Mode::BeforeHtml,
+    Mode::BeforeHead,
+    Mode::InHead,
+    Mode::InHeadNoscript,
+    Mode::AfterHead,
+    Mode::AfterBody,
+    Mode::InFrameset,
+    Mode::AfterFrameset,
+    Mode::AfterAfterBody,
+    Mode::AfterAfterFrameset,
+];
+
+static BODY_MODES: [Mode; 2] = [Mode::InBody, Mode::Text];
+
+static TABLE_MODES: [Mode; 7] = [
+    Mode::InTable,
+    Mode::InTableText,
+    Mode::InCaption,
+    Mode::InColumnGroup,
+    Mode::InTableBody,
+    Mode::InRow,
+    Mode::InCell,
+];
+
+static REST_MODES: [Mode; 3] = [Mode::InSelect, Mode::InSelectInTable, Mode::InTemplate];
+
+fn act_of(part: Part, row: u16, at: u32) -> Option<Act> {
+    match part {
+        Part::Page => hp_rules_page::act(row, at),
+        Part::Body => hp_rules_body::act(row, at),
+        Part::Table => hp_rules_table::act(row, at),
+        Part::Rest => crate::act(row, at),
+    }
+}
+
+/// The row of a token in the mode of that column; behind the modes of the rest stands foreign content.
+fn row_of(part: Part, column: usize, token: &Token<'_>) -> Option<u16> {
+    match part {
+        Part::Page => hp_rules_page::row(*PAGE_MODES.get(column)?, token),
+        Part::Body => hp_rules_body::row(*BODY_MODES.get(column)?, token),
+        Part::Table => hp_rules_table::row(*TABLE_MODES.get(column)?, token),
+        Part::Rest => match REST_MODES.get(column) {
+            Some(mode) => crate::row(*mode, token),
+            None => Some(crate::foreign_row(token)),
+        },
+    }
+}
+
+/// The token's own name in the form in which the reading has it.
+fn its(which: Which, own: Option<Known>) -> Which {
+    match which {
+        Which::Named(known) if Some(known) == own => Which::Its,
+        other => other,
+    }
+}
+
+fn own_test(test: Test, own: Option<Known>) -> Test {
+    match test {
+        Test::InScope(scope, which) => Test::InScope(scope, its(which, own)),
+        other => other,
+    }
+}
+
+fn own_act(act: Act, own: Option<Known>) -> Act {
+    match act {
+        Act::Through(which) => Act::Through(its(which, own)),
+        Act::ImpliedExcept(which) => Act::ImpliedExcept(its(which, own)),
+        Act::Adopt(which) => Act::Adopt(its(which, own)),
+        Act::TakeOff(which) => Act::TakeOff(its(which, own)),
+        other => other,
+    }
+}
+
+/// The place behind a step of a row, where the row has that step there.
+fn behind(found: Act, at: u32, step: Step, own: Option<Known>) -> Option<u32> {
+    let next = at.checked_add(1)?;
+    match step {
+        Step::Does(act) => (own_act(found, own) == act).then_some(next),
+        Step::Asked(wanted, answer) => match found {
+            Act::If { test, otherwise } if own_test(test, own) == wanted => {
+                Some(if answer { next } else { u32::from(otherwise) })
+            }
+            Act::Unless { test, otherwise } if own_test(test, own) == wanted => {
+                Some(if answer { u32::from(otherwise) } else { next })
+            }
+            _ => None,
+        },
+    }
+}
+
+impl Reading {
+    /// Whether a row goes through exactly the steps at these places.
+    fn goes(&self, row: u16, own: Option<Known>, places: &[usize]) -> bool {
+        let mut at: u32 = 0;
+        for place in places {
+            let next = match (self.steps.get(*place), act_of(self.part, row, at)) {
+                (Some(step), Some(found)) => behind(found, at, *step, own),
+                _ => None,
+            };
+            match next {
+                Some(place) => at = place,
+                None => return false,
+            }
+        }
+        match act_of(self.part, row, at) {
+            None => true,
+            Some(last) => last == Act::Done,
+        }
+    }
+
+    /// Whether the token's row in the mode of that column goes each way of the group, and there is one.
+    fn agrees(&self, column: usize, token: &Token<'_>, own: Option<Known>, group: u8) -> bool {
+        let mut some = false;
+        for (mode, number, places) in self.ways {
+            if *mode == column && *number == group {
+                some = true;
+                let row = row_of(self.part, column, token);
+                if !row.is_some_and(|row| self.goes(row, own, places)) {
+                    return false;
+                }
+            }
+        }
+        some
+    }
+
+    /// The group of a known name's tag, where it isn't that of another name.
+    fn group(&self, column: usize, is_start: bool, known: Known, other: u8) -> u8 {
+        for (mode, word, name, group) in self.named {
+            if *mode == column && *word == is_start && *name == known {
+                return *group;
+            }
+        }
+        other
+    }
+
+    /// Compares the start tags, or the end tags, of all known names, given the groups of another name's.
+    fn compare_named(&self, rt: &impl Abort, is_start: bool, others: &[u8]) {
+        for known in &NAMES {
+            let name = Name::of_known(*known);
+            let token = if is_start {
+                start(name)
+            } else {
+                Token::EndTag { name }
+            };
+            for (column, other) in others.iter().enumerate() {
+                let group = self.group(column, is_start, *known, *other);
+                assert!(rt;
+                    self.agrees(column, &token, Some(*known), group),
+                    "start tag {is_start}, column {column}, group {group}"
+                );
+            }
+        }
+    }
+
+    /// Compares everything; the first two groups without a known name are those of another name's tags.
+    fn compare(&self, rt: &impl Abort, alloc: Global) -> Result<(), NoMemory> {
+        let tokens = nameless(alloc)?;
+        for (token, groups) in tokens.iter().zip(self.nameless) {
+            for (column, group) in groups.iter().enumerate() {
+                assert!(rt;
+                    self.agrees(column, token, None, *group),
+                    "nameless, column {column}, group {group}"
+                );
+            }
+        }
+        self.compare_named(rt, true, self.nameless[0]);
+        self.compare_named(rt, false, self.nameless[1]);
+        Ok(())
+    }
+}
+
+fn start(name: Name) -> Token<'static> {
+    let tag = Tag {
+        namespace: Namespace::Html,
+        name,
+        attributes: Chain::new(),
+    };
+    Token::Start {
+        self_closing: false,
+        tag,
+    }
+}
+
+fn characters(class: CharClass) -> Token<'static> {
+    Token::Characters {
+        class,
+        text: Text::new(),
+    }
+}
+
+fn doctype(alloc: Global) -> Result<Token<'static>, NoMemory> {
+    let parts = DoctypeParts {
+        name: None,
+        public: None,
+        system: None,
+        force_quirks: false,
+    };
+    let doctype = Doctype::new(alloc, parts)?;
+    Ok(Token::Doctype { doctype })
+}
+
+/// The tokens without a known name, in the order of the reading.
+fn nameless(alloc: Global) -> Result<[Token<'static>; 8], NoMemory> {
+    let other = start(Name::from_text(alloc, "other-name")?);
+    let other_end = Token::EndTag {
+        name: Name::from_text(alloc, "other-name")?,
+    };
+    let doctype = doctype(alloc)?;
+    Ok([
+        other,
+        other_end,
+        characters(CharClass::White),
+        characters(CharClass::Nul),
+        characters(CharClass::Other),
+        Token::Comment { text: Text::new() },
+        doctype,
+        Token::EndOfInput,
+    ])
+}
+
+#[test]
+fn rows_of_page(rt: HostRuntime) -> Result<(), Fail> {
+    let reading = Reading {
+        part: Part::Page,
+        named: &page::NAMED,
+        nameless: &page::NAMELESS,
+        steps: &page::STEPS,
+        ways: &page::WAYS,
+    };
+    reading.compare(&rt, rt.alloc())?;
+    Ok(())
+}
+
+#[test]
+fn rows_of_body(rt: HostRuntime) -> Result<(), Fail> {
+    let reading = Reading {
+        part: Part::Body,
+        named: &body::NAMED,
+        nameless: &body::NAMELESS,
+        steps: &body::STEPS,
+        ways: &body::WAYS,
+    };
+    reading.compare(&rt, rt.alloc())?;
+    Ok(())
+}
+
+#[test]
+fn rows_of_table(rt: HostRuntime) -> Result<(), Fail> {
+    let reading = Reading {
+        part: Part::Table,
+        named: &table::NAMED,
+        nameless: &table::NAMELESS,
+        steps: &table::STEPS,
+        ways: &table::WAYS,
+    };
+    reading.compare(&rt, rt.alloc())?;
+    Ok(())
+}
+
+#[test]
+fn rows_of_rest(rt: HostRuntime) -> Result<(), Fail> {
+    let reading = Reading {
+        part: Part::Rest,
+        named: &rest::NAMED,
+        nameless: &rest::NAMELESS,
+        steps: &rest::STEPS,
+        ways: &rest::WAYS,
+    };
+    reading.compare(&rt, rt.alloc())?;
+    Ok(())
+}
+
+#[test]
+fn each_crate_answers_for_its_own_modes_alone(rt: HostRuntime) {
+    let token = Token::EndOfInput;
+    for mode in &PAGE_MODES {
+        assert!(rt;
+            hp_rules_page::row(*mode, &token).is_some()
+                && hp_rules_body::row(*mode, &token).is_none()
+        );
+        assert!(rt;
+            hp_rules_table::row(*mode, &token).is_none() && crate::row(*mode, &token).is_none()
+        );
+    }
+    assert!(rt;
+        crate::row(Mode::InTemplate, &token).is_some()
+            && hp_rules_page::row(Mode::InTemplate, &token).is_none()
+    );
+}

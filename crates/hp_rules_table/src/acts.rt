@@ -1,0 +1,268 @@
+//! The acts of the rows, flat: a test names the later place where the row goes on where it fails.
+//! `tools/row_tables.py` prints the rows from specs/.
+ghost use Rattle.std.specs.Prelude.{◌≡◌};
+ghost use Rattle.hp_elements.specs.Rules.{acts_numbered};
+ghost use Rattle.hp_rules_table.specs.Table.{all_rows};
+
+use hp_elements::Act::{self, *};
+use hp_elements::{Known, Mode, Rest, Scope, SetName, Test, Which};
+
+/// The acts of the row of that number, and none past the last row.
+pub(crate) fn acts(row: u16) -> &'static [Act]
+    ensures { result.now ≡ acts_numbered all_rows row }
+{
+    match row {
+        // in table
+        0 => &[
+            If {
+                test: Test::CurrentIsIn(SetName::TableTextParents),
+                otherwise: 6,
+            },
+            EmptyPending,
+            KeepOriginal,
+            Switch(Mode::InTableText),
+            Again,
+            Done,
+            AsFostered(Mode::InBody),
+        ],
+        1 => &[Comment],
+        2 => &[],
+        3 => &[
+            PopTo(SetName::TableContext),
+            Marker,
+            Insert,
+            Switch(Mode::InCaption),
+        ],
+        4 => &[
+            PopTo(SetName::TableContext),
+            Insert,
+            Switch(Mode::InColumnGroup),
+        ],
+        5 => &[
+            PopTo(SetName::TableContext),
+            InsertBare(Known::Colgroup),
+            Switch(Mode::InColumnGroup),
+            Again,
+        ],
+        6 => &[
+            PopTo(SetName::TableContext),
+            Insert,
+            Switch(Mode::InTableBody),
+        ],
+        7 => &[
+            PopTo(SetName::TableContext),
+            InsertBare(Known::Tbody),
+            Switch(Mode::InTableBody),
+            Again,
+        ],
+        8 => &[
+            If {
+                test: Test::InScope(Scope::Table, Which::Named(Known::Table)),
+                otherwise: 4,
+            },
+            Through(Which::Named(Known::Table)),
+            Reset,
+            Again,
+        ],
+        9 => &[
+            If {
+                test: Test::InScope(Scope::Table, Which::Named(Known::Table)),
+                otherwise: 3,
+            },
+            Through(Which::Named(Known::Table)),
+            Reset,
+        ],
+        10 => &[],
+        11 => &[As(Mode::InHead)],
+        12 => &[
+            If {
+                test: Test::TypeIsHidden,
+                otherwise: 4,
+            },
+            Insert,
+            Pop,
+            Done,
+            AsFostered(Mode::InBody),
+        ],
+        13 => &[
+            Unless {
+                test: Test::TemplateInStack,
+                otherwise: 5,
+            },
+            Unless {
+                test: Test::HasForm,
+                otherwise: 5,
+            },
+            Insert,
+            FormPointer,
+            Pop,
+        ],
+        14 => &[As(Mode::InBody)],
+        15 => &[AsFostered(Mode::InBody)],
+        // in table text
+        16 => &[],
+        17 => &[AppendPending],
+        18 => &[Flush, ToOriginal, Again],
+        // in caption
+        19 => &[
+            If {
+                test: Test::InScope(Scope::Table, Which::Named(Known::Caption)),
+                otherwise: 5,
+            },
+            Implied,
+            Through(Which::Named(Known::Caption)),
+            ClearToMarker,
+            Switch(Mode::InTable),
+        ],
+        20 => &[
+            If {
+                test: Test::InScope(Scope::Table, Which::Named(Known::Caption)),
+                otherwise: 6,
+            },
+            Implied,
+            Through(Which::Named(Known::Caption)),
+            ClearToMarker,
+            Switch(Mode::InTable),
+            Again,
+        ],
+        21 => &[],
+        22 => &[As(Mode::InBody)],
+        // in column group
+        23 => &[Characters],
+        24 => &[Comment],
+        25 => &[],
+        26 => &[As(Mode::InBody)],
+        27 => &[Insert, Pop],
+        28 => &[
+            If {
+                test: Test::CurrentIs(Known::Colgroup),
+                otherwise: 3,
+            },
+            Pop,
+            Switch(Mode::InTable),
+        ],
+        29 => &[],
+        30 => &[As(Mode::InHead)],
+        31 => &[As(Mode::InBody)],
+        32 => &[
+            If {
+                test: Test::CurrentIs(Known::Colgroup),
+                otherwise: 4,
+            },
+            Pop,
+            Switch(Mode::InTable),
+            Again,
+        ],
+        // in table body
+        33 => &[
+            PopTo(SetName::TableBodyContext),
+            Insert,
+            Switch(Mode::InRow),
+        ],
+        34 => &[
+            PopTo(SetName::TableBodyContext),
+            InsertBare(Known::Tr),
+            Switch(Mode::InRow),
+            Again,
+        ],
+        35 => &[
+            If {
+                test: Test::InScope(Scope::Table, Which::Its),
+                otherwise: 4,
+            },
+            PopTo(SetName::TableBodyContext),
+            Pop,
+            Switch(Mode::InTable),
+        ],
+        36 => &[
+            If {
+                test: Test::OneInScope(Scope::Table, SetName::TableSections),
+                otherwise: 5,
+            },
+            PopTo(SetName::TableBodyContext),
+            Pop,
+            Switch(Mode::InTable),
+            Again,
+        ],
+        37 => &[],
+        38 => &[As(Mode::InTable)],
+        // in row
+        39 => &[
+            PopTo(SetName::TableRowContext),
+            Insert,
+            Switch(Mode::InCell),
+            Marker,
+        ],
+        40 => &[
+            If {
+                test: Test::InScope(Scope::Table, Which::Named(Known::Tr)),
+                otherwise: 4,
+            },
+            PopTo(SetName::TableRowContext),
+            Pop,
+            Switch(Mode::InTableBody),
+        ],
+        41 => &[
+            If {
+                test: Test::InScope(Scope::Table, Which::Named(Known::Tr)),
+                otherwise: 5,
+            },
+            PopTo(SetName::TableRowContext),
+            Pop,
+            Switch(Mode::InTableBody),
+            Again,
+        ],
+        42 => &[
+            If {
+                test: Test::InScope(Scope::Table, Which::Its),
+                otherwise: 6,
+            },
+            If {
+                test: Test::InScope(Scope::Table, Which::Named(Known::Tr)),
+                otherwise: 6,
+            },
+            PopTo(SetName::TableRowContext),
+            Pop,
+            Switch(Mode::InTableBody),
+            Again,
+        ],
+        43 => &[],
+        44 => &[As(Mode::InTable)],
+        // in cell
+        45 => &[
+            If {
+                test: Test::InScope(Scope::Table, Which::Its),
+                otherwise: 5,
+            },
+            Implied,
+            Through(Which::Its),
+            ClearToMarker,
+            Switch(Mode::InRow),
+        ],
+        46 => &[
+            If {
+                test: Test::OneInScope(Scope::Table, SetName::Cells),
+                otherwise: 6,
+            },
+            Implied,
+            ThroughFirstOf(SetName::Cells),
+            ClearToMarker,
+            Switch(Mode::InRow),
+            Again,
+        ],
+        47 => &[],
+        48 => &[
+            If {
+                test: Test::InScope(Scope::Table, Which::Its),
+                otherwise: 6,
+            },
+            Implied,
+            ThroughFirstOf(SetName::Cells),
+            ClearToMarker,
+            Switch(Mode::InRow),
+            Again,
+        ],
+        49 => &[As(Mode::InBody)],
+        50.. => &[],
+    }
+}

@@ -1,0 +1,6 @@
+pub mod Characters
+pub mod Texts
+pub mod Pieces
+pub mod Stepping
+pub mod OneByOne
+pub mod FineRows

@@ -1,0 +1,94 @@
+use Rattle.std.proofs.Common.{◌≡◌, ℕ, ◌||◌, Bool, true, false, refl, sym, ◌∙◌, subst}
+use Rattle.hp_elements.specs.declared.token.Token.{Token}
+use Rattle.hp_tokens.specs.States.{is_resting}
+use Rattle.hp_tokens.specs.Moves.{Lexing, move}
+use Rattle.hp_tokens.specs.Advancing.{lexing, Stepped, Goes, Advances, Along, place_of, at_rest}
+use Rattle.hp_tokens.specs.declared.rows.Step.{Step}
+use Rattle.hp_tokens.specs.declared.rows.Step.TheVariants.{Made}
+use Rattle.hp_tokens.proofs.OneByOne.{none_yet, one_more, rests, settled_at_rest, settled_elsewhere, moved_on}
+use Rattle.hp_tokens.proofs.steps.advance.Given.{Over}
+use Rattle.hp_tokens.proofs.steps.advance.Goals as goal
+use Rattle.hp_tokens.proofs.steps.advance.Goals.{then-is_resting, else-is_resting, then-emitted, else-emitted, Joined-emitted}
+
+either_flag : (a b e : Bool) → a ≡ true → e ≡ a → (a || b) ≡ e
+either_flag true b e h k = sym k
+either_flag false b e h k = cc
+
+second_flag : (a b e : Bool) → a ≡ false → e ≡ b → (a || b) ≡ e
+second_flag true b e h k = cc
+second_flag false b e h k = sym k
+
+flag : (g : Over) (c : Joined-emitted g) → (c.moves.emitted || c.in-Made.now) ≡ c.if-emitted.emitted
+flag g c = elim c.if-emitted.branch [
+  | then-emitted w ↦ either_flag c.moves.emitted c.in-Made.now _ w.if-emitted.true w.emitted-is
+  | else-emitted w ↦ second_flag c.moves.emitted c.in-Made.now _ w.if-emitted.false w.emitted-is
+]
+
+gone : (g : Over) (c : Joined-emitted g)
+    → Goes (move (g.L.Lexes.rules c.args.lexer.now)) (lexing c.moves.state c.moves.input c.moves.rested) c.moves.tokens
+    (lexing c.step.new.state c.step.new.input c.moves.rested) c.step.new.tokens c.in-Made.now
+gone g c =
+    let P : Step → Type 0 = λ s. Stepped (move (g.L.Lexes.rules c.args.lexer.now)) (lexing c.moves.state c.moves.input c.moves.rested) c.moves.tokens
+    (lexing c.step.new.state c.step.new.input c.moves.rested) c.step.new.tokens s in
+    subst P c.in-Made.is (c.in_ok-now.ensures.step c.moves.rested c.moves.invariant.settled)
+
+further : (g : Over) (c : Joined-emitted g) (emitted : Bool) → c.if-emitted.emitted ≡ emitted
+    → Advances (g.L.Lexes.rules c.args.lexer.now) (lexing c.args.state.now c.args.input.now c.args.rested.now) c.args.tokens.now
+    (lexing c.step.new.state c.step.new.input c.moves.rested) c.step.new.tokens c.moves.rested emitted
+further g c emitted is =
+    let P : Bool → Type 0 = λ e. Advances (g.L.Lexes.rules c.args.lexer.now) (lexing c.args.state.now c.args.input.now c.args.rested.now) c.args.tokens.now
+    (lexing c.step.new.state c.step.new.input c.moves.rested) c.step.new.tokens c.moves.rested e in
+    subst P (flag g c ∙ is)
+    (one_more (g.L.Lexes.rules c.args.lexer.now) _ _ _ _ _ _ c.moves.rested c.moves.emitted c.in-Made.now c.moves.invariant.advances (gone g c) c.moves.invariant.settled)
+
+pub moves-init : goal.moves-init
+moves-init g c = elim c.if-is_resting.branch [
+  | then-is_resting w ↦
+      let here : is_resting c.args.state.now.machine.state ≡ true = sym c.is_resting.ensures ∙ w.if-is_resting.true in
+      let at : c.if-is_resting.rested ≡ place_of c.args.state.now c.args.input.now = w.rested-is ∙ w.place.ensures in
+      let P : ℕ → Type 0 = λ r. r ≡ (lexing c.args.state.now c.args.input.now r).rested in
+      let Q : Lexing → Type 0 = λ l. Advances (g.L.Lexes.rules c.args.lexer.now) l c.args.tokens.now (lexing c.args.state.now c.args.input.now c.if-is_resting.rested) c.args.tokens.now c.if-is_resting.rested false in
+      record {
+        held = c.requires.held;
+        settled = subst P (sym at) (settled_at_rest c.args.state.now c.args.input.now here);
+        advances = subst Q (rests c.args.state.now c.args.input.now c.if-is_resting.rested c.args.rested.now here) (none_yet (g.L.Lexes.rules c.args.lexer.now) _ _ _);
+      }
+  | else-is_resting w ↦
+      let there : is_resting c.args.state.now.machine.state ≡ false = sym c.is_resting.ensures ∙ w.if-is_resting.false in
+      let Q : ℕ → Type 0 = λ r. Advances (g.L.Lexes.rules c.args.lexer.now) (lexing c.args.state.now c.args.input.now r) c.args.tokens.now (lexing c.args.state.now c.args.input.now c.if-is_resting.rested) c.args.tokens.now c.if-is_resting.rested false in
+      record {
+        held = c.requires.held;
+        settled = settled_elsewhere c.args.state.now c.args.input.now c.if-is_resting.rested there;
+        advances = subst Q w.rested-is (none_yet (g.L.Lexes.rules c.args.lexer.now) _ _ _);
+      }
+]
+
+pub returns-then-emitted-2-clause-turn : goal.returns-then-emitted-2-clause-turn
+returns-then-emitted-2-clause-turn g c = (
+  further g (goal.at.returns-then-emitted-2-clause-turn g c).Joined-emitted true c.if-emitted-2.true,
+  at_rest (sym c.is_resting-in-moves.ensures ∙ c.if-is_resting-2.true),
+)
+
+pub moves-preserved-then-is_resting-2 : goal.moves-preserved-then-is_resting-2
+moves-preserved-then-is_resting-2 g c =
+    let here : is_resting c.step.new.state.machine.state ≡ true = sym c.is_resting-in-moves.ensures ∙ c.if-is_resting-2.true in
+    let at : c.place-then-is_resting-2.result ≡ place_of c.step.new.state c.step.new.input = c.place-then-is_resting-2.ensures in
+    let P : ℕ → Type 0 = λ r. r ≡ (lexing c.step.new.state c.step.new.input r).rested in
+    let R : Bool → Type 0 = λ e. Along (g.L.Lexes.rules c.args.lexer.now) c.args.state.now c.args.input.now c.args.rested.now c.args.tokens.now
+    c.step.new.state c.step.new.input c.place-then-is_resting-2.result c.step.new.tokens e in
+    subst R (sym c.if-emitted-2.false) record {
+      held = c.in_ok-now.ensures.held;
+      settled = subst P (sym at) (settled_at_rest c.step.new.state c.step.new.input here);
+      advances =
+          moved_on (g.L.Lexes.rules c.args.lexer.now) _ _ c.step.new.state c.step.new.input c.step.new.tokens c.moves.rested _ here
+          (further g (goal.at.moves-preserved-then-is_resting-2 g c).Joined-emitted false c.if-emitted-2.false);
+    }
+
+pub moves-preserved : goal.moves-preserved
+moves-preserved g c =
+    let there : is_resting c.step.new.state.machine.state ≡ false = sym c.is_resting-in-moves.ensures ∙ c.if-is_resting-2.false in
+    record {
+      held = c.in_ok-now.ensures.held;
+      settled = settled_elsewhere c.step.new.state c.step.new.input c.moves.rested there;
+      advances = further g (goal.at.moves-preserved g c).Joined-emitted _ refl;
+    }

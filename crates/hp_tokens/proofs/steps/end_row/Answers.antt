@@ -1,0 +1,22 @@
+use Rattle.std.proofs.Common.{◌≡◌, not, nat_eq, length, None, refl, subst}
+use Rattle.hp_tokens.specs.declared.rows.Reads.{Reads}
+use Rattle.hp_tokens.specs.Rows.{Follows}
+use Rattle.hp_tokens.proofs.Stepping.{reread_end, ended_there}
+use Rattle.hp_tokens.proofs.steps.end_row.Goals as goal
+
+pub returns-in-Again-clause-step : goal.returns-in-Again-clause-step
+returns-in-Again-clause-step g c = λ rules rows rested settled.
+    let P : Reads → Type 0 = λ x. Follows (g.T.Table.row_of c.args.state.now.machine None) c.args.tokens.now c.row.new.machine c.row.new.tokens x in (
+      not (nat_eq (length c.row.new.tokens) (length c.args.tokens.now)),
+      reread_end g.T.Table.has_row g.T.Table.row_of rules rows c.args.state.now c.args.input.now c.row.new.machine rested _ _ _
+          c.requires.row (g.met.T.Table.fine c.args.state.now.machine None c.requires.row) c.requires.none settled refl
+          (subst P c.in-Again.is c.in_ok-row.ensures),
+    )
+
+pub returns-in-End-clause-step : goal.returns-in-End-clause-step
+returns-in-End-clause-step g c = λ rules rows rested settled.
+    let P : Reads → Type 0 = λ x. Follows (g.T.Table.row_of c.args.state.now.machine None) c.args.tokens.now c.row.new.machine c.row.new.tokens x in
+    ended_there g.T.Table.has_row g.T.Table.row_of rules rows c.args.state.now c.args.input.now c.row.new.machine rested _ _
+    (not (nat_eq (length c.row.new.tokens) (length c.args.tokens.now)))
+    c.requires.row (g.met.T.Table.fine c.args.state.now.machine None c.requires.row) c.requires.none settled refl
+    (subst P c.in-End.is c.in_ok-row.ensures)

@@ -1,0 +1,10 @@
+pub mod Reading
+pub mod Texts
+pub mod States
+pub mod Parts
+pub mod Rows
+pub mod Moves
+pub mod Runs
+pub mod Ranks
+pub mod Advancing
+pub mod Valid

@@ -1,0 +1,112 @@
+// A cursor over a text, which contracts see as its unread code points and the place of the first.
+ghost use Rattle.std.specs.Prelude.{◌≡◌, ℕ, List, [], ◌∷◌, ◌++◌, length, drop, take, IsUtf8, ◌+◌, ◌<◌, ◌≤◌, ◌^◌, MatchOption, true, false, slice_index, Bool};
+ghost use Rattle.std.specs.List.{list_all};
+
+use std::marker::Model;
+
+/// The place of a text's first byte. Places count from here, so that the few code points that stood before a text, and
+/// were read ahead, have places too.
+pub const ORIGIN: u64 = 1 << 32;
+
+/// A test of bytes: which of them a run goes over. A byte of 128 and above always passes, so that a run ends only
+/// between two code points.
+pub trait Run {
+    ghost passes: { ℕ → Bool };
+
+    /// Whether the byte passes.
+    fn passes(byte: u8) -> bool
+        ensures { result ≡ passes byte };
+
+    ghost high: { (c : ℕ) → 128 ≤ c → passes c ≡ true };
+}
+
+/// A cursor over a text.
+#[derive(Drop)]
+pub struct Cursor<'p> {
+    text: &'p str,
+    at: usize,
+}
+
+impl<'p> Model for Cursor<'p> {
+    ghost use Rattle.std.specs.Prelude.{drop, ◌+◌, ◌^◌};
+    ghost use Rattle.std.specs.Str.{chars};
+    ghost use Rattle.hp_tokens.specs.Reading.{Unread, IsAt};
+
+    ghost Value = { Unread };
+
+    ghost view = { λ c. record { place = 2 ^ 32 + c.at; text = chars (drop c.at c.text.now) } };
+
+    ghost invariant = { λ c. IsAt c.text.now c.at };
+}
+
+impl<'p> Cursor<'p> {
+    ghost use Rattle.std.specs.Str.{chars};
+    ghost use Rattle.hp_tokens.specs.Reading.{Unread, first, Reads, ReadsRun};
+
+    /// A cursor at the start of a text.
+    pub fn of_str(text: &'p str) -> Cursor<'p>
+        requires fits { length text.now < 2 ^ 63 }
+        ensures { result ≡ record { place = 2 ^ 32; text = chars text.now } }
+    {
+        Cursor { text, at: 0 }
+    }
+
+    /// A cursor at the start of a text in UTF-8.
+    pub fn new(text: &'p [u8]) -> Cursor<'p>
+        requires utf8 { IsUtf8 text.now }
+        requires fits { length text.now < 2 ^ 63 }
+        ensures { result ≡ record { place = 2 ^ 32; text = chars text.now } }
+    {
+        let text = unsafe { std::str::from_utf8_unchecked(text) };
+        Cursor { text, at: 0 }
+    }
+
+    /// The place of the first unread code point, in bytes from `ORIGIN`, which is the text's start.
+    pub fn place(&self) -> u64
+        ensures place { result ≡ self.now.place }
+        ensures origin { 2 ^ 32 ≤ result }
+    {
+        ORIGIN + self.at as u64
+    }
+
+    /// The next code point.
+    pub fn peek(&self) -> Option<char>
+        ensures { result ≡ first self.now.text }
+    {
+        self.text[self.at..].chars().next()
+    }
+
+    /// Takes the next code point.
+    pub fn next(&mut self) -> Option<char>
+        ensures { MatchOption result ((self.old.text ≡ []) × (self.new ≡ self.old)) (λ c. Reads self.old c self.new) }
+    {
+        let c = self.text[self.at..].chars().next()?;
+        self.at += c.len_utf8();
+        Some(c)
+    }
+
+    /// Takes the run of code points at the front that pass.
+    pub fn take_run<R: Run>(&mut self) -> &'p str
+        ensures run { ReadsRun R.passes self.old (chars result.now) self.new }
+    {
+        let count = run_len::<R>(self.text.as_bytes(), self.at);
+        let from = self.at;
+        self.at += count;
+        &self.text[from..self.at]
+    }
+}
+
+ghost use Rattle.hp_tokens.specs.Reading.{PassesFrom};
+
+/// How many bytes from `at` on pass.
+fn run_len<R: Run>(bytes: &[u8], at: usize) -> usize
+    requires { at ≤ length bytes.now }
+    ensures { PassesFrom R.passes bytes.now at result }
+{
+    for (i, byte) in bytes[at..].iter().enumerate() {
+        if !R::passes(*byte) {
+            return i;
+        }
+    }
+    bytes.len() - at
+}

@@ -1,0 +1,264 @@
+// What the lexer's table reads and writes.
+ghost use Rattle.std.specs.Prelude.{◌≡◌, ◌∷◌, ◌++◌, [], None, OnOk, IfOk};
+
+use crate::NoMemory;
+use crate::building::{Building, NewDoctype, NewTag, Part, copied_part, finish};
+use crate::owned::OwnedText;
+use crate::state::{Return, State};
+use hp_elements::{
+    Chain, CharClass, Doctype, DoctypeParts, Name, Namespace, Rest, Tag, Text, Token, Tokens,
+};
+use std::alloc::Global;
+use std::mem;
+
+/// What the lexer's table reads and writes: the state, and the parts that it uses.
+#[derive(Drop)]
+pub struct Machine {
+    pub state: State,
+    pub building: Building,
+    /// The standard's temporary buffer.
+    pub buffer: OwnedText,
+    /// Where a character reference goes back to.
+    pub return_to: Return,
+    /// The value of a numeric reference; above 10FFFF it stays at 110000.
+    pub value: u32,
+    /// The last start tag's name, where the lexer was told it or emitted one.
+    pub last_tag: Option<OwnedText>,
+    /// Whether the last code point was CR.
+    pub after_cr: bool,
+}
+
+impl Machine {
+    ghost use Rattle.hp_tokens.specs.States.{enter, state_of_rest};
+    ghost use Rattle.hp_tokens.specs.Rows.{resting, putting, putting_text, new_start_tag, new_end_tag, new_comment, new_doctype, new_attribute, self_closing, quirky, EmitsBuilt, Flushes};
+    ghost use Rattle.std.specs.Str.{chars};
+
+    /// The machine in a resting state, without a last start tag's name.
+    pub fn at_rest(rest: Rest, after_cr: bool) -> Machine
+        ensures { result ≡ resting rest after_cr }
+    {
+        Machine {
+            state: State::of_rest(rest),
+            building: Building::Nothing,
+            buffer: OwnedText::new(),
+            return_to: Return::Data,
+            value: 0,
+            last_tag: None,
+            after_cr,
+        }
+    }
+
+    /// A copy.
+    pub fn copy(&self, alloc: Global) -> Result<Machine, NoMemory>
+        ensures { IfOk result (λ copy. copy ≡ self.now) }
+    {
+        Ok(Machine {
+            state: self.state,
+            building: self.building.copy(alloc)?,
+            buffer: self.buffer.copy(alloc)?,
+            return_to: self.return_to,
+            value: self.value,
+            last_tag: copied_part(alloc, &self.last_tag)?,
+            after_cr: self.after_cr,
+        })
+    }
+
+    /// Goes to a state. The parts that it does not use are emptied.
+    pub fn enter(&mut self, state: State)
+        ensures { self.new ≡ enter state self.old }
+    {
+        self.state = state;
+        if !state.uses_token() {
+            self.building = Building::Nothing;
+        }
+        if !state.uses_buffer() {
+            self.buffer.clear();
+        }
+        if !state.uses_return() {
+            self.return_to = Return::Data;
+        }
+        if !state.uses_value() {
+            self.value = 0;
+        }
+    }
+
+    /// Appends a text to a part of what is built.
+    pub fn put_text(&mut self, alloc: Global, part: Part, text: &str) -> Result<(), NoMemory>
+        ensures { OnOk result (self.new ≡ putting_text part (chars text.now) self.old) }
+    {
+        self.building.put(alloc, part, text)
+    }
+
+    /// Appends a code point to a part of what is built.
+    pub fn put(&mut self, alloc: Global, part: Part, c: char) -> Result<(), NoMemory>
+        ensures { OnOk result (self.new ≡ putting part c self.old) }
+    {
+        let mut bytes = [0; 4];
+        let text: &str = c.encode_utf8(&mut bytes);
+        self.put_text(alloc, part, text)
+    }
+
+    /// Begins a start tag.
+    pub fn begin_start_tag(&mut self)
+        ensures { self.new ≡ new_start_tag self.old }
+    {
+        self.building = Building::StartTag(NewTag {
+            name: OwnedText::new(),
+            attributes: Chain::new(),
+            attribute: None,
+            self_closing: false,
+        });
+    }
+
+    /// Begins an end tag.
+    pub fn begin_end_tag(&mut self)
+        ensures { self.new ≡ new_end_tag self.old }
+    {
+        self.building = Building::EndTag(OwnedText::new());
+    }
+
+    /// Begins a comment.
+    pub fn begin_comment(&mut self)
+        ensures { self.new ≡ new_comment self.old }
+    {
+        self.building = Building::Comment(OwnedText::new());
+    }
+
+    /// Begins a doctype, which lacks all parts.
+    pub fn begin_doctype(&mut self)
+        ensures { self.new ≡ new_doctype self.old }
+    {
+        self.building = Building::Doctype(NewDoctype {
+            name: None,
+            public: None,
+            system: None,
+            force_quirks: false,
+        });
+    }
+
+    /// Begins an attribute.
+    pub fn begin_attribute(&mut self, alloc: Global) -> Result<(), NoMemory>
+        ensures { OnOk result (self.new ≡ new_attribute self.old) }
+    {
+        self.building.begin_attribute(alloc)
+    }
+
+    /// Appends the token that was built, and keeps the name of a start tag as the last one.
+    pub fn emit_built(&mut self, alloc: Global, tokens: &mut Tokens<'_>) -> Result<(), NoMemory>
+        ensures { OnOk result (EmitsBuilt self.old tokens.old self.new tokens.new) }
+    {
+        let building = mem::replace(&mut self.building, Building::Nothing);
+        if let Some(token) = built_token(alloc, building, &mut self.last_tag)? {
+            tokens.push(alloc, token)?;
+        }
+        Ok(())
+    }
+
+    /// The buffer goes into the attribute's value, where the character reference stands in one; otherwise its code points
+    /// are appended to the tokens.
+    pub fn flush(&mut self, alloc: Global, tokens: &mut Tokens<'_>) -> Result<(), NoMemory>
+        ensures { OnOk result (Flushes self.old tokens.old self.new tokens.new) }
+    {
+        if self.return_to.is_in_value() {
+            self.building.put(alloc, Part::Value, self.buffer.as_str())
+        } else {
+            push_text(alloc, tokens, &self.buffer)
+        }
+    }
+}
+
+ghost use Rattle.hp_tokens.specs.Parts.{built, last_tag_after, finished_tag as spec_tag};
+ghost use Rattle.hp_tokens.specs.Rows.{character};
+ghost use Rattle.std.specs.Prelude.{map, option_to_list};
+
+/// The token that was built; the name of a start tag is kept as the last one.
+fn built_token<'p>(
+    alloc: Global,
+    building: Building,
+    last_tag: &mut Option<OwnedText>,
+) -> Result<Option<Token<'p>>, NoMemory>
+    ensures token { IfOk result (λ token. option_to_list token ≡ built building) }
+    ensures last { OnOk result (last_tag.new ≡ last_tag_after building last_tag.old) }
+{
+    Ok(Some(match building {
+        Building::Nothing => return Ok(None),
+        Building::StartTag(tag) => {
+            let self_closing = tag.self_closing;
+            let (tag, name) = finished_tag(alloc, tag)?;
+            *last_tag = Some(name);
+            Token::Start { self_closing, tag }
+        }
+        Building::EndTag(name) => Token::EndTag {
+            name: Name::from_text(alloc, name.as_str())?,
+        },
+        Building::Comment(comment) => {
+            let text = Text::from_str(alloc, comment.as_str())?;
+            Token::Comment { text }
+        }
+        Building::Doctype(doctype) => {
+            let doctype = finished_doctype(alloc, doctype)?;
+            Token::Doctype { doctype }
+        }
+    }))
+}
+
+/// The tag that was built, and its name.
+fn finished_tag(alloc: Global, tag: NewTag) -> Result<(Tag, OwnedText), NoMemory>
+    ensures { IfOk result (λ both. (both.0 ≡ spec_tag tag) × (both.1 ≡ tag.name)) }
+{
+    let name = Name::from_text(alloc, tag.name.as_str())?;
+    let mut attributes = tag.attributes;
+    finish(alloc, &mut attributes, tag.attribute)?;
+    let finished = Tag {
+        namespace: Namespace::Html,
+        name,
+        attributes,
+    };
+    Ok((finished, tag.name))
+}
+
+ghost use Rattle.hp_tokens.specs.Parts.{finished_doctype as spec_doctype};
+
+/// The doctype that was built.
+fn finished_doctype<'p>(alloc: Global, doctype: NewDoctype) -> Result<Doctype<'p>, NoMemory>
+    ensures { IfOk result (λ finished. finished ≡ spec_doctype doctype) }
+{
+    let parts = DoctypeParts {
+        name: finished_part(alloc, doctype.name)?,
+        public: finished_part(alloc, doctype.public)?,
+        system: finished_part(alloc, doctype.system)?,
+        force_quirks: doctype.force_quirks,
+    };
+    Doctype::new(alloc, parts)
+}
+
+fn finished_part<'p>(alloc: Global, part: Option<OwnedText>) -> Result<Option<Text<'p>>, NoMemory>
+    ensures { IfOk result (λ finished. finished ≡ part) }
+{
+    match part {
+        None => Ok(None),
+        Some(part) => Ok(Some(Text::from_str(alloc, part.as_str())?)),
+    }
+}
+
+/// Appends a code point to the tokens.
+pub fn push_char(alloc: Global, tokens: &mut Tokens<'_>, c: char) -> Result<(), NoMemory>
+    ensures { OnOk result (tokens.new ≡ tokens.old ++ character c ∷ []) }
+{
+    let token = Token::Characters {
+        class: CharClass::of(c),
+        text: Text::of_char(c),
+    };
+    tokens.push(alloc, token)?;
+    Ok(())
+}
+
+/// Appends the code points of a text to the tokens, each in a token of its own.
+pub fn push_text(alloc: Global, tokens: &mut Tokens<'_>, text: &OwnedText) -> Result<(), NoMemory>
+    ensures { OnOk result (tokens.new ≡ tokens.old ++ map character text.now) }
+{
+    for c in text.as_str().chars() {
+        push_char(alloc, tokens, c)?;
+    }
+    Ok(())
+}

@@ -1,0 +1,155 @@
+// Texts that own their code points, which contracts see as lists of code points.
+ghost use Rattle.std.specs.Prelude.{◌≡◌, ◌↔◌, ℕ, List, [], ◌∷◌, ◌++◌, ◌<◌, OnOk, OnErr, IfOk, IsTrue, string_bytes, IsUtf8, length, MatchOption, sum_by};
+
+use crate::NoMemory;
+use crate::few::{Few, ROOM};
+use std::alloc::Global;
+use std::marker::Model;
+
+/// A text that owns its code points. A short one takes no memory.
+#[derive(Drop)]
+pub struct OwnedText {
+    store: Store,
+}
+
+#[derive(Drop)]
+enum Store {
+    Few(Few),
+    Long(String),
+}
+
+impl Model for OwnedText {
+    ghost use Rattle.std.specs.Prelude.{ℕ, List};
+
+    ghost Value = { List ℕ };
+
+    ghost use Rattle.hp_tokens.specs.Texts.{spelled, IsStored};
+
+    ghost view = { λ t. spelled t.store };
+
+    ghost invariant = { λ t. IsStored t.store };
+}
+
+impl OwnedText {
+    ghost use Rattle.std.specs.Str.{chars};
+    ghost use Rattle.std.specs.Char.{len_utf8};
+    ghost use Rattle.hp_tokens.specs.Reading.{first};
+
+    /// The empty text.
+    pub fn new() -> OwnedText
+        ensures { result ≡ [] }
+    {
+        OwnedText {
+            store: Store::Few(Few::new()),
+        }
+    }
+
+    /// The text, in UTF-8.
+    pub fn as_str(&self) -> &str
+        ensures { chars result.now ≡ self.now }
+    {
+        match &self.store {
+            Store::Few(bytes) => unsafe { std::str::from_utf8_unchecked(bytes.as_slice()) },
+            Store::Long(text) => text.as_str(),
+        }
+    }
+
+    /// Empties the text.
+    pub fn clear(&mut self)
+        ensures { self.new ≡ [] }
+    {
+        match &mut self.store {
+            Store::Few(bytes) => bytes.clear(),
+            Store::Long(text) => text.clear(),
+        }
+    }
+
+    /// Appends a text. An `Err` changes nothing.
+    pub fn push_str(&mut self, alloc: Global, more: &str) -> Result<(), NoMemory>
+        ensures ok { OnOk result (self.new ≡ self.old ++ chars more.now) }
+        ensures err { OnErr result (self.new ≡ self.old) }
+    {
+        match &mut self.store {
+            Store::Long(text) => text.push_str(more),
+            Store::Few(bytes) => {
+                if more.len() <= ROOM - bytes.len() {
+                    bytes.extend(more.as_bytes());
+                    return Ok(());
+                }
+                let text = joined(alloc, bytes.as_slice(), more)?;
+                self.store = Store::Long(text);
+                Ok(())
+            }
+        }
+    }
+
+    /// Appends a code point. An `Err` changes nothing.
+    pub fn push(&mut self, alloc: Global, c: char) -> Result<(), NoMemory>
+        ensures ok { OnOk result (self.new ≡ self.old ++ c ∷ []) }
+        ensures err { OnErr result (self.new ≡ self.old) }
+    {
+        let mut bytes = [0; 4];
+        let text: &str = c.encode_utf8(&mut bytes);
+        self.push_str(alloc, text)
+    }
+
+    /// How many bytes the text has in UTF-8.
+    pub fn len_bytes(&self) -> u64
+        ensures { result ≡ sum_by len_utf8 self.now }
+    {
+        self.as_str().len() as u64
+    }
+
+    /// The first code point.
+    pub fn first(&self) -> Option<char>
+        ensures { result ≡ first self.now }
+    {
+        self.as_str().chars().next()
+    }
+
+    /// Takes the first code point.
+    pub fn take_first(&mut self) -> Option<char>
+        ensures { MatchOption result ((self.old ≡ []) × (self.new ≡ self.old)) (λ c. self.old ≡ c ∷ self.new) }
+    {
+        let c = self.first()?;
+        match &mut self.store {
+            Store::Few(bytes) => bytes.drop_front(c.len_utf8()),
+            Store::Long(text) => {
+                let _bytes = text.as_bytes();
+                let _ = text.remove(0);
+            }
+        }
+        Some(c)
+    }
+
+    /// A copy.
+    pub fn copy(&self, alloc: Global) -> Result<OwnedText, NoMemory>
+        ensures { IfOk result (λ copy. copy ≡ self.now) }
+    {
+        let mut copy = OwnedText::new();
+        copy.push_str(alloc, self.as_str())?;
+        Ok(copy)
+    }
+
+    /// Whether two texts are the same.
+    pub fn same(&self, other: &OwnedText) -> bool
+        ensures { IsTrue result ↔ (self.now ≡ other.now) }
+    {
+        self.as_str() == other.as_str()
+    }
+}
+
+/// The two texts, one behind the other, with room for more.
+fn joined(alloc: Global, first: &[u8], second: &str) -> Result<String, NoMemory>
+    requires { IsUtf8 first.now }
+    ensures { IfOk result (λ text. string_bytes text ≡ first.now ++ second.now) }
+{
+    let first = unsafe { std::str::from_utf8_unchecked(first) };
+    let mut text = String::with_capacity(
+        alloc,
+        first.len().saturating_add(second.len()).saturating_mul(2),
+    )?;
+    text.push_str(first)?;
+    text.push_str(second)?;
+    Ok(text)
+}

@@ -1,0 +1,249 @@
+// Steps by rows, and the way from one rest to the next.
+ghost use Rattle.std.specs.Prelude.{◌≡◌, ℕ, ◌≤◌, ◌^◌, ◌==◌, ◌&&◌, List, [], Option, Some, Bool, false, IfOk, IsTrue};
+ghost use Rattle.hp_tokens.specs.declared.state.State.{State};
+ghost use Rattle.hp_tokens.specs.declared.machine.Machine.{Machine};
+ghost use Rattle.hp_tokens.specs.Reading.{first};
+ghost use Rattle.hp_tokens.specs.Rows.{Row, Follows};
+ghost use Rattle.hp_tokens.specs.Moves.{Lexing, Move, Rules, move, end_move, read_as as spec_read_as};
+ghost use Rattle.hp_tokens.specs.Ranks.{IsFine};
+ghost use Rattle.hp_tokens.specs.Advancing.{unread, held, lexing, HasRows, MovesByRows, ReadsOne, Steps, Turned, EndSteps, EndTurned, end_of_text};
+
+use crate::NoMemory;
+use crate::cursor::Cursor;
+use crate::lexing::LexState;
+use crate::machine::Machine;
+use crate::rows::{EndStep, Reads, Step, Turn};
+use crate::state::State;
+use hp_elements::Tokens;
+use std::alloc::Global;
+
+/// The rows of some states of the lexer.
+pub trait Table {
+    ghost row_of: { Machine → Option ℕ → Row };
+
+    ghost has_row: { State → Bool };
+
+    /// Carries out the row of the machine's state on a code point, or on the end of input.
+    fn row(
+        alloc: Global,
+        machine: &mut Machine,
+        symbol: Option<char>,
+        tokens: &mut Tokens<'_>,
+    ) -> Result<Reads, NoMemory>
+        requires { IsTrue (has_row machine.old.state) }
+        ensures { IfOk result (Follows (row_of machine.old symbol) tokens.old machine.new tokens.new) };
+
+    ghost fine: { (m : Machine) (symbol : Option ℕ) → IsTrue (has_row m.state) → IsFine m.state symbol (row_of m symbol) };
+}
+
+/// CR is read as LF.
+fn read_as(c: char) -> char
+    ensures { result ≡ spec_read_as c }
+{
+    if c == '\r' { '\n' } else { c }
+}
+
+/// One code point, by the row of the state. Answers whether something was appended.
+fn read<T: Table>(
+    alloc: Global,
+    c: char,
+    state: &mut LexState,
+    input: &mut Cursor<'_>,
+    tokens: &mut Tokens<'_>,
+) -> Result<bool, NoMemory>
+    requires row { IsTrue (T.has_row state.old.machine.state) }
+    requires held { held state.old ≤ input.old.place }
+    requires next { first (unread state.old input.old) ≡ Some c }
+    requires no_line_feed { (state.old.machine.after_cr && c == 10) ≡ false }
+    ensures step { IfOk result (λ emitted. (next : Lexing → Move) → MovesByRows next T.has_row T.row_of → ReadsOne next state.old input.old tokens.old state.new input.new tokens.new emitted) }
+    ensures held { IfOk result (λ step. held state.new ≤ input.new.place) }
+    ensures ended { IfOk result (λ step. input.old.text ≡ [] → input.new.text ≡ []) }
+{
+    let before = tokens.len();
+    match T::row(alloc, &mut state.machine, Some(read_as(c)), tokens)? {
+        Reads::Consume => {
+            let _ = state.take(input);
+            state.machine.after_cr = c == '\r';
+        }
+        Reads::Again => {}
+        Reads::End => unreachable!(),
+    }
+    Ok(tokens.len() != before)
+}
+
+/// One step by the rows: a code point, or the LF of a CR LF pair, which is dropped.
+pub fn step_by_row<T: Table>(
+    alloc: Global,
+    state: &mut LexState,
+    input: &mut Cursor<'_>,
+    tokens: &mut Tokens<'_>,
+) -> Result<Step, NoMemory>
+    requires row { IsTrue (T.has_row state.old.machine.state) }
+    requires held { held state.old ≤ input.old.place }
+    ensures step { IfOk result (λ step. (rules : Rules) → HasRows rules T.has_row T.row_of → Steps (move rules) state.old input.old tokens.old state.new input.new tokens.new step) }
+    ensures held { IfOk result (λ step. held state.new ≤ input.new.place) }
+{
+    let Some(c) = state.peek(input) else {
+        return Ok(Step::NeedsMore);
+    };
+    if state.machine.after_cr && c == '\n' {
+        let _ = state.take(input);
+        state.machine.after_cr = false;
+        return Ok(Step::Made { emitted: false });
+    }
+    let emitted = read::<T>(alloc, c, state, input, tokens)?;
+    Ok(Step::Made { emitted })
+}
+
+/// One step by the rows where the input ends behind what was read ahead.
+pub fn end_by_row<T: Table>(
+    alloc: Global,
+    state: &mut LexState,
+    input: &mut Cursor<'_>,
+    tokens: &mut Tokens<'_>,
+) -> Result<EndStep, NoMemory>
+    requires row { IsTrue (T.has_row state.old.machine.state) }
+    requires held { held state.old ≤ input.old.place }
+    requires ended { input.old.text ≡ [] }
+    ensures step { IfOk result (λ step. (rules : Rules) → HasRows rules T.has_row T.row_of → EndSteps rules state.old input.old tokens.old state.new input.new tokens.new step) }
+    ensures held { IfOk result (λ step. held state.new ≤ input.new.place) }
+    ensures ended { IfOk result (λ step. input.new.text ≡ []) }
+{
+    let Some(c) = state.peek(input) else {
+        return end_row::<T>(alloc, state, input, tokens);
+    };
+    if state.machine.after_cr && c == '\n' {
+        let _ = state.take(input);
+        state.machine.after_cr = false;
+        return Ok(EndStep::Made);
+    }
+    let emitted = read::<T>(alloc, c, state, input, tokens)?;
+    let _ = emitted;
+    Ok(EndStep::Made)
+}
+
+/// The row of the state on the end of input.
+fn end_row<T: Table>(
+    alloc: Global,
+    state: &mut LexState,
+    input: &Cursor<'_>,
+    tokens: &mut Tokens<'_>,
+) -> Result<EndStep, NoMemory>
+    requires row { IsTrue (T.has_row state.old.machine.state) }
+    requires none { unread state.old input.now ≡ [] }
+    ensures step { IfOk result (λ step. (rules : Rules) → HasRows rules T.has_row T.row_of → EndSteps rules state.old input.now tokens.old state.new input.now tokens.new step) }
+    ensures ahead { state.new.ahead ≡ state.old.ahead }
+{
+    match T::row(alloc, &mut state.machine, None, tokens)? {
+        Reads::Consume => unreachable!(),
+        Reads::Again => Ok(EndStep::Made),
+        Reads::End => Ok(EndStep::Ended),
+    }
+}
+
+/// A crate's part of the lexer: the rules of its states, and one step by them.
+pub trait Lexes {
+    ghost rules: { Self → Rules };
+
+    ghost here: { State → Bool };
+
+    /// Whether the state is one of this part's.
+    fn is_here(state: State) -> bool
+        ensures { result ≡ here state };
+
+    /// Some moves, or none where more input is needed or a question is asked; nothing changes then.
+    fn step<'p>(
+        &self,
+        alloc: Global,
+        state: &mut LexState,
+        input: &mut Cursor<'p>,
+        tokens: &mut Tokens<'p>,
+    ) -> Result<Step, NoMemory>
+        requires here { IsTrue (here state.old.machine.state) }
+        requires held { held state.old ≤ input.old.place }
+        ensures step { IfOk result (λ step. Steps (move (rules self.now)) state.old input.old tokens.old state.new input.new tokens.new step) }
+        ensures held { IfOk result (λ step. held state.new ≤ input.new.place) };
+
+    /// Some moves, or the end, where the input ends behind what was read ahead.
+    fn end(
+        &self,
+        alloc: Global,
+        state: &mut LexState,
+        input: &mut Cursor<'_>,
+        tokens: &mut Tokens<'static>,
+    ) -> Result<EndStep, NoMemory>
+        requires here { IsTrue (here state.old.machine.state) }
+        requires held { held state.old ≤ input.old.place }
+        requires ended { input.old.text ≡ [] }
+        ensures step { IfOk result (λ step. EndSteps (rules self.now) state.old input.old tokens.old state.new input.new tokens.new step) }
+        ensures held { IfOk result (λ step. held state.new ≤ input.new.place) }
+        ensures ended { IfOk result (λ step. input.new.text ≡ []) };
+}
+
+/// Makes moves, from one rest to the next, and appends what they emit. `rested` is the last place at or before the first
+/// token that is appended where the lexer rested. After `NoMemory` the state is spent.
+pub fn advance<'p, L: Lexes>(
+    lexer: &L,
+    alloc: Global,
+    state: &mut LexState,
+    input: &mut Cursor<'p>,
+    rested: &mut u64,
+    tokens: &mut Tokens<'p>,
+) -> Result<Turn, NoMemory>
+    requires here { IsTrue (L.here state.old.machine.state) }
+    requires held { held state.old ≤ input.old.place }
+    ensures turn { IfOk result (λ turn. Turned (L.rules lexer.now) L.here (lexing state.old input.old rested.old) tokens.old (lexing state.new input.new rested.new) tokens.new rested.new turn) }
+    ensures held { IfOk result (λ turn. held state.new ≤ input.new.place) }
+{
+    let mut emitted = false;
+    if state.machine.state.is_resting() {
+        *rested = state.place(input);
+    }
+    'moves: while L::is_here(state.machine.state) {
+        match lexer.step(alloc, state, input, tokens)? {
+            Step::Made { emitted: now } => emitted = emitted || now,
+            Step::NeedsMore => return Ok(turned(emitted, Turn::NeedsMore)),
+            Step::AskCdata => return Ok(turned(emitted, Turn::AskCdata)),
+            Step::AskLastTag => return Ok(turned(emitted, Turn::AskLastTag)),
+        }
+        if state.machine.state.is_resting() {
+            if emitted {
+                return Ok(Turn::Emitted);
+            }
+            *rested = state.place(input);
+        }
+    }
+    Ok(turned(emitted, Turn::Moved))
+}
+
+/// Makes the moves of the end of input behind what was read ahead, and appends what they emit. After `NoMemory` the state is
+/// spent.
+pub fn at_end<L: Lexes>(
+    lexer: &L,
+    alloc: Global,
+    state: &mut LexState,
+    tokens: &mut Tokens<'static>,
+) -> Result<Turn, NoMemory>
+    requires here { IsTrue (L.here state.old.machine.state) }
+    requires held { held state.old ≤ 2 ^ 32 }
+    ensures { IfOk result (λ turn. (rested : ℕ) → EndTurned (L.rules lexer.now) L.here (lexing state.old end_of_text rested) tokens.old state.new tokens.new turn) }
+{
+    let mut input = Cursor::of_str("");
+    'moves: while L::is_here(state.machine.state) {
+        match lexer.end(alloc, state, &mut input, tokens)? {
+            EndStep::Made => {}
+            EndStep::Ended => return Ok(Turn::Emitted),
+        }
+    }
+    Ok(Turn::Moved)
+}
+
+ghost use Rattle.hp_tokens.specs.declared.rows.Turn.TheVariants as turns;
+ghost use Rattle.std.specs.Prelude.{if◌then◌else◌};
+
+/// The answer, unless something was appended.
+fn turned(emitted: bool, turn: Turn) -> Turn
+    ensures { result ≡ (if emitted then turns.Emitted else turn) }
+{
+    if emitted { Turn::Emitted } else { turn }
+}
