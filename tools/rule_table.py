@@ -18,7 +18,6 @@ What is read so:
 - In template writes the mode first and then replaces the template mode; the rows do it the other way round, and the
   two commute. They are recorded in the rows' order.
 - The self-closing flag is off: that InsertForeign and InsertAsCurrent pop where it is on is said by those acts.
-- The element that S a takes off is looked for before adoption; the recorder writes the one call as the acts of the row.
 - In text a comment is inserted, as in each mode that doesn't say otherwise. ORACLE ignores it there; the lexer gives
   no comment in that mode.
 """
@@ -203,9 +202,7 @@ class Recorder:
         self.does('Act::ClearToMarker')
 
     def start_a(self):
-        if self.asks('Test::Listed(Known::A)'):
-            self.does('Act::Adopt(Which::Its)')
-            self.does('Act::TakeOff(Which::Its)')
+        self.does('Act::CloseLink')
 
     def adopt(self, name):
         self.does('Act::Adopt(%s)' % self.which(name))

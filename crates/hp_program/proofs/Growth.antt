@@ -1,19 +1,13 @@
 -- A tree that grows edit by edit.
-use Rattle.std.proofs.Common.{◌≡◌, ℕ, ◌+◌, ◌≤◌, List, [], ◌∷◌, length, suc, ap, subst, ◌∙◌, arith}
-use Rattle.std.specs.Prelude.{All}
+use Rattle.std.proofs.Common.{◌≡◌, ℕ, ◌+◌, ◌≤◌, List, ◌∷◌, ap, subst, ◌∙◌, arith}
 use Rattle.hp_control.specs.declared.edit.Edit.{Edit}
 use Rattle.hp_control.specs.Edits.{room_of, room_of_all}
-use Rattle.hp_arena.specs.Shape.{IsBuilt}
 use Rattle.hp_control.specs.Tree.{Tree, document, applied, applied_all}
 
 -- what is left to do makes the tree of all edits, and there is room for it
 pub record Grows (edits rest : List Edit) (branches : Tree) (spare : ℕ) : Type 0 where
   pub leads : applied_all branches rest ≡ applied_all document edits
   pub room : room_of_all rest ≤ spare
-  pub fixed : All IsBuilt rest
-
-rest_fixed : (edit : Edit) (rest : List Edit) → All IsBuilt (edit ∷ rest) → All IsBuilt rest
-rest_fixed edit rest each = λ k d within. each (suc k) d (omega arith)
 
 -- one edit is made
 pub grown_on : (edits before rest : List Edit) (edit : Edit) (old new : Tree) (had has : ℕ) → Grows edits before old had
@@ -22,5 +16,4 @@ grown_on edits before rest edit old new had has grows next made spent =
     let now : Grows edits (edit ∷ rest) old had = subst (λ b. Grows edits b old had) next grows in record {
       leads = ap (λ t. applied_all t rest) made ∙ now.leads;
       room = (let r = now.room in omega arith);
-      fixed = rest_fixed edit rest now.fixed;
     }

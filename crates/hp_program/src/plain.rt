@@ -1,9 +1,8 @@
 //! The tree of a page without markup.
-ghost use Rattle.std.specs.Prelude.{◌≡◌, ◌++◌, ◌∷◌, [], IfOk, OnOk, All};
+ghost use Rattle.std.specs.Prelude.{◌≡◌, [], IfOk};
 ghost use Rattle.std.specs.Str.{chars};
 ghost use Rattle.hp_elements.specs.Names.{text_of as name_of};
 ghost use Rattle.hp_elements.specs.declared.sets.Namespace.{Namespace};
-ghost use Rattle.hp_arena.specs.Shape.{IsBuilt};
 ghost use Rattle.hp_control.specs.Tree.{document, applied_all};
 ghost use Rattle.hp_text.specs.Page.{text_of};
 ghost use Rattle.hp_print.specs.Print.{print};
@@ -52,8 +51,7 @@ fn put_into<'p>(child: Child<'p>, parent: u64) -> Edit<'p>
 
 /// The edits that make html, head and body.
 fn skeleton<'p>(alloc: Global) -> Result<Edits<'p>, NoMemory>
-    ensures tree { IfOk result (λ edits. applied_all document edits ≡ plain []) }
-    ensures fixed { IfOk result (All IsBuilt) }
+    ensures { IfOk result (λ edits. applied_all document edits ≡ plain []) }
 {
     let mut edits = Edits::new(alloc);
     edits.push(new_element(Known::Html))?;
@@ -75,8 +73,7 @@ fn body_text<'p>(page: Page<'p>) -> Text<'p>
 
 /// The edits that make the tree of a page without markup.
 fn plain_edits<'p>(alloc: Global, page: Page<'p>) -> Result<Edits<'p>, NoMemory>
-    ensures tree { IfOk result (λ edits. applied_all document edits ≡ plain (chars (text_of page.entry))) }
-    ensures fixed { IfOk result (All IsBuilt) }
+    ensures { IfOk result (λ edits. applied_all document edits ≡ plain (chars (text_of page.entry))) }
 {
     let mut edits = skeleton(alloc)?;
     let text = body_text(page);
@@ -89,7 +86,6 @@ fn plain_edits<'p>(alloc: Global, page: Page<'p>) -> Result<Edits<'p>, NoMemory>
 
 /// The tree that the edits make of the document alone.
 fn grown<'p>(alloc: Global, edits: Edits<'p>) -> Result<Tree<'p>, NoMemory>
-    requires { All IsBuilt edits }
     ensures { IfOk result (λ tree. tree.branches ≡ applied_all document edits.entry) }
 {
     let mut tree = Tree::start(alloc)?;

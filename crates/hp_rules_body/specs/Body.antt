@@ -1,8 +1,8 @@
 -- The rows of the modes in body and text (13.2.6.4.7, 13.2.6.4.8).
 use Rattle.std.specs.Prelude.{List, [], ◌∷◌, ◌++◌}
-use Rattle.hp_elements.specs.declared.act.Act.TheVariants.{AddMissingToBody, AddMissingToFirst, Adopt, Again, AgainAs, AppendToList, As, Characters, ClearToMarker, CloseDescription, CloseItem, CloseParagraph, Comment, DetachBody, Done, EndForm, FormPointer, FramesetNotOk, Implied, ImpliedExcept, Insert, InsertBare, InsertForeign, KeepOriginal, Lexer, Marker, Pop, PopToFirst, Reconstruct, SkipLineFeed, Stop, Switch, TakeOff, Through, ThroughFirstOf, ToOriginal, Walk}
+use Rattle.hp_elements.specs.declared.act.Act.TheVariants.{AddMissingToBody, AddMissingToFirst, Adopt, Again, AgainAs, AppendToList, As, Characters, ClearToMarker, CloseDescription, CloseItem, CloseLink, CloseParagraph, Comment, DetachBody, Done, EndForm, FormPointer, FramesetNotOk, Implied, ImpliedExcept, Insert, InsertBare, InsertForeign, KeepOriginal, Lexer, Marker, Pop, PopToFirst, Reconstruct, SkipLineFeed, Stop, Switch, Through, ThroughFirstOf, ToOriginal, Walk}
 use Rattle.hp_elements.specs.declared.act.Scope.TheVariants.{Button, Default, ListItem}
-use Rattle.hp_elements.specs.declared.act.Test.TheVariants.{CurrentIs, CurrentIsIn, FramesetOk, HasForm, HasTemplateModes, InScope, InTableModes, IsQuirks, Listed, OneInScope, SecondIsBody, TemplateInStack, TypeIsHidden}
+use Rattle.hp_elements.specs.declared.act.Test.TheVariants.{CurrentIs, CurrentIsIn, FramesetOk, HasForm, HasTemplateModes, InScope, InTableModes, IsQuirks, OneInScope, SecondIsBody, TemplateInStack, TypeIsHidden}
 use Rattle.hp_elements.specs.declared.act.Which.TheVariants.{Its, Named}
 use Rattle.hp_elements.specs.declared.known.Known.TheVariants as name
 use Rattle.hp_elements.specs.declared.sets.SetName.TheVariants.{Headings}
@@ -44,7 +44,7 @@ in_body_structure =
 -- what stands in it
 abbrev pub in_body_content : List Row
 in_body_content =
-    start "a" ⟶ when (Listed name.A) (Adopt (Named name.A) ⨾ TakeOff (Named name.A) ⨾ ends) (Reconstruct ⨾ Insert ⨾ AppendToList ⨾ ends) ∷
+    start "a" ⟶ CloseLink ⨾ Reconstruct ⨾ Insert ⨾ AppendToList ⨾ ends ∷
     start "nobr" ⟶ Reconstruct ⨾ when (InScope Default (Named name.Nobr)) (Adopt (Named name.Nobr) ⨾ Reconstruct ⨾ ends) (Insert ⨾ AppendToList ⨾ ends) ∷
     start "b big code em font i s small strike strong tt u" ⟶ Reconstruct ⨾ Insert ⨾ AppendToList ⨾ ends ∷
     end "a b big code em font i nobr s small strike strong tt u" ⟶ Adopt Its ⨾ ends ∷

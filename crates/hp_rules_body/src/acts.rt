@@ -173,17 +173,7 @@ pub(crate) fn acts(row: u16) -> &'static [Act]
             Implied,
             ThroughFirstOf(SetName::Headings),
         ],
-        26 => &[
-            If {
-                test: Test::Listed(Known::A),
-                otherwise: 3,
-            },
-            Adopt(Which::Named(Known::A)),
-            TakeOff(Which::Named(Known::A)),
-            Reconstruct,
-            Insert,
-            AppendToList,
-        ],
+        26 => &[CloseLink, Reconstruct, Insert, AppendToList],
         27 => &[
             Reconstruct,
             If {

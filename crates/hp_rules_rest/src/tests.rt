@@ -112,7 +112,6 @@ fn own_act(act: Act, own: Option<Known>) -> Act {
         Act::Through(which) => Act::Through(its(which, own)),
         Act::ImpliedExcept(which) => Act::ImpliedExcept(its(which, own)),
         Act::Adopt(which) => Act::Adopt(its(which, own)),
-        Act::TakeOff(which) => Act::TakeOff(its(which, own)),
         other => other,
     }
 }

@@ -64,7 +64,7 @@ struct Counts {
 }
 
 /// Goes over what stands inside an element.
-fn count_inside(rt: &impl Abort, tree: &Tree<'_>, id: u32) -> Counts {
+fn count_inside(tree: &Tree<'_>, id: u32) -> Option<Counts> {
     let mut found = Counts {
         elements: 0,
         attributes: 0,
@@ -73,7 +73,9 @@ fn count_inside(rt: &impl Abort, tree: &Tree<'_>, id: u32) -> Counts {
         comments: 0,
         doctypes: 0,
     };
-    assert!(rt; id < tree.len());
+    if id >= tree.len() {
+        return None;
+    }
     let mut next = tree.first_inside(id);
     for _ in 0..1_000_000 {
         let Some(at) = next else { break };
@@ -91,7 +93,7 @@ fn count_inside(rt: &impl Abort, tree: &Tree<'_>, id: u32) -> Counts {
         }
         next = tree.next_sibling(at);
     }
-    found
+    Some(found)
 }
 
 fn found(elements: usize, attributes: usize, texts: usize, runs: usize) -> Counts {
@@ -155,14 +157,14 @@ fn every_edit_once(rt: HostRuntime) -> Result<(), Fail> {
         &mut tree,
         put(Child::Text(Text::of_page(page, 0, 1)), 1),
     );
-    assert_eq!(rt; count_inside(&rt, &tree, 1), found(1, 0, 1, 2));
+    assert_eq!(rt; count_inside(&tree, 1), Some(found(1, 0, 1, 2)));
     // Before the element 2 the text has a place of its own.
     make(
         &rt,
         &mut tree,
         foster(Child::Text(Text::of_page(page, 0, 1)), 2, 3),
     );
-    assert_eq!(rt; count_inside(&rt, &tree, 1), found(1, 0, 2, 3));
+    assert_eq!(rt; count_inside(&tree, 1), Some(found(1, 0, 2, 3)));
     make(
         &rt,
         &mut tree,
@@ -171,8 +173,8 @@ fn every_edit_once(rt: HostRuntime) -> Result<(), Fail> {
             to: Ref::Fixed(3),
         },
     );
-    assert_eq!(rt; count_inside(&rt, &tree, 1), found(0, 0, 0, 0));
-    assert_eq!(rt; count_inside(&rt, &tree, 3), found(1, 0, 2, 3));
+    assert_eq!(rt; count_inside(&tree, 1), Some(found(0, 0, 0, 0)));
+    assert_eq!(rt; count_inside(&tree, 3), Some(found(1, 0, 2, 3)));
     make(
         &rt,
         &mut tree,
@@ -180,7 +182,7 @@ fn every_edit_once(rt: HostRuntime) -> Result<(), Fail> {
             node: Ref::Fixed(2),
         },
     );
-    assert_eq!(rt; count_inside(&rt, &tree, 3), found(0, 0, 2, 3));
+    assert_eq!(rt; count_inside(&tree, 3), Some(found(0, 0, 2, 3)));
     // A fostered child of a table without a parent goes into the other element.
     make(&rt, &mut tree, foster(Child::Element(Ref::Fixed(3)), 2, 1));
     let all = Counts {
@@ -188,8 +190,8 @@ fn every_edit_once(rt: HostRuntime) -> Result<(), Fail> {
         doctypes: 1,
         ..found(1, 0, 0, 0)
     };
-    assert_eq!(rt; count_inside(&rt, &tree, 0), all);
-    assert_eq!(rt; count_inside(&rt, &tree, 1), found(1, 0, 0, 0));
+    assert_eq!(rt; count_inside(&tree, 0), Some(all));
+    assert_eq!(rt; count_inside(&tree, 1), Some(found(1, 0, 0, 0)));
     Ok(())
 }
 
@@ -211,7 +213,7 @@ fn missing_attributes_are_added_once(rt: HostRuntime) -> Result<(), Fail> {
             attributes,
         },
     );
-    assert_eq!(rt; count_inside(&rt, &tree, 0), found(1, 2, 0, 0));
+    assert_eq!(rt; count_inside(&tree, 0), Some(found(1, 2, 0, 0)));
     Ok(())
 }
 
@@ -228,7 +230,7 @@ fn a_million_siblings(rt: HostRuntime) -> Result<(), Fail> {
         comments: 1_000_000,
         ..found(0, 0, 0, 0)
     };
-    assert_eq!(rt; count_inside(&rt, &tree, 0), all);
+    assert_eq!(rt; count_inside(&tree, 0), Some(all));
     Ok(())
 }
 
@@ -256,6 +258,6 @@ fn many_children_before_one_table(rt: HostRuntime) -> Result<(), Fail> {
         comments: 100_000,
         ..found(1, 0, 100_000, 100_000)
     };
-    assert_eq!(rt; count_inside(&rt, &tree, 1), all);
+    assert_eq!(rt; count_inside(&tree, 1), Some(all));
     Ok(())
 }
