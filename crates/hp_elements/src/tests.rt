@@ -31,8 +31,10 @@ fn texts_side_by_side_join(rt: HostRuntime) -> Result<(), Fail> {
     let mut text = Text::of_page(page, 0, 3);
     assert!(rt; text.join(Text::of_page(page, 3, 7)).is_none());
     assert_eq!(rt; text.as_str(), "one two");
-    let apart = text.join(Text::of_page(page, 8, 12));
-    assert_eq!(rt; apart.unwrap().as_str(), " and");
+    match text.join(Text::of_page(page, 8, 12)) {
+        Some(apart) => assert_eq!(rt; apart.as_str(), " and"),
+        None => panic!(rt; "these texts stand apart"),
+    }
     assert_eq!(rt; text.as_str(), "one two");
     let mut own = text.copy(rt.alloc())?;
     own.push(rt.alloc(), '!')?;
@@ -50,8 +52,10 @@ fn lists_grow(rt: HostRuntime) -> Result<(), Fail> {
     for item in 0..5 {
         list.push(rt.alloc(), item)?;
     }
+    assert_eq!(rt; list.len(), 5);
     list.insert(rt.alloc(), 2, 9)?;
     assert_eq!(rt; list.as_slice(), [0, 1, 9, 2, 3, 4].as_slice());
+    assert_eq!(rt; list.len(), 6);
     assert_eq!(rt; list.remove(0), 0);
     assert_eq!(rt; list.pop(), Some(4));
     assert_eq!(rt; list.as_slice(), [1, 9, 2, 3].as_slice());
