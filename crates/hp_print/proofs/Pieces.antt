@@ -1,7 +1,7 @@
 -- Pieces that are printed one after the other.
 use Rattle.std.proofs.Common.{◌≡◌, ℕ, List, [], ◌+◌, ◌++◌, length, subst, sym, append_assoc, append-nil, length-append, arith}
-use Rattle.hp_print.specs.declared.out.Out.{Out}
-use Rattle.hp_print.specs.declared.out.Out.TheVariants.{Counting, Writing}
+use Rattle.hp_print.specs.declared.output.Out.{Out}
+use Rattle.hp_print.specs.declared.output.Out.TheVariants.{Counting, Writing}
 use Rattle.hp_print.specs.Out.{Has, Prints}
 
 sym_assoc : (x y z : List ℕ) → x ++ (y ++ z) ≡ (x ++ y) ++ z

@@ -12,7 +12,7 @@ use Rattle.hp_arena.specs.Readers.{shown}
 use Rattle.hp_arena.specs.declared.readers.NodeView.{NodeView}
 use Rattle.hp_arena.specs.declared.readers.NodeView.TheVariants as node
 use Rattle.hp_arena.specs.Arena.{Seen}
-use Rattle.hp_print.specs.declared.out.Out.{Out}
+use Rattle.hp_print.specs.declared.output.Out.{Out}
 use Rattle.hp_print.specs.declared.walk.Mark.{Mark}
 use Rattle.hp_print.specs.Out.{Prints}
 use Rattle.hp_print.specs.Print.{lines, inside, own_lines, extra, tag_extra, is_template, print}

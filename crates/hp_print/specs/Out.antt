@@ -1,7 +1,7 @@
 -- What was printed so far.
 use Rattle.std.specs.Prelude.{◌≡◌, ℕ, List, ◌++◌, length}
-use Rattle.hp_print.specs.declared.out.Out.{Out}
-use Rattle.hp_print.specs.declared.out.Out.TheVariants.{Counting, Writing}
+use Rattle.hp_print.specs.declared.output.Out.{Out}
+use Rattle.hp_print.specs.declared.output.Out.TheVariants.{Counting, Writing}
 
 -- what was printed are these bytes: they are counted, or written
 abbrev pub Has : Out → List ℕ → Type 0

@@ -3,7 +3,7 @@ use Rattle.std.specs.Prelude.{◌≡◌, ℕ, zero, suc, ◌+◌, ◌-◌, ◌<�
 use Rattle.hp_control.specs.Tree.{Tree, Item, branch, HasChild}
 use Rattle.hp_arena.specs.Arena.{Seen}
 use Rattle.hp_arena.specs.Readers.{IsAt}
-use Rattle.hp_print.specs.declared.out.Out.{Out}
+use Rattle.hp_print.specs.declared.output.Out.{Out}
 use Rattle.hp_print.specs.declared.walk.Mark.{Mark}
 use Rattle.hp_print.specs.Out.{Prints}
 use Rattle.hp_print.specs.Print.{lines, inside}

@@ -10,7 +10,7 @@ ghost use Rattle.hp_print.specs.Out.{Prints};
 ghost use Rattle.hp_print.specs.Print.{attribute_line, attribute_lines};
 ghost use Rattle.hp_print.specs.Shown.{attribute_of, attributes_of};
 
-use crate::out::Out;
+use crate::output::Out;
 use hp_elements::{Attribute, AttributeSpace, Chain, NoMemory};
 use std::alloc::Global;
 use std::cmp::Ordering;

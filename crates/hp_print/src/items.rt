@@ -9,7 +9,7 @@ ghost use Rattle.hp_print.specs.Out.{Prints};
 ghost use Rattle.hp_print.specs.Print.{opening, namespace_word, is_template, contents_line, element_lines, text_line, comment_line, identifiers, doctype_line, own_lines, tag_extra};
 
 use crate::attributes::print_attributes;
-use crate::out::Out;
+use crate::output::Out;
 use hp_arena::NodeView;
 use hp_elements::{Chain, Known, Namespace, NoMemory, Tag, Text};
 use std::alloc::Global;

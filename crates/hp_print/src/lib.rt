@@ -3,7 +3,7 @@
 
 mod attributes;
 mod items;
-mod out;
+mod output;
 mod walk;
 
 pub use hp_elements::NoMemory;

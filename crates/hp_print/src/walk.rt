@@ -7,7 +7,7 @@ ghost use Rattle.hp_print.specs.Print.{print};
 ghost use Rattle.hp_print.specs.Stack.{IsDeep, IsMark, Pushed, Stepped, lines_at, steps_at};
 
 use crate::items::{extra_depth, print_item};
-use crate::out::Out;
+use crate::output::Out;
 use hp_arena::{At, NodeView, Tree};
 use hp_elements::NoMemory;
 use std::alloc::Global;

@@ -1,6 +1,6 @@
 use Rattle.std.proofs.Common.{◌≡◌, ◌-◌, ◌+◌, ◌≤◌, ap, ◌∙◌, arith}
 use Rattle.hp_print.proofs.Blanks.{blanks_more, blanks_part}
-use Rattle.hp_print.proofs.out.push_blanks.Goals as goal
+use Rattle.hp_print.proofs.output.push_blanks.Goals as goal
 
 pub loop-left-preserved : goal.loop-left-preserved
 loop-left-preserved c =

@@ -1,5 +1,5 @@
 use Rattle.std.proofs.Common.{◌≡◌, ◌≤◌, ◌-◌, ◌++◌, replicate}
-use Rattle.hp_print.proofs.out.push_blanks.Given as goal
+use Rattle.hp_print.proofs.output.push_blanks.Given as goal
 
 -- as many spaces as aren't left are there
 abbrev pub invariant-loop-left : goal.invariant-loop-left
