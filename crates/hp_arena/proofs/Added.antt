@@ -1,25 +1,25 @@
 -- A whole tree, after a leaf was put at a place, or a text got more.
-use Rattle.std.proofs.Common.{◌≡◌, ◌≢◌, ℕ, zero, suc, ◌+◌, ◌-◌, ◌<◌, ◌≤◌, append_assoc, List, [], ◌∷◌, ◌++◌, Bool, true, false, length, map, refl, sym, ap, ◌∙◌, subst, arith, get_or, inl, inr, vec_len}
+use Rattle.std.proofs.Common.{◌≡◌, ℕ, zero, suc, ◌+◌, ◌-◌, ◌<◌, ◌≤◌, append_assoc, List, [], ◌∷◌, ◌++◌, false, length, refl, sym, ap, ◌∙◌, subst, arith, get_or, inl, inr, vec_len}
 use Rattle.std.specs.List.{concat}
 use Rattle.std.proofs.lemmas.Bool.{cases_eq}
-use Rattle.std.proofs.lemmas.List.{length-append, append-nil, get_or-set_same, get_or-set_other, length-set, get_or_default}
+use Rattle.std.proofs.lemmas.List.{length-append, append-nil, get_or-set_same, get_or-set_other, length-set}
 use Rattle.std.proofs.Math.ListN.{set}
 use Rattle.hp_control.specs.Tree as item
 use Rattle.hp_arena.proofs.Shapes.{AreLeaves}
 use Rattle.hp_control.specs.Tree.{Item, put, is_element}
 use Rattle.hp_control.specs.declared.edit.Place.{Place}
 use Rattle.hp_arena.specs.Ring.{inserted}
-use Rattle.hp_arena.specs.Nodes.{links_of, kind_of, IsRelinked}
+use Rattle.hp_arena.specs.Nodes.{links_of, IsRelinked}
 use Rattle.hp_arena.specs.Leaves.{leaf_item, leaf_items, leaf_at, no_leaf, text_of, run_count, IsDoctypeIn, IsTextAdded}
 use Rattle.hp_arena.specs.Shape.{IsSound, IsTree, IsLeafAdded, IsPlaceIn, at_of, branches_of, item_of, items_in, seen, with_leaf}
 use Rattle.hp_arena.specs.declared.links.Node.{Node}
 use Rattle.hp_arena.specs.declared.leaves.Doctype.{Doctype as DoctypeOf}
 use Rattle.hp_arena.specs.declared.leaves.Leaf.{Leaf as LeafOf}
-use Rattle.hp_arena.specs.declared.leaves.Leaf.TheVariants.{Text, Comment, Doctype}
-use Rattle.hp_arena.specs.declared.tree.Tree.TheInside.{Inside}
+use Rattle.hp_arena.specs.declared.leaves.Leaf.TheVariants.{Text}
+use Rattle.hp_arena.specs.declared.arena.Arena.TheInside.{Inside}
 use Rattle.hp_arena.proofs.Glue.{tree_in}
 use Rattle.hp_arena.proofs.Intos.{StaysApart}
-use Rattle.hp_arena.proofs.Items.{length-leaf_items, item-at, leaves-plain, AreLeaves-push}
+use Rattle.hp_arena.proofs.Items.{length-leaf_items, leaves-plain, AreLeaves-push}
 use Rattle.hp_arena.proofs.Places.{at-in}
 use Rattle.hp_arena.proofs.Texts.{IsTree-put_leaf, branches-put_leaf}
 

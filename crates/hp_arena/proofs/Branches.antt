@@ -1,13 +1,13 @@
 -- What the branches become.
-use Rattle.std.proofs.Common.{◌≡◌, ◌≢◌, ℕ, ◌+◌, ◌<◌, List, [], ◌∷◌, ◌++◌, length, map, refl, sym, ap, ◌∙◌, subst, get_or, inl, inr, arith}
+use Rattle.std.proofs.Common.{◌≡◌, ◌≢◌, ℕ, ◌+◌, ◌<◌, List, length, map, sym, ap, ◌∙◌, subst, get_or, inl, inr}
 use Rattle.std.proofs.lemmas.Bool.{cases_eq}
 use Rattle.std.proofs.lemmas.List.{ext_get_or, get_or-map, length-map, get_or-set_same, get_or-set_other}
 use Rattle.std.proofs.Math.ListN.{set, length-set}
-use Rattle.hp_control.specs.Tree.{Branch, Item, Tree, in_one, with_inside, no_branch, branch}
+use Rattle.hp_control.specs.Tree.{Item, Tree, in_one, with_inside, no_branch, branch}
 use Rattle.hp_arena.specs.Nodes.{inside}
-use Rattle.hp_arena.specs.Shape.{IsTree, item_of, branch_of, branches_of, node_of, no_element}
+use Rattle.hp_arena.specs.Shape.{item_of, branch_of, branches_of, node_of, no_element}
 use Rattle.hp_arena.specs.declared.links.Node.{Node}
-use Rattle.hp_arena.specs.declared.tree.Element.{Element as ElementOf}
+use Rattle.hp_arena.specs.declared.arena.Element.{Element as ElementOf}
 use Rattle.hp_arena.proofs.Shapes.{make_branch}
 
 -- the items of the list of children of an element

@@ -1,12 +1,12 @@
 -- No element stands in two lists of children.
-use Rattle.std.proofs.Common.{◌≡◌, ◌≢◌, ℕ, ◌+◌, ◌<◌, List, [], ◌∷◌, ◌++◌, Bool, true, false, ◌==◌, length, sym, ap, ◌∙◌, subst, refl, inl, inr}
+use Rattle.std.proofs.Common.{◌≡◌, ℕ, ◌+◌, ◌<◌, List, [], ◌∷◌, Bool, true, ◌==◌, length, sym, ap, ◌∙◌, subst, inl, inr}
 use Rattle.std.specs.List.{list_any}
 use Rattle.std.proofs.lemmas.Bool.{true≢false, cases_eq}
-use Rattle.hp_arena.specs.Ring.{Links, Follows, Path}
-use Rattle.hp_arena.specs.Nodes.{links_of, kind_of, stops, inside}
+use Rattle.hp_arena.specs.Ring.{Links, Path}
+use Rattle.hp_arena.specs.Nodes.{links_of, stops, inside}
 use Rattle.hp_arena.specs.Shape.{IsTree, node_of}
 use Rattle.hp_arena.specs.declared.links.Node.{Node}
-use Rattle.hp_arena.specs.declared.tree.Element.{Element as ElementOf}
+use Rattle.hp_arena.specs.declared.arena.Element.{Element as ElementOf}
 use Rattle.hp_arena.proofs.Walks.{Inner, Later, Path-later, inside-inner}
 use Rattle.hp_arena.proofs.Shapes.{stops-end}
 use Rattle.hp_arena.proofs.Intos.{ends-apart}

@@ -1,22 +1,21 @@
 -- What is put before an element that has a parent.
-use Rattle.std.proofs.Common.{◌≡◌, ◌≢◌, ℕ, zero, suc, ◌+◌, ◌-◌, ◌<◌, ◌≤◌, List, [], ◌∷◌, ◌++◌, Bool, true, false, not, ◌==◌, eqb, if◌then◌else◌, length, map, refl, sym, ap, ◌∙◌, subst, arith, get_or, inl, inr}
+use Rattle.std.proofs.Common.{◌≡◌, ◌≢◌, ℕ, zero, suc, ◌+◌, ◌-◌, ◌<◌, ◌≤◌, List, [], ◌∷◌, ◌++◌, Bool, true, false, ◌==◌, eqb, length, map, refl, sym, ap, ◌∙◌, subst, arith, get_or, inl, inr}
 use Rattle.std.specs.List.{list_any, IsDistinct, AllByRecursion}
-use Rattle.std.proofs.lemmas.Bool.{true≢false, cases_lt, cases_eq, cases_Bool, cond-true, cond-false, eq-eqb, ne_eqb, eqb-true, eqb-false}
+use Rattle.std.proofs.lemmas.Bool.{true≢false, cases_eq, cases_Bool, cond-true, cond-false, eq-eqb, ne_eqb, eqb-true, eqb-false}
 use Rattle.std.proofs.lemmas.List.{length-map}
-use Rattle.hp_control.specs.Tree.{Item, Branch, Tree, is_element, beside, put_before, has_parent, stands_in, branch, no_branch}
-use Rattle.hp_control.specs.Tree as item
+use Rattle.hp_control.specs.Tree.{Item, Branch, is_element, beside, put_before, has_parent, stands_in, branch, no_branch}
 use Rattle.hp_arena.specs.Ring.{Links, Path}
-use Rattle.hp_arena.specs.Nodes.{links_of, kind_of, stops, inside, is_end, end_from}
-use Rattle.hp_arena.specs.Shape.{IsTree, IsListed, item_of, kind_item, branches_of, branch_of, node_of}
+use Rattle.hp_arena.specs.Nodes.{links_of, stops, inside, is_end, end_from}
+use Rattle.hp_arena.specs.Shape.{IsTree, IsListed, item_of, branches_of, branch_of, node_of}
 use Rattle.hp_arena.specs.declared.links.Node.{Node}
-use Rattle.hp_arena.specs.declared.tree.Element.{Element as ElementOf}
-use Rattle.hp_arena.proofs.Branches.{items_of, branch-at}
-use Rattle.hp_arena.proofs.Detaching.{end-not_node, node-below}
+use Rattle.hp_arena.specs.declared.arena.Element.{Element as ElementOf}
+use Rattle.hp_arena.proofs.Branches.{branch-at}
+use Rattle.hp_arena.proofs.Detaching.{end-not_node}
 use Rattle.hp_arena.proofs.Forests.{one_list}
 use Rattle.hp_arena.proofs.Intos.{StaysApart, ends-apart}
 use Rattle.hp_arena.proofs.Paths.{put_in, is_in, Avoids, alone-not_on_path, or-left, or-right}
 use Rattle.hp_arena.proofs.Shapes.{AreLeaves, is_element-item, stops-end}
-use Rattle.hp_arena.proofs.Walks.{Inner, inside-inner, Path-distinct, Later, Path-later, Path-length, inner-below}
+use Rattle.hp_arena.proofs.Walks.{Inner, inside-inner, Path-distinct, Later, Path-later, Path-length}
 
 eqb-swap : (a b : ℕ) (c : Bool) → (a == b) ≡ c → (b == a) ≡ c
 eqb-swap a b c h =

@@ -1,10 +1,9 @@
 -- The facts of a whole tree, once its nodes have other links.
-use Rattle.std.proofs.Common.{◌≡◌, ℕ, ◌+◌, ◌<◌, ◌^◌, ◌&&◌, Bool, true, false, length, List, slice_index_or, sym, ap, ◌∙◌, subst, vec_len, arith, refl}
-use Rattle.std.specs.Prelude.{nat_lt}
+use Rattle.std.proofs.Common.{◌≡◌, ℕ, ◌+◌, ◌<◌, ◌&&◌, Bool, true, false, length, List, slice_index_or, sym, ap, ◌∙◌, subst, arith, refl}
 use Rattle.std.specs.Vec.{with_items}
 use Rattle.std.proofs.lemmas.List.{with_items_is, length-map, get_or_read}
 use Rattle.std.proofs.lemmas.Bool.{true≢false}
-use Rattle.hp_control.specs.Tree.{Tree, Item, is_place, is_there, id_of}
+use Rattle.hp_control.specs.Tree.{Tree, is_place, is_there, id_of}
 use Rattle.hp_control.specs.declared.edit.Place.{Place}
 use Rattle.hp_control.specs.declared.edit.Place.TheVariants.{Into, Foster}
 use Rattle.hp_control.specs.declared.edit.Ref.{Ref}
@@ -13,8 +12,8 @@ use Rattle.hp_arena.specs.Arena.{Seen}
 use Rattle.hp_arena.specs.Shape.{IsSound, IsTree, seen, branch_of, branches_of, node_of, no_element, items_in, AreNodesIn, IsPlaceIn}
 use Rattle.hp_arena.specs.Nodes.{SameKinds, node_at, blank}
 use Rattle.hp_arena.specs.declared.links.Node.{Node}
-use Rattle.hp_arena.specs.declared.tree.Element.{Element as ElementOf}
-use Rattle.hp_arena.specs.declared.tree.Tree.TheInside.{Inside}
+use Rattle.hp_arena.specs.declared.arena.Element.{Element as ElementOf}
+use Rattle.hp_arena.specs.declared.arena.Arena.TheInside.{Inside}
 use Rattle.hp_arena.proofs.Items.{length-leaf_items}
 
 abbrev pub with_nodes : Inside → List Node → Inside

@@ -1,17 +1,17 @@
 -- Nodes are added that are alone.
-use Rattle.std.proofs.Common.{◌≡◌, ◌≢◌, ℕ, ◌+◌, ◌<◌, ◌≤◌, List, [], ◌∷◌, ◌++◌, Bool, true, false, length, map, arith, refl, sym, ap, ◌∙◌, subst, get_or, inl, inr, ◌⊎◌, ◌==◌}
-use Rattle.std.proofs.lemmas.Bool.{true≢false, cases_lt, cases_eq}
-use Rattle.std.proofs.lemmas.List.{get_or_past, length-append, get_or_append_left, get_or-append-add}
+use Rattle.std.proofs.Common.{◌≡◌, ◌≢◌, ℕ, ◌+◌, ◌<◌, ◌≤◌, List, [], ◌∷◌, ◌++◌, true, false, length, map, arith, refl, sym, ap, ◌∙◌, subst, inl, inr, ◌⊎◌, ◌==◌}
+use Rattle.std.proofs.lemmas.Bool.{cases_lt, cases_eq}
+use Rattle.std.proofs.lemmas.List.{length-append, get_or_append_left, get_or-append-add}
 use Rattle.std.proofs.Math.Seq.{get_or-append_seam}
 use Rattle.hp_control.specs.Tree.{Item}
-use Rattle.hp_arena.specs.Ring.{Links, Path, Follows}
+use Rattle.hp_arena.specs.Ring.{Path, Follows}
 use Rattle.hp_arena.specs.Nodes.{links_of, kind_of, stops, inside, node_at, blank, is_end, IsRinged, IsClosed}
 use Rattle.std.specs.List.{list_any}
 use Rattle.hp_arena.specs.Shape.{IsTree, IsListed, IsAtHome, node_of, item_of, kind_item, no_item, no_element, alone, with_leaf}
 use Rattle.hp_arena.specs.declared.links.Node.{Node}
 use Rattle.hp_arena.specs.declared.links.Kind.{Kind}
 use Rattle.hp_arena.specs.declared.links.Kind.TheVariants.{End, Element, Leaf}
-use Rattle.hp_arena.specs.declared.tree.Element.{Element as ElementOf}
+use Rattle.hp_arena.specs.declared.arena.Element.{Element as ElementOf}
 use Rattle.hp_arena.proofs.Walks.{Inner, inside-path, inside-inner, inner-below}
 use Rattle.hp_arena.proofs.Shapes.{stops-end}
 

@@ -1,5 +1,5 @@
 -- A node that is alone is put last among the children of an element.
-use Rattle.std.proofs.Common.{◌≡◌, ◌≢◌, ℕ, ◌+◌, ◌<◌, List, [], ◌∷◌, ◌++◌, Bool, true, false, ◌==◌, if◌then◌else◌, length, map, refl, sym, ap, ◌∙◌, subst, arith, inl}
+use Rattle.std.proofs.Common.{◌≡◌, ◌≢◌, ℕ, ◌+◌, ◌<◌, List, [], ◌∷◌, ◌++◌, false, ◌==◌, if◌then◌else◌, length, map, refl, sym, ap, ◌∙◌, subst, inl}
 use Rattle.std.proofs.lemmas.Bool.{true≢false, cond-true, cond-false, eq-eqb, ne_eqb}
 use Rattle.std.proofs.lemmas.List.{map-append, append-nil}
 use Rattle.hp_control.specs.Tree.{Item, Element, Text, Comment, Doctype, beside, put_last, in_one}
@@ -7,10 +7,8 @@ use Rattle.hp_arena.specs.Ring.{Links, Path, inserted}
 use Rattle.hp_arena.specs.Nodes.{links_of, kind_of, stops, inside, IsRelinked}
 use Rattle.hp_arena.specs.Shape.{IsTree, item_of, branches_of, node_of}
 use Rattle.hp_arena.specs.declared.links.Node.{Node}
-use Rattle.hp_arena.specs.declared.links.Kind.{Kind}
 use Rattle.hp_arena.specs.declared.links.Kind.TheVariants as kind
-use Rattle.hp_arena.specs.declared.tree.Element.{Element as ElementOf}
-use Rattle.hp_arena.proofs.Paths.{put_in}
+use Rattle.hp_arena.specs.declared.arena.Element.{Element as ElementOf}
 use Rattle.hp_arena.proofs.Walks.{inside-inner}
 use Rattle.hp_arena.proofs.Shapes.{stops-end}
 use Rattle.hp_arena.proofs.Detaching.{map-same_items}

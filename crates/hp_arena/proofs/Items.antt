@@ -1,13 +1,11 @@
 -- What the leaves mean, as they grow.
-use Rattle.std.proofs.Common.{◌≡◌, ℕ, zero, suc, ◌+◌, ◌<◌, ◌≤◌, List, [], ◌∷◌, ◌++◌, Bool, true, false, length, map, refl, sym, ap, ◌∙◌, subst, arith, get_or, inl, inr}
-use Rattle.std.specs.List.{concat}
-use Rattle.std.proofs.lemmas.Bool.{true≢false, cases_lt}
-use Rattle.std.proofs.lemmas.List.{map-append, length-map, get_or-map, get_or_past, get_or_append_left, append-nil}
+use Rattle.std.proofs.Common.{◌≡◌, ℕ, zero, suc, ◌<◌, List, [], ◌∷◌, ◌++◌, true, false, length, refl, sym, ap, ◌∙◌, subst, get_or}
+use Rattle.std.proofs.lemmas.Bool.{true≢false}
+use Rattle.std.proofs.lemmas.List.{map-append, length-map, get_or_append_left}
 use Rattle.hp_control.specs.Tree as item
 use Rattle.hp_control.specs.Tree.{Item, is_element}
-use Rattle.hp_arena.specs.Nodes.{kind_of}
-use Rattle.hp_arena.specs.Leaves.{leaf_item, leaf_items, leaf_at, no_leaf, no_doctype, doctype_item, text_of, is_text_of, is_text_leaf, IsTextAt, IsDoctypeIn}
-use Rattle.hp_arena.specs.Shape.{no_item, kind_item, is_text, AreNodesIn}
+use Rattle.hp_arena.specs.Leaves.{leaf_item, leaf_items, leaf_at, no_doctype, doctype_item, text_of, is_text_of, is_text_leaf, IsTextAt, IsDoctypeIn}
+use Rattle.hp_arena.specs.Shape.{no_item, kind_item, is_text}
 use Rattle.hp_arena.specs.declared.links.Node.{Node}
 use Rattle.hp_arena.specs.declared.links.Kind.{Kind}
 use Rattle.hp_arena.specs.declared.links.Kind.TheVariants.{End, Element, Leaf}

@@ -22,3 +22,4 @@ pub mod Forests
 pub mod Fosters
 pub mod Parents
 pub mod Tagging
+pub mod RootItems

@@ -1,15 +1,15 @@
 -- A new element, and the tree that has one element alone.
-use Rattle.std.proofs.Common.{◌≡◌, ℕ, ◌+◌, ◌<◌, List, [], ◌∷◌, ◌++◌, length, map, refl, sym, ap, ◌∙◌, subst, arith, get_or}
+use Rattle.std.proofs.Common.{◌≡◌, ℕ, ◌+◌, ◌<◌, List, [], ◌∷◌, ◌++◌, length, map, ap, ◌∙◌, subst, arith}
 use Rattle.std.proofs.lemmas.Bool.{true≢false}
 use Rattle.std.proofs.lemmas.List.{map-append, append-nil}
-use Rattle.hp_control.specs.Tree.{Branch, Item}
+use Rattle.hp_control.specs.Tree.{Item}
 use Rattle.hp_arena.specs.Nodes.{inside}
 use Rattle.hp_arena.specs.Shape.{IsTree, item_of, branch_of, branches_of, node_of}
 use Rattle.hp_arena.specs.declared.links.Node.{Node}
-use Rattle.hp_arena.specs.declared.tree.Element.{Element as ElementOf}
+use Rattle.hp_arena.specs.declared.arena.Element.{Element as ElementOf}
 use Rattle.hp_arena.proofs.Walks.{inside-inner}
 use Rattle.hp_arena.proofs.Shapes.{make_branch}
-use Rattle.hp_arena.proofs.Growing.{IsGrown, with_element, elements_more, IsAdded-element, IsTree-element, inside-new, inside-grown, map-grown_items}
+use Rattle.hp_arena.proofs.Growing.{IsGrown, with_element, IsAdded-element, inside-new, inside-grown, map-grown_items}
 use Rattle.hp_arena.proofs.Branches.{items_of, branches-same}
 
 -- the items of each list stay where nodes and leaves are added

@@ -1,14 +1,14 @@
 -- All children of an element are appended to those of another.
-use Rattle.std.proofs.Common.{if◌then◌else◌, ◌==◌, ◌≡◌, ◌≢◌, ℕ, ◌+◌, ◌<◌, List, [], ◌∷◌, ◌++◌, Bool, true, false, length, map, arith, sym, ap, ◌∙◌, subst, refl, inl, inr, get_or}
+use Rattle.std.proofs.Common.{if◌then◌else◌, ◌==◌, ◌≡◌, ◌≢◌, ℕ, ◌+◌, ◌<◌, List, [], ◌∷◌, ◌++◌, Bool, true, false, length, map, sym, ap, ◌∙◌, subst, refl, inl, inr, get_or}
 use Rattle.std.proofs.lemmas.Bool.{true≢false, cases_eq, cond-true, cond-false, eq-eqb, ne_eqb}
 use Rattle.std.proofs.lemmas.List.{ext_get_or, length-map, map-append, get_or-set_same, get_or-set_other, append-nil}
-use Rattle.std.proofs.Math.ListN.{set, length-set}
-use Rattle.hp_control.specs.Tree.{Branch, Item, Tree, branch, no_branch, with_inside, in_one, children_moved}
-use Rattle.hp_arena.specs.Ring.{Links, Path, spliced}
-use Rattle.hp_arena.specs.Nodes.{is_end, links_of, kind_of, stops, inside, IsRinged, IsClosed, SameKinds, IsRelinked}
+use Rattle.std.proofs.Math.ListN.{length-set}
+use Rattle.hp_control.specs.Tree.{Item, Tree, branch, no_branch, with_inside, in_one, children_moved}
+use Rattle.hp_arena.specs.Ring.{Path, spliced}
+use Rattle.hp_arena.specs.Nodes.{is_end, links_of, stops, inside, IsRinged, IsRelinked}
 use Rattle.hp_arena.specs.Shape.{IsTree, IsListed, branches_of, branch_of, node_of, item_of, no_element}
 use Rattle.hp_arena.specs.declared.links.Node.{Node}
-use Rattle.hp_arena.specs.declared.tree.Element.{Element as ElementOf}
+use Rattle.hp_arena.specs.declared.arena.Element.{Element as ElementOf}
 use Rattle.hp_arena.proofs.Paths.{is_in, in-append_left, in-append_right}
 use Rattle.hp_arena.proofs.Rings.{Turns, alone-spliced}
 use Rattle.hp_arena.proofs.Walks.{Inner, inside-inner, inside-path}

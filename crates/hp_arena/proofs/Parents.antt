@@ -1,26 +1,20 @@
 -- Each child is there, and has one parent and one place; the document is no child.
-use Rattle.std.proofs.Common.{◌≡◌, ◌≢◌, ℕ, zero, suc, ◌+◌, ◌<◌, ◌≤◌, Some, None, slice_get, map, List, [], ◌∷◌, ◌++◌, Bool, true, false, ◌==◌, length, sym, ap, ◌∙◌, subst, refl, inl, inr}
+use Rattle.std.proofs.Common.{◌≡◌, ◌≢◌, ℕ, zero, suc, ◌+◌, ◌<◌, ◌≤◌, Some, None, slice_get, map, List, [], ◌∷◌, true, false, ◌==◌, length, sym, ap, ◌∙◌, subst, refl, inl, inr}
 use Rattle.std.specs.List.{list_any}
-use Rattle.std.proofs.lemmas.Bool.{true≢false, cases_eq, cases_lt, eq-eqb}
-use Rattle.hp_arena.specs.Ring.{Links, Follows, Path}
-use Rattle.hp_arena.specs.Nodes.{links_of, kind_of, stops, inside}
-use Rattle.hp_arena.specs.Shape.{IsTree, node_of}
-use Rattle.hp_arena.specs.declared.links.Node.{Node}
-use Rattle.hp_arena.specs.declared.tree.Element.{Element as ElementOf}
+use Rattle.std.proofs.lemmas.Bool.{true≢false, cases_lt, eq-eqb}
+use Rattle.hp_arena.specs.Nodes.{kind_of, inside}
+use Rattle.hp_arena.specs.Shape.{node_of}
 use Rattle.std.proofs.lemmas.List.{get_or_past}
 use Rattle.hp_control.specs.Tree.{Tree, Item, Element, branch, no_branch, is_element, HasChild, IsForest}
 use Rattle.hp_arena.specs.Shape.{IsSound, item_of, kind_item, items_in, seen}
 use Rattle.hp_arena.specs.declared.links.Kind.{Kind}
 use Rattle.hp_arena.specs.declared.links.Kind.TheVariants.{End, Leaf}
 use Rattle.hp_arena.specs.declared.links.Kind.TheVariants as kind
-use Rattle.hp_arena.specs.declared.tree.Tree.TheInside.{Inside}
+use Rattle.hp_arena.specs.declared.arena.Arena.TheInside.{Inside}
 use Rattle.hp_arena.proofs.Branches.{branch-at}
 use Rattle.hp_arena.proofs.Glue.{length-branches}
 use Rattle.hp_arena.proofs.Items.{leaves-plain}
 use Rattle.hp_arena.proofs.Reading.{Stands, stands-at, not_end, element-there, element-node, listed-there}
-use Rattle.hp_arena.proofs.Walks.{Inner, Later, Path-later, inside-inner}
-use Rattle.hp_arena.proofs.Shapes.{stops-end}
-use Rattle.hp_arena.proofs.Intos.{ends-apart}
 use Rattle.hp_arena.proofs.Forests.{one_list}
 
 no_item-at : (t : Tree) (id k child : ℕ) → length t ≤ id → HasChild t id k child → ⊥

@@ -1,8 +1,8 @@
-use Rattle.std.proofs.Common.{◌≡◌, ◌≢◌, ℕ, List, [], ◌∷◌, ◌++◌, eqb, ◌==◌, if◌then◌else◌, cond, Bool, true, false, arith, sym, refl, ap, ◌∙◌, subst, ◌||◌, inl, inr}
+use Rattle.std.proofs.Common.{◌≡◌, ◌≢◌, ℕ, List, [], ◌∷◌, ◌++◌, eqb, ◌==◌, if◌then◌else◌, Bool, true, false, arith, sym, refl, ap, ◌∙◌, subst, ◌||◌, inl, inr}
 use Rattle.std.specs.List.{list_any}
-use Rattle.std.proofs.lemmas.Bool.{or_cases, true≢false, cond-true, cond-false, eq-eqb, cond_both, eqb-true, eqb-false, ne_eqb}
+use Rattle.std.proofs.lemmas.Bool.{or_cases, true≢false, eq-eqb, cond_both, eqb-true, eqb-false, ne_eqb}
 use Rattle.std.proofs.lemmas.Bool.Decides.{nat_tests}
-use Rattle.hp_arena.specs.Ring.{Links, Follows, Path, joined, unlinked, inserted}
+use Rattle.hp_arena.specs.Ring.{Links, Follows, Path, unlinked, inserted}
 
 -- a test for equal numbers, at equal numbers and at others
 pub eqb-same : (a b : ℕ) → a ≡ b → eqb a b ≡ true

@@ -1,16 +1,15 @@
 -- A node that is alone is put before the node that a place leads to.
-use Rattle.std.proofs.Common.{◌≡◌, ◌≢◌, ℕ, ◌+◌, ◌<◌, List, [], ◌∷◌, ◌++◌, Bool, true, false, ◌==◌, length, map, refl, sym, ap, ◌∙◌, subst, arith, inl, inr}
+use Rattle.std.proofs.Common.{◌≡◌, ◌≢◌, ℕ, ◌+◌, ◌<◌, List, false, ◌==◌, length, map, refl, sym, ap, ◌∙◌, subst, inl, inr}
 use Rattle.std.proofs.lemmas.Bool.{cases_eq, cond-true, cond-false, eq-eqb, ne_eqb}
-use Rattle.hp_control.specs.Tree.{Item, Tree, put, put_into, put_before, in_one, in_each, put_last, has_parent, id_of, leads_into_document}
+use Rattle.hp_control.specs.Tree.{Item, put, put_into, put_before, in_each, has_parent, id_of, leads_into_document}
 use Rattle.hp_control.specs.declared.edit.Place.{Place}
 use Rattle.hp_control.specs.declared.edit.Ref.{Ref}
 use Rattle.hp_control.specs.declared.edit.Place.TheVariants.{Into, Foster}
-use Rattle.hp_arena.specs.Ring.{Links, Path, inserted}
-use Rattle.hp_arena.specs.Nodes.{links_of, kind_of, stops, inside, IsRelinked, end_from}
+use Rattle.hp_arena.specs.Ring.{inserted}
+use Rattle.hp_arena.specs.Nodes.{links_of, stops, inside, IsRelinked, end_from}
 use Rattle.hp_arena.specs.Shape.{IsTree, item_of, branches_of, node_of, at_of, IsPlaceIn}
 use Rattle.hp_arena.specs.declared.links.Node.{Node}
-use Rattle.hp_arena.specs.declared.tree.Element.{Element as ElementOf}
-use Rattle.hp_arena.proofs.Branches.{items_of}
+use Rattle.hp_arena.specs.declared.arena.Element.{Element as ElementOf}
 use Rattle.hp_arena.proofs.Detaching.{node-below, end-not_node, map-same_items}
 use Rattle.hp_arena.proofs.Fosters.{put_before-path, has_parent-none, has_parent-some, tests-own, distinct, inner-own, stands_in-document}
 use Rattle.hp_arena.proofs.Growing.{IsGrown, next-grown}

@@ -1,5 +1,5 @@
 -- An element is taken out of its list, and put at a place.
-use Rattle.std.proofs.Common.{◌≡◌, ◌≢◌, ℕ, ◌+◌, ◌<◌, List, length, sym, ap, ◌∙◌, false, refl, subst}
+use Rattle.std.proofs.Common.{◌≡◌, ◌≢◌, ℕ, ◌<◌, List, length, sym, ap, ◌∙◌, false, refl, subst}
 use Rattle.std.proofs.lemmas.Bool.{cond-true, eq-eqb}
 use Rattle.hp_control.specs.Tree.{detached, put, Element, Item}
 use Rattle.hp_control.specs.declared.edit.Place.{Place}
@@ -8,8 +8,7 @@ use Rattle.hp_arena.specs.Ring.{unlinked, inserted}
 use Rattle.hp_arena.specs.Shape.{IsTree, node_of, branches_of, item_of, kind_item, at_of, IsPlaceIn}
 use Rattle.hp_arena.specs.declared.links.Node.{Node}
 use Rattle.hp_arena.specs.declared.links.Kind.TheVariants as kind
-use Rattle.hp_arena.specs.declared.links.Kind.{Kind}
-use Rattle.hp_arena.specs.declared.tree.Element.{Element as ElementOf}
+use Rattle.hp_arena.specs.declared.arena.Element.{Element as ElementOf}
 use Rattle.hp_arena.proofs.Shapes.{AreLeaves}
 use Rattle.hp_arena.proofs.Detaching.{IsTree-detached, branches-detached}
 use Rattle.hp_arena.proofs.Intos.{element-apart, StaysApart}

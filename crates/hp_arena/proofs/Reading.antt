@@ -1,5 +1,5 @@
 -- What the readers find in the lists of children.
-use Rattle.std.proofs.Common.{◌≡◌, ◌≢◌, ℕ, zero, suc, ◌+◌, ◌<◌, ◌≤◌, ◌^◌, List, [], ◌∷◌, ◌++◌, Bool, true, false, ◌==◌, length, map, refl, sym, ap, ◌∙◌, subst, arith, get_or, inl, inr, Option, Some, None, slice_get, slice_index_or, vec_len}
+use Rattle.std.proofs.Common.{◌≡◌, ◌≢◌, ℕ, zero, suc, ◌+◌, ◌<◌, ◌≤◌, ◌^◌, List, [], ◌∷◌, Bool, true, false, ◌==◌, length, map, refl, sym, ap, ◌∙◌, subst, arith, inl, inr, Some, None, slice_get, slice_index_or}
 use Rattle.std.specs.List.{list_any}
 use Rattle.std.proofs.lemmas.Bool.{true≢false, cases_lt, cases_eq, eq-eqb}
 use Rattle.std.proofs.lemmas.List.{get_or-map, get_or_past, get_or_read, length-map}
@@ -8,18 +8,17 @@ use Rattle.hp_control.specs.Tree as item
 use Rattle.hp_arena.specs.Arena.{Seen}
 use Rattle.hp_arena.specs.Ring.{Links, Path}
 use Rattle.hp_arena.specs.Nodes.{links_of, kind_of, stops, inside, is_end, node_at, blank}
-use Rattle.hp_arena.specs.Readers.{IsAt}
+use Rattle.hp_arena.specs.Readers.{IsSpot}
 use Rattle.hp_arena.specs.Leaves.{leaf_item, leaf_at}
 use Rattle.hp_arena.specs.declared.leaves.Leaf.{Leaf as LeafOf}
 use Rattle.hp_arena.specs.declared.links.Kind.{Kind}
 use Rattle.hp_arena.specs.declared.links.Kind.TheVariants.{End, Element, Leaf}
-use Rattle.hp_arena.specs.Shape.{IsAtHome, tag_at, IsSound, IsTree, item_of, kind_item, branches_of, order_of, node_of, no_element, items_in, seen}
+use Rattle.hp_arena.specs.Shape.{IsAtHome, tag_at, IsSound, item_of, kind_item, order_of, node_of, no_element, items_in, seen}
 use Rattle.hp_arena.specs.declared.links.Node.{Node}
-use Rattle.hp_arena.specs.declared.readers.At.{At}
-use Rattle.hp_arena.specs.declared.tree.Element.{Element as ElementOf}
-use Rattle.hp_arena.specs.declared.tree.Tree.TheInside.{Inside}
-use Rattle.hp_arena.proofs.Branches.{items_of, branch-at}
-use Rattle.hp_arena.proofs.Glue.{tree_in}
+use Rattle.hp_arena.specs.declared.readers.Spot.{Spot}
+use Rattle.hp_arena.specs.declared.arena.Element.{Element as ElementOf}
+use Rattle.hp_arena.specs.declared.arena.Arena.TheInside.{Inside}
+use Rattle.hp_arena.proofs.Branches.{branch-at}
 use Rattle.hp_arena.proofs.Detaching.{end-not_node}
 use Rattle.hp_arena.proofs.Items.{item-at}
 use Rattle.hp_arena.proofs.Paths.{or-right, Avoids, alone-not_on_path}
@@ -113,9 +112,9 @@ module _ (a : Inside) (sound : IsSound a) where
         fits = omega (arith, place_in, length-list parent below, sound.room.numbers, a.nodes.ok.0);
       }
 
-  pub stands : (s : Seen) → seen a ≡ s → (at : At) → IsAt s at → Stands a at.parent at.place at.node
+  pub stands : (s : Seen) → seen a ≡ s → (at : Spot) → IsSpot s at → Stands a at.parent at.place at.node
   stands s view at h =
-      let own : slice_get (slice_index_or (order_of a.nodes.items a.elements.items) at.parent []) at.place ≡ Some at.node = subst (λ r. IsAt r at) (sym view) h in
+      let own : slice_get (slice_index_or (order_of a.nodes.items a.elements.items) at.parent []) at.place ≡ Some at.node = subst (λ r. IsSpot r at) (sym view) h in
       let below : at.parent < length a.elements.items = parent-below a.nodes.items a.elements.items at.parent at.place at.node own in
       let here : slice_get (lists at.parent) at.place ≡ Some at.node = ap (λ xs. slice_get xs at.place) (sym (order-at a.nodes.items a.elements.items at.parent below)) ∙ own in
       stands-at at.parent at.place at.node below here
@@ -133,8 +132,8 @@ module _ (a : Inside) (sound : IsSound a) where
       ∙ ap (λ b. length b.inside) (branch-at a.nodes.items a.elements.items (items_in a) id h)
       ∙ length-map (lists id) (item_of a.nodes.items (items_in a))
 
-  pub is_at-there : (s : Seen) → seen a ≡ s → (at : At) → at.parent < length a.elements.items → slice_get (lists at.parent) at.place ≡ Some at.node → IsAt s at
-  is_at-there s view at h here = subst (λ r. IsAt r at) view (ap (λ xs. slice_get xs at.place) (order-at a.nodes.items a.elements.items at.parent h) ∙ here)
+  pub is_at-there : (s : Seen) → seen a ≡ s → (at : Spot) → at.parent < length a.elements.items → slice_get (lists at.parent) at.place ≡ Some at.node → IsSpot s at
+  is_at-there s view at h here = subst (λ r. IsSpot r at) view (ap (λ xs. slice_get xs at.place) (order-at a.nodes.items a.elements.items at.parent h) ∙ here)
 
   pub last-there : (parent place node : ℕ) → Stands a parent place node → stops a.nodes.items ((links_of a.nodes.items).next node) ≡ true → length (lists parent) ≡ place + 1
   last-there parent place node st e = path-last (links_of a.nodes.items) (stops a.nodes.items) (node_of a.elements.items parent + 1) (lists parent) (node_of a.elements.items parent + 1) place node (sound.tree.ring parent st.parent_in) (inside-inner a.nodes.items (node_of a.elements.items parent + 1)) st.at e

@@ -1,7 +1,7 @@
 -- The edits of links keep every node in a ring.
-use Rattle.std.proofs.Common.{◌≡◌, ◌≢◌, ℕ, eqb, cond, arith, sym, ap, ◌∙◌}
-use Rattle.std.proofs.lemmas.Bool.Decides.{nat_tests, eqb_tells}
-use Rattle.hp_arena.specs.Ring.{Links, Follows, Path, joined, unlinked, inserted, spliced}
+use Rattle.std.proofs.Common.{◌≡◌, ◌≢◌, ℕ, arith, sym, ap, ◌∙◌}
+use Rattle.std.proofs.lemmas.Bool.Decides.{nat_tests}
+use Rattle.hp_arena.specs.Ring.{Links, unlinked, inserted, spliced}
 
 -- a node that comes back to itself over the node beside it
 pub record Turns (l : Links) (s : ℕ) : Type 0 where

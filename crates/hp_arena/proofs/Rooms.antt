@@ -1,16 +1,14 @@
 -- The room after an edit.
-use Rattle.std.proofs.Common.{◌≡◌, ◌≢◌, None, ℕ, ◌+◌, ◌-◌, ◌^◌, ◌<◌, ◌≤◌, List, [], ◌∷◌, ◌++◌, length, All, arith, ap, subst, sym, ◌∙◌, vec_len, vec_capacity, Vec, Global, slice_index_or, inl, inr}
+use Rattle.std.proofs.Common.{◌≡◌, ◌≢◌, None, ℕ, ◌+◌, ◌-◌, ◌<◌, ◌≤◌, List, [], ◌∷◌, ◌++◌, length, All, arith, ap, subst, sym, ◌∙◌, vec_len, vec_capacity, Vec, Global, slice_index_or, inl, inr}
 use Rattle.std.proofs.lemmas.Bool.{cases_lt, cases_eq}
 use Rattle.std.proofs.lemmas.List.{get_or_append_left, get_or_past, length-append}
 use Rattle.std.proofs.Math.Seq.{get_or-append_seam}
 use Rattle.std.specs.Vec.{with_items}
 use Rattle.std.proofs.lemmas.List.{with_items_is}
-use Rattle.hp_elements.specs.declared.chain.Chain.{Chain}
-use Rattle.hp_elements.specs.declared.text.Text.{Text as TextOf}
 use Rattle.hp_arena.specs.Leaves.{IsCell, run_count, leaf_at, no_leaf, IsDoctypeIn, IsTextAdded}
-use Rattle.hp_arena.specs.Shape.{IsSound, IsTree, HasRoom, attribute_count, tag_at, no_element}
-use Rattle.hp_arena.specs.declared.tree.Tree.TheInside.{Inside}
-use Rattle.hp_arena.specs.declared.tree.Element.{Element as ElementOf}
+use Rattle.hp_arena.specs.Shape.{IsSound, IsTree, attribute_count, tag_at, no_element}
+use Rattle.hp_arena.specs.declared.arena.Arena.TheInside.{Inside}
+use Rattle.hp_arena.specs.declared.arena.Element.{Element as ElementOf}
 use Rattle.hp_arena.specs.declared.leaves.Leaf.{Leaf as LeafOf}
 use Rattle.hp_arena.specs.declared.leaves.Leaf.TheVariants.{Text, Comment, Doctype}
 

@@ -1,20 +1,19 @@
 -- What an edit of the links does to the lists of children.
-use Rattle.std.proofs.Common.{◌≡◌, ◌≢◌, ℕ, zero, suc, ◌+◌, ◌<◌, ◌≤◌, List, [], ◌∷◌, ◌++◌, length, map, filter, eqb, ◌==◌, if◌then◌else◌, not, cond, Bool, true, false, arith, rules, sym, refl, ap, ◌∙◌, subst, get_or, inl, inr, Option}
+use Rattle.std.proofs.Common.{◌≡◌, ◌≢◌, ℕ, ◌+◌, ◌<◌, List, [], ◌∷◌, length, map, filter, ◌==◌, not, true, false, sym, refl, ap, ◌∙◌, subst, get_or, inl, inr, Option}
 use Rattle.std.specs.List.{list_any}
-use Rattle.std.proofs.lemmas.Bool.{cond_both, eqb-true, eqb-false, ne_eqb, true≢false, cases_Bool, cases_eq, eq-eqb, cond-true, cond-false}
+use Rattle.std.proofs.lemmas.Bool.{ne_eqb, true≢false, cases_Bool, cases_eq, eq-eqb}
 use Rattle.std.proofs.lemmas.List.{ext_get_or, get_or-map, length-map}
-use Rattle.std.proofs.lemmas.Bool.Decides.{nat_tests}
 use Rattle.hp_elements.specs.declared.tag.Tag.{Tag}
 use Rattle.hp_control.specs.Tree.{Branch, Item, is_element, in_each, with_inside, no_branch}
-use Rattle.hp_arena.specs.Ring.{Links, Follows, Path, joined, unlinked, inserted}
-use Rattle.hp_arena.specs.Nodes.{links_of, kind_of, is_end, stops, inside, node_at, blank, IsRing, IsRinged, IsClosed, SameKinds}
+use Rattle.hp_arena.specs.Ring.{Path}
+use Rattle.hp_arena.specs.Nodes.{links_of, kind_of, is_end, stops, inside, IsRinged, IsClosed, SameKinds}
 use Rattle.hp_arena.specs.Shape.{IsTree, IsAtHome, item_of, kind_item, branch_of, branches_of, node_of, no_element, no_item}
 use Rattle.hp_arena.specs.declared.links.Node.{Node}
 use Rattle.hp_arena.specs.declared.links.Kind.{Kind}
 use Rattle.hp_arena.specs.declared.links.Kind.TheVariants.{End, Element, Leaf}
-use Rattle.hp_arena.specs.declared.tree.Element.{Element as ElementOf}
-use Rattle.hp_arena.proofs.Paths.{without_node, put_in, Avoids}
-use Rattle.hp_arena.proofs.Walks.{Inner, inside-path, inside-inner, inner-below}
+use Rattle.hp_arena.specs.declared.arena.Element.{Element as ElementOf}
+use Rattle.hp_arena.proofs.Paths.{without_node}
+use Rattle.hp_arena.proofs.Walks.{Inner, inside-path, inner-below}
 
 -- the new nodes have this list of children for each element
 pub record Rewired (nodes : List Node) (elements : List ElementOf) (change : ℕ → List ℕ) : Type 0 where

@@ -1,8 +1,8 @@
 -- All that stands in one ring is put before the end of another.
-use Rattle.std.proofs.Common.{◌≡◌, ◌≢◌, ℕ, List, [], ◌∷◌, ◌++◌, Bool, true, false, eqb, cond, arith, sym, ap, ◌∙◌, subst, refl}
+use Rattle.std.proofs.Common.{◌≡◌, ◌≢◌, ℕ, List, [], ◌∷◌, ◌++◌, Bool, true, false, arith, sym, ap, ◌∙◌}
 use Rattle.std.proofs.lemmas.Bool.{true≢false}
 use Rattle.std.proofs.lemmas.Bool.Decides.{nat_tests}
-use Rattle.hp_arena.specs.Ring.{Links, Follows, Path, joined, spliced}
+use Rattle.hp_arena.specs.Ring.{Links, Follows, Path, spliced}
 use Rattle.hp_arena.proofs.Rings.{Turns}
 use Rattle.hp_arena.proofs.Walks.{Inner}
 

@@ -1,5 +1,5 @@
 -- An element gets another tag.
-use Rattle.std.proofs.Common.{◌≡◌, ◌≢◌, ℕ, zero, suc, ◌+◌, ◌-◌, ◌<◌, ◌≤◌, ◌==◌, List, [], ◌∷◌, ◌++◌, Bool, true, length, map, refl, sym, ap, ◌∙◌, subst, arith, get_or, inl, inr, Option, Some, None}
+use Rattle.std.proofs.Common.{◌≡◌, ◌≢◌, ℕ, zero, suc, ◌+◌, ◌-◌, ◌<◌, ◌≤◌, ◌==◌, List, [], ◌∷◌, ◌++◌, true, length, refl, sym, ap, ◌∙◌, subst, arith, get_or, inl, inr, Option, Some, None}
 use Rattle.std.specs.List.{list_any}
 use Rattle.std.proofs.lemmas.Bool.{cases_eq}
 use Rattle.std.proofs.lemmas.List.{get_or-set_same, get_or-set_other, length-set, map-set}
@@ -10,15 +10,15 @@ use Rattle.std.proofs.lemmas.List.{length-append, with_items_is}
 use Rattle.hp_elements.specs.declared.tag.Tag.{Tag}
 use Rattle.hp_elements.specs.declared.tag.Attribute.{Attribute}
 use Rattle.hp_arena.specs.Arena.{Seen}
-use Rattle.hp_arena.specs.declared.tree.Tree.TheInside.{Inside}
-use Rattle.hp_control.specs.Tree.{Branch, Item, Tree, branch, no_branch, with_tag, has_name, with_missing, with_attributes}
+use Rattle.hp_arena.specs.declared.arena.Arena.TheInside.{Inside}
+use Rattle.hp_control.specs.Tree.{Item, branch, with_tag, has_name, with_missing, with_attributes}
 use Rattle.hp_arena.specs.Ring.{Path}
 use Rattle.hp_arena.specs.Nodes.{links_of, kind_of, inside}
 use Rattle.hp_arena.specs.Shape.{IsTree, IsAtHome, IsListed, IsSound, seen, items_in, with_tag_at, branch_of, branches_of, node_of, no_element, tag_at, attribute_count}
 use Rattle.hp_arena.specs.declared.links.Node.{Node}
 use Rattle.hp_arena.specs.declared.links.Kind.{Kind}
 use Rattle.hp_arena.specs.declared.links.Kind.TheVariants.{End, Element, Leaf}
-use Rattle.hp_arena.specs.declared.tree.Element.{Element as ElementOf}
+use Rattle.hp_arena.specs.declared.arena.Element.{Element as ElementOf}
 use Rattle.hp_arena.proofs.Branches.{branch-at}
 use Rattle.hp_arena.proofs.Shapes.{make_branch}
 

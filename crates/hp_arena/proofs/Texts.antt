@@ -1,7 +1,7 @@
 -- Leaves: a new one is put at a place, or a text gets more.
-use Rattle.std.proofs.Common.{◌≡◌, ◌≢◌, ℕ, ◌+◌, ◌<◌, ◌≤◌, List, [], ◌∷◌, ◌++◌, Bool, true, false, length, map, refl, sym, ap, ◌∙◌, subst, arith, get_or, inl, inr, Option}
+use Rattle.std.proofs.Common.{◌≡◌, ◌≢◌, ℕ, ◌+◌, ◌<◌, List, [], ◌∷◌, ◌++◌, Bool, true, false, length, map, refl, sym, ap, ◌∙◌, subst, arith, get_or, inl, inr, Option}
 use Rattle.std.proofs.lemmas.Bool.{true≢false, cases_eq}
-use Rattle.std.proofs.lemmas.List.{length-append, append-nil, get_or-set_same, get_or-set_other, length-set}
+use Rattle.std.proofs.lemmas.List.{length-append, get_or-set_same, get_or-set_other, length-set}
 use Rattle.std.proofs.Math.ListN.{set}
 use Rattle.std.proofs.Math.Seq.{get_or-append_seam}
 use Rattle.hp_control.specs.Tree as item
@@ -10,18 +10,18 @@ use Rattle.hp_control.specs.declared.edit.Place.{Place}
 use Rattle.hp_control.specs.declared.edit.Place.TheVariants.{Into, Foster}
 use Rattle.hp_arena.specs.Ring.{Links, Path, inserted}
 use Rattle.hp_arena.specs.Nodes.{links_of, kind_of, stops, inside, is_end, node_at, IsRelinked}
-use Rattle.hp_arena.specs.Shape.{IsTree, IsAtHome, item_of, kind_item, no_item, branches_of, node_of, at_of, is_text, alone, with_leaf, IsPlaceIn}
+use Rattle.hp_arena.specs.Shape.{IsTree, item_of, kind_item, no_item, branches_of, node_of, at_of, is_text, alone, with_leaf, IsPlaceIn}
 use Rattle.hp_arena.specs.declared.links.Node.{Node}
 use Rattle.hp_arena.specs.declared.links.Kind.{Kind}
 use Rattle.hp_arena.specs.declared.links.Kind.TheVariants.{End, Element, Leaf}
-use Rattle.hp_arena.specs.declared.tree.Element.{Element as ElementOf}
+use Rattle.hp_arena.specs.declared.arena.Element.{Element as ElementOf}
 use Rattle.hp_arena.proofs.Walks.{Inner, inside-inner}
 use Rattle.hp_arena.proofs.Detaching.{node-below, end-not_node}
 use Rattle.hp_arena.proofs.Fosters.{joined_before-path, tests-own, distinct}
 use Rattle.hp_arena.proofs.Shapes.{AreLeaves, branches-each, stops-end}
 use Rattle.hp_arena.proofs.Growing.{IsAdded-leaf, IsTree-leaf, prev-grown, kind-grown, kind_item-more}
 use Rattle.hp_arena.proofs.Making.{items-grown}
-use Rattle.hp_arena.proofs.Branches.{items_of, branches-same, branches-one, branch-at, in_one-same}
+use Rattle.hp_arena.proofs.Branches.{branches-same, branches-one}
 use Rattle.hp_arena.proofs.Intos.{StaysApart, ends-apart}
 use Rattle.hp_arena.proofs.Places.{at-in, at-alone, at-table, put-alone, put-table, at-grown, IsTree-put, branches-put}
 

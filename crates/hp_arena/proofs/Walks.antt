@@ -1,11 +1,11 @@
 -- A path to an end is what a walk finds.
-use Rattle.std.proofs.Common.{◌≡◌, ◌≢◌, ℕ, zero, suc, ◌<◌, ◌≤◌, List, [], ◌∷◌, ◌++◌, length, eqb, ◌==◌, ◌||◌, if◌then◌else◌, cond, Bool, true, false, arith, rules, sym, refl, ap, ◌∙◌, subst, get_or, inl, inr}
+use Rattle.std.proofs.Common.{◌≡◌, ℕ, zero, suc, ◌<◌, ◌≤◌, List, [], ◌∷◌, length, eqb, ◌==◌, Bool, true, false, arith, sym, refl, ap, ◌∙◌, subst, inl, inr}
 use Rattle.std.specs.List.{IsDistinct, AllByRecursion, list_any}
-use Rattle.std.proofs.lemmas.Bool.{cond_both, eqb-true, eqb-false, ne_eqb, true≢false, cases_Bool, cases_lt, or_parts, or_cases, false_from_ne_true, cond-true, cond-false}
+use Rattle.std.proofs.lemmas.Bool.{cond_both, eqb-true, true≢false, cases_Bool, cases_lt, or_parts, or_cases, false_from_ne_true, cond-true, cond-false}
 use Rattle.std.proofs.lemmas.Map.Steps.{length-le_from_distinct_below}
 use Rattle.std.proofs.lemmas.List.{get_or_past}
-use Rattle.hp_arena.specs.Ring.{Links, Follows, Path}
-use Rattle.hp_arena.specs.Nodes.{links_of, kind_of, is_end, stops, walk, inside, node_at, blank, IsRing}
+use Rattle.hp_arena.specs.Ring.{Links, Path}
+use Rattle.hp_arena.specs.Nodes.{links_of, is_end, stops, walk, inside, blank}
 use Rattle.hp_arena.specs.declared.links.Node.{Node}
 
 -- none of these is an end

@@ -1,5 +1,5 @@
 -- What leaves mean.
-use Rattle.std.specs.Prelude.{◌≡◌, Bool, true, false, ℕ, ◌+◌, ◌<◌, ◌≤◌, ◌++◌, List, [], ◌∷◌, length, map, None, slice_index_or, slice_set}
+use Rattle.std.specs.Prelude.{◌≡◌, Bool, true, false, ℕ, ◌+◌, ◌<◌, ◌≤◌, ◌++◌, List, [], length, map, None, slice_index_or, slice_set}
 use Rattle.std.specs.List.{concat}
 use Rattle.hp_control.specs.Tree.{Item}
 use Rattle.hp_control.specs.Tree as item

@@ -4,3 +4,4 @@ pub mod Arena
 pub mod Leaves
 pub mod Shape
 pub mod Readers
+pub mod Roots

@@ -9,8 +9,8 @@ use Rattle.hp_control.specs.declared.edit.Place.TheVariants.{Into, Foster}
 use Rattle.hp_arena.specs.declared.links.Node.{Node}
 use Rattle.hp_arena.specs.declared.links.Kind.{Kind}
 use Rattle.hp_arena.specs.declared.links.Kind.TheVariants.{End, Element, Leaf}
-use Rattle.hp_arena.specs.declared.tree.Element.{Element as ElementOf}
-use Rattle.hp_arena.specs.declared.tree.Tree.TheInside.{Inside}
+use Rattle.hp_arena.specs.declared.arena.Element.{Element as ElementOf}
+use Rattle.hp_arena.specs.declared.arena.Arena.TheInside.{Inside}
 use Rattle.hp_arena.specs.Arena.{Seen}
 use Rattle.hp_arena.specs.Leaves.{leaf_items, leaf_at, run_count, IsCell, IsDoctypeIn}
 use Rattle.hp_arena.specs.Nodes.{kind_of, links_of, stops, inside, IsClosed, IsRinged, IsRing, IsRelinked}

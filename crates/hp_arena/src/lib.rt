@@ -1,11 +1,13 @@
 //! The document tree: nodes in one `Vec`, linked in rings, that edits change in constant time and without memory.
 #![tactic(auto)]
 
+mod arena;
 mod attributes;
 mod leaves;
 mod links;
 mod readers;
+mod roots;
 mod tree;
 
-pub use readers::{At, NodeView};
+pub use readers::{At, NodeView, Spot, is_template};
 pub use tree::Tree;

@@ -1,18 +1,34 @@
-//! The readers of a tree: from each list of children to its items, one after the other.
+//! What the readers of a tree hand out.
 
-use hp_elements::{Chain, Tag, Text};
+ghost use Rattle.std.specs.Prelude.{◌≡◌};
+ghost use Rattle.hp_arena.specs.Readers.{is_template};
+
+use hp_elements::{Chain, Known, Namespace, Tag, Text};
 
 /// Where an item stands: at which place in the list of children of which element, and by what number it is found.
 #[derive(Clone, Copy, PartialEq, Eq, Debug)]
-pub struct At {
+pub struct Spot {
     pub parent: u32,
     pub place: u32,
     pub node: u32,
 }
 
-/// What stands in a list of children.
+/// Where a reader stands in a tree.
+#[derive(Clone, Copy, PartialEq, Eq, Debug)]
+pub enum At {
+    Document,
+    /// An item in a list of children.
+    Child(Spot),
+    /// The contents of the template of this id.
+    Contents(u32),
+}
+
+/// What stands there.
 #[derive(Clone, Copy)]
 pub enum NodeView<'t, 'p> {
+    Document,
+    /// The contents of a template.
+    Contents,
     Doctype {
         name: &'t Text<'p>,
         public: Option<&'t Text<'p>>,
@@ -30,4 +46,11 @@ pub enum NodeView<'t, 'p> {
     Comment {
         text: &'t Text<'p>,
     },
+}
+
+/// Whether this is an HTML element `template`, whose contents stand inside it.
+pub fn is_template(tag: &Tag) -> bool
+    ensures { result ≡ is_template tag.now }
+{
+    tag.namespace == Namespace::Html && tag.name.is(Known::Template)
 }

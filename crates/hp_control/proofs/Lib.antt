@@ -1,1 +1,9 @@
 pub mod Rooms
+pub mod Reversed
+pub mod RestLemmas
+pub mod WalkLemmas
+pub mod NothingLemmas
+pub mod TextTests
+pub mod StartLemmas
+pub mod OlderLemmas
+pub mod PartLemmas

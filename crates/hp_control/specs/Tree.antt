@@ -1,5 +1,5 @@
 -- A document tree, and what the edits make of it.
-use Rattle.std.specs.Prelude.{◌≡◌, ℕ, ◌+◌, ◌<◌, ◌==◌, ◌&&◌, ◌||◌, Bool, true, false, not, if◌then◌else◌, List, [], ◌∷◌, ◌++◌, length, map, filter, slice_set, slice_get, slice_index_or, Option, Some, None, nat_lt, bytes_eq}
+use Rattle.std.specs.Prelude.{◌≡◌, ℕ, ◌<◌, ◌==◌, ◌&&◌, Bool, false, not, if◌then◌else◌, List, [], ◌∷◌, ◌++◌, length, map, filter, slice_set, slice_get, slice_index_or, Option, Some, None, nat_lt, bytes_eq}
 use Rattle.std.specs.List.{list_any}
 use Rattle.hp_elements.specs.declared.tag.Attribute.{Attribute}
 use Rattle.hp_elements.specs.declared.tag.Tag.{Tag}

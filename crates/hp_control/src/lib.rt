@@ -1,6 +1,31 @@
-//! The edits that build a document tree, and what each of them does to it.
+//! The edits that build a document tree, and what each of them does to it; the control state, what a chunk asks of an
+//! older one, and what it changes of it.
 #![tactic(auto)]
 
+mod below;
+mod change;
+mod control;
+mod copies;
 mod edit;
+mod element;
+mod kinds;
+pub mod laws;
+mod question;
+mod reset;
+mod sameness;
+mod spelled;
+mod stack;
+mod tags;
+mod truths;
+mod walks;
 
+pub use below::{Below, Guess, Nothing, Predictor};
+pub use change::{Change, FormChange, Refusal};
+pub use control::Control;
 pub use edit::{Child, Edit, Edits, Place, Ref};
+pub use element::{FormattingEntry, OpenElement};
+pub use kinds::{is_html, is_named, is_within};
+pub use question::{Answer, Assumptions, Crossing, EntryKind, FactKind, Kept, Question};
+pub use stack::Stack;
+pub use tags::same_tag;
+pub use truths::truth;

@@ -6,3 +6,5 @@ pub mod TextLemmas
 pub mod PlaceLemmas
 pub mod RowLemmas
 pub mod FindLemmas
+pub mod QuirksLemmas
+pub mod RespellingLemmas

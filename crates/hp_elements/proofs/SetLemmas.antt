@@ -49,7 +49,8 @@ sets_agree set namespace name =
     beq-true _ _
     (at_every (λ n. beq (not (bit_and (slice_index (masks_of namespace) (index_of n)) (mask_of set) == 0)) (turned set (is_member (members set) namespace (text_of n)))) (at_each set namespace) name)
 
-is_text : Option Known → List ℕ → Bool
+-- whether a text is that of a name
+unfoldable pub is_text : Option Known → List ℕ → Bool
 is_text None text = false
 is_text (Some name) text = bytes_eq (text_of name) text
 
@@ -62,7 +63,7 @@ unfolding named_at slots is_text
 lists_known s.ForeignEnds = refl
 lists_known _ = refl
 
-text_known : (o : Option Known) (text : List ℕ) → is_text o text ≡ true → known_of text ≡ None → ⊥
+pub text_known : (o : Option Known) (text : List ℕ) → is_text o text ≡ true → known_of text ≡ None → ⊥
 unfolding is_text
 text_known None text h n = true_false (sym h)
 text_known (Some name) text h n = some_none name (sym (known_of_text name) ∙ (ap known_of (bytes_eq-true (text_of name) text h) ∙ n))
@@ -71,7 +72,7 @@ and_false : (b : Bool) → (b && false) ≡ false
 and_false true = refl
 and_false false = refl
 
-differs : (text other : List ℕ) → (text ≡ other → ⊥) → bytes_eq text other ≡ false
+pub differs : (text other : List ℕ) → (text ≡ other → ⊥) → bytes_eq text other ≡ false
 differs text other h = go (bytes_eq text other) refl
   where
     go : (b : Bool) → bytes_eq text other ≡ b → b ≡ false

@@ -2,6 +2,9 @@ pub mod Names
 pub mod Sets
 pub mod SetMasks
 pub mod Kinds
+pub mod RawText
+pub mod Quirks
+pub mod Respelling
 pub mod Slots
 pub mod Spelling
 pub mod Texts

@@ -3,12 +3,16 @@
 
 mod act;
 mod chain;
+mod duplicate;
 mod find;
 mod kinds;
 mod known;
 mod list;
 mod name;
 mod places;
+mod quirks;
+mod raw_text;
+mod respelling;
 mod set_masks;
 mod sets;
 mod short;
@@ -21,10 +25,12 @@ mod token;
 
 pub use act::{Act, Scope, Test, Which};
 pub use chain::{Chain, ChainIter};
+pub use duplicate::Duplicate;
 pub use kinds::{Kinds, Point};
 pub use known::Known;
-pub use list::List;
+pub use list::{List, ListIntoIter};
 pub use name::Name;
+pub use respelling::{ForeignAttribute, Respelling};
 pub use sets::{Namespace, SetName, is_in};
 pub use std::alloc::AllocError as NoMemory;
 pub use tag::{Attribute, AttributeSpace, Tag};

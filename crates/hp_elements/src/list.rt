@@ -4,10 +4,11 @@ ghost use Rattle.std.specs.Option.{option_copied};
 ghost use Rattle.std.specs.List.{insert, remove};
 ghost use Rattle.std.specs.Slice.Iter.{iter_rest};
 
-use std::alloc::{AllocFailed, Global};
+use std::alloc::{AllocError, AllocFailed, Global};
 use std::marker::Model;
 use std::mem;
 use std::slice::Iter;
+use std::vec::IntoIter;
 
 /// Where the items of a list stand.
 #[derive(Drop)]
@@ -186,6 +187,22 @@ impl<T: Drop> List<T> {
         self.items = truncated(items, len);
     }
 
+    /// Moves all items of another list to the end of this one. At an `Err`, which comes only for want of memory, both lists are
+    /// as before.
+    pub fn append(&mut self, alloc: Global, other: &mut List<T>) -> Result<(), AllocError>
+        ensures ok { OnOk result (self.new ≡ self.old ++ other.old) }
+        ensures emptied { OnOk result (other.new ≡ []) }
+        ensures err { OnErr result (self.new ≡ self.old) }
+        ensures kept { OnErr result (other.new ≡ other.old) }
+    {
+        let front = mem::replace(&mut self.items, Items::Empty);
+        let back = mem::replace(&mut other.items, Items::Empty);
+        let (front, back, answer) = appended(alloc, front, back);
+        self.items = front;
+        other.items = back;
+        answer
+    }
+
     /// Drops all items.
     pub fn clear(&mut self)
         ensures { self.new ≡ [] }
@@ -194,7 +211,7 @@ impl<T: Drop> List<T> {
     }
 }
 
-ghost use Rattle.hp_elements.specs.Lists.{listed};
+ghost use Rattle.hp_elements.specs.Lists.{listed, left_of};
 
 /// The first so many items.
 fn truncated<T: Drop>(items: Items<T>, len: usize) -> Items<T>
@@ -328,5 +345,147 @@ fn before<T: Drop>(alloc: Global, item: T, only: T) -> (Items<T>, Result<(), All
             let answer = items.insert(0, item);
             (Items::Many(items), answer)
         }
+    }
+}
+
+/// All items in the first place, and none in the second; where there is no memory, the items as they are.
+fn appended<T: Drop>(
+    alloc: Global,
+    front: Items<T>,
+    back: Items<T>,
+) -> (Items<T>, Items<T>, Result<(), AllocError>)
+    ensures ok { OnOk result.2 (listed result.0 ≡ listed front ++ listed back) }
+    ensures emptied { OnOk result.2 (listed result.1 ≡ []) }
+    ensures err { OnErr result.2 (listed result.0 ≡ listed front) }
+    ensures kept { OnErr result.2 (listed result.1 ≡ listed back) }
+{
+    match front {
+        Items::Empty => (back, Items::Empty, Ok(())),
+        Items::One([first]) => before_all(alloc, first, back),
+        Items::Many(items) => behind(items, back),
+    }
+}
+
+/// An item before some items, and none; where there is no memory, the item, and the items as they are.
+fn before_all<T: Drop>(
+    alloc: Global,
+    first: T,
+    back: Items<T>,
+) -> (Items<T>, Items<T>, Result<(), AllocError>)
+    ensures ok { OnOk result.2 (listed result.0 ≡ first ∷ listed back) }
+    ensures emptied { OnOk result.2 (listed result.1 ≡ []) }
+    ensures err { OnErr result.2 (listed result.0 ≡ first ∷ []) }
+    ensures kept { OnErr result.2 (listed result.1 ≡ listed back) }
+{
+    match back {
+        Items::Empty => (Items::One([first]), Items::Empty, Ok(())),
+        Items::One([second]) => {
+            let (items, answer) = two(alloc, first, second);
+            match answer {
+                Ok(()) => (items, Items::Empty, Ok(())),
+                Err(failed) => (items, Items::One([failed.value]), Err(AllocError)),
+            }
+        }
+        Items::Many(mut items) => match items.insert(0, first) {
+            Ok(()) => (Items::Many(items), Items::Empty, Ok(())),
+            Err(failed) => (
+                Items::One([failed.value]),
+                Items::Many(items),
+                Err(AllocError),
+            ),
+        },
+    }
+}
+
+/// Some items behind others, and none; where there is no memory, both as they are.
+fn behind<T: Drop>(
+    mut items: Vec<T>,
+    back: Items<T>,
+) -> (Items<T>, Items<T>, Result<(), AllocError>)
+    ensures ok { OnOk result.2 (listed result.0 ≡ items.items ++ listed back) }
+    ensures emptied { OnOk result.2 (listed result.1 ≡ []) }
+    ensures err { OnErr result.2 (listed result.0 ≡ items.items) }
+    ensures kept { OnErr result.2 (listed result.1 ≡ listed back) }
+{
+    match back {
+        Items::Empty => (Items::Many(items), Items::Empty, Ok(())),
+        Items::One([last]) => match items.push(last) {
+            Ok(()) => (Items::Many(items), Items::Empty, Ok(())),
+            Err(failed) => (
+                Items::Many(items),
+                Items::One([failed.value]),
+                Err(AllocError),
+            ),
+        },
+        Items::Many(mut more) => {
+            let answer = items.append(&mut more);
+            (Items::Many(items), Items::Many(more), answer)
+        }
+    }
+}
+
+/// The items of a list that are still to come.
+#[derive(Drop)]
+enum Left<T> {
+    One(Option<T>),
+    Many(IntoIter<T>),
+}
+
+/// Takes the items of a list, in order.
+#[derive(Drop)]
+pub struct ListIntoIter<T> {
+    left: Left<T>,
+}
+
+impl<T> Model for ListIntoIter<T> {
+    ghost use Rattle.std.specs.Prelude.{List};
+
+    ghost Value = { List T };
+
+    ghost use Rattle.hp_elements.specs.Lists.{left_of};
+
+    ghost view = { λ i. left_of i.left };
+}
+
+impl<T: Drop> Iterator for ListIntoIter<T> {
+    type Item = T;
+
+    ghost use Rattle.std.specs.Iterator.{YieldsFirst, item_count};
+
+    ghost next_gives = { YieldsFirst (λ rest. rest) };
+
+    ghost remaining = { item_count (λ rest. rest) };
+
+    fn next(&mut self) -> Option<T> {
+        match &mut self.left {
+            Left::One(item) => item.take(),
+            Left::Many(items) => items.next(),
+        }
+    }
+}
+
+impl<T: Drop> IntoIterator for List<T> {
+    type Item = T;
+
+    type IntoIter = ListIntoIter<T>;
+
+    ghost into_iter_gives = { λ list items. items ≡ list };
+
+    fn into_iter(self) -> ListIntoIter<T> {
+        let List { items } = self;
+        ListIntoIter {
+            left: all_left(items),
+        }
+    }
+}
+
+/// Some items, all still to come.
+fn all_left<T: Drop>(items: Items<T>) -> Left<T>
+    ensures { left_of result ≡ listed items }
+{
+    match items {
+        Items::Empty => Left::One(None),
+        Items::One([item]) => Left::One(Some(item)),
+        Items::Many(items) => Left::Many(items.into_iter()),
     }
 }

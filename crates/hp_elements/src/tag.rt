@@ -1,9 +1,11 @@
 //! Tags and their attributes.
+ghost use Rattle.std.specs.Prelude.{◌≡◌, ◌↔◌, IfOk, IsTrue};
 
 use crate::chain::Chain;
 use crate::name::Name;
 use crate::sets::Namespace;
 use crate::text::Text;
+use std::alloc::{AllocError, Global};
 
 /// The namespace of an attribute; `Plain` is none.
 #[derive(Clone, Copy, PartialEq, Eq)]
@@ -28,4 +30,81 @@ pub struct Tag {
     pub namespace: Namespace,
     pub name: Name,
     pub attributes: Chain<Attribute>,
+}
+
+impl Attribute {
+    /// An attribute that equals this one.
+    pub fn copy(&self, alloc: Global) -> Result<Attribute, AllocError>
+        ensures { IfOk result (λ copy. copy ≡ self.now) }
+    {
+        let name = self.name.copy(alloc)?;
+        let value = self.value.copy(alloc)?;
+        Ok(Attribute {
+            space: self.space,
+            name,
+            value,
+        })
+    }
+}
+
+impl Attribute {
+    /// Whether two attributes have the same namespace, name and value.
+    pub fn same(&self, other: &Attribute) -> bool
+        ensures { IsTrue result ↔ (self.now ≡ other.now) }
+    {
+        self.space == other.space && self.name.same(&other.name) && self.value.same(&other.value)
+    }
+}
+
+impl Tag {
+    /// A tag that equals this one.
+    pub fn copy(&self, alloc: Global) -> Result<Tag, AllocError>
+        ensures { IfOk result (λ copy. copy ≡ self.now) }
+    {
+        let name = self.name.copy(alloc)?;
+        let attributes = copied(alloc, &self.attributes)?;
+        Ok(Tag {
+            namespace: self.namespace,
+            name,
+            attributes,
+        })
+    }
+
+    /// Whether two tags have the same namespace, the same name and the same attributes in the same order.
+    pub fn same(&self, other: &Tag) -> bool
+        ensures { IsTrue result ↔ (self.now ≡ other.now) }
+    {
+        self.namespace == other.namespace
+            && self.name.same(&other.name)
+            && are_same(&self.attributes, &other.attributes)
+    }
+}
+
+/// Attributes that equal these.
+fn copied(alloc: Global, attributes: &Chain<Attribute>) -> Result<Chain<Attribute>, AllocError>
+    ensures { IfOk result (λ copy. copy ≡ attributes.now) }
+{
+    let mut copy = Chain::new();
+    for attribute in attributes.iter() {
+        copy.push(alloc, attribute.copy(alloc)?)?;
+    }
+    Ok(copy)
+}
+
+/// Whether the attributes are the same, in the same order.
+fn are_same(some: &Chain<Attribute>, others: &Chain<Attribute>) -> bool
+    ensures { IsTrue result ↔ (some.now ≡ others.now) }
+{
+    let mut others = others.iter();
+    for attribute in some.iter() {
+        match others.next() {
+            None => return false,
+            Some(other) => {
+                if !attribute.same(other) {
+                    return false;
+                }
+            }
+        }
+    }
+    others.next().is_none()
 }

@@ -1,5 +1,9 @@
 //! Calls that take memory, and the sizes of the types that a page is made of.
-use crate::{Attribute, Chain, CharClass, Known, List, Name, Tag, Text, Token};
+use crate::{
+    Attribute, AttributeSpace, Chain, CharClass, Doctype, DoctypeParts, Known, List, Name,
+    Namespace, Respelling, Rest, Tag, Text, Token,
+};
+use std::alloc::{AllocError, Global};
 use std::test::Fail;
 
 #[test]
@@ -79,5 +83,197 @@ fn types_are_small(rt: HostRuntime) -> Result<(), Fail> {
     assert!(rt; size_of::<Token<'static>>() <= 64);
     assert!(rt; size_of::<List<Token<'static>>>() <= 72);
     assert!(rt; CharClass::of('\u{c}') == CharClass::White);
+    Ok(())
+}
+
+#[test]
+fn every_known_name_is_found(rt: HostRuntime) -> Result<(), Fail> {
+    for place in 0..240 {
+        match Known::at(place) {
+            None => panic!(rt; "there are 240 names"),
+            Some(known) => {
+                let text = known.text();
+                assert_eq!(rt; known.index(), place);
+                assert!(rt; Known::find(text.as_bytes()) == Some(known), "{text}");
+                let mut upper = String::from_str(rt.alloc(), text)?;
+                upper.make_ascii_uppercase();
+                assert!(rt; Known::find(upper.as_bytes()).is_none(), "{upper}");
+                let name = Name::from_lowered(rt.alloc(), upper.as_str())?;
+                assert!(rt; name.same_without_case(&Name::of_known(known)), "{upper}");
+                let mut lower = upper;
+                lower.make_ascii_lowercase();
+                assert_eq!(rt; name.as_str(), lower.as_str());
+            }
+        }
+    }
+    assert!(rt; Known::at(240).is_none());
+    Ok(())
+}
+
+#[test]
+fn names_are_respelled(rt: HostRuntime) -> Result<(), Fail> {
+    for (name, table, spelling) in [
+        ("foreignobject", Respelling::SvgNames, "foreignObject"),
+        ("viewbox", Respelling::SvgAttributes, "viewBox"),
+        (
+            "definitionurl",
+            Respelling::MathMlAttributes,
+            "definitionURL",
+        ),
+        ("glyphref", Respelling::SvgNames, "glyphRef"),
+        ("glyphref", Respelling::SvgAttributes, "glyphRef"),
+        ("viewbox", Respelling::SvgNames, ""),
+        ("definitionurl", Respelling::SvgAttributes, ""),
+        ("viewBox", Respelling::SvgAttributes, ""),
+        ("title", Respelling::SvgNames, ""),
+        ("", Respelling::SvgNames, ""),
+    ] {
+        let name = Name::from_text(rt.alloc(), name)?;
+        match name.respelling(table) {
+            None => assert_eq!(rt; spelling, ""),
+            Some(known) => assert_eq!(rt; known.text(), spelling),
+        }
+    }
+    for (name, space, local) in [
+        ("xlink:href", AttributeSpace::Xlink, "href"),
+        ("xml:space", AttributeSpace::Xml, "space"),
+        ("xmlns", AttributeSpace::Xmlns, "xmlns"),
+        ("xmlns:xlink", AttributeSpace::Xmlns, "xlink"),
+        ("xml:base", AttributeSpace::Plain, ""),
+        ("href", AttributeSpace::Plain, ""),
+    ] {
+        match Name::from_text(rt.alloc(), name)?.foreign_attribute() {
+            None => assert_eq!(rt; local, "", "{name}"),
+            Some(found) => {
+                assert!(rt; found.space == space, "{name}");
+                assert_eq!(rt; found.local.text(), local);
+            }
+        }
+    }
+    Ok(())
+}
+
+#[test]
+fn doctypes_give_quirks(rt: HostRuntime) -> Result<(), Fail> {
+    for (name, public, system, quirks) in [
+        ("html", None, None, false),
+        ("HTML", None, None, false),
+        ("htm", None, None, true),
+        ("html", Some("HTML"), None, true),
+        (
+            "html",
+            Some("-//W3C//DTD HTML 3.2 Draft//EN"),
+            Some("x"),
+            true,
+        ),
+        ("html", Some("-//IETF//DTD HTML"), Some("x"), true),
+        (
+            "html",
+            Some("-//W3C//DTD HTML 4.01 Frameset//EN"),
+            None,
+            true,
+        ),
+        (
+            "html",
+            Some("-//W3C//DTD HTML 4.01 Frameset//EN"),
+            Some(""),
+            false,
+        ),
+        ("html", Some("-//W3C//DTD HTML 4.01//EN"), None, false),
+        ("html", None, Some("about:legacy-compat"), false),
+    ] {
+        let parts = DoctypeParts {
+            name: Some(Text::from_str(rt.alloc(), name)?),
+            public: part(rt.alloc(), public)?,
+            system: part(rt.alloc(), system)?,
+            force_quirks: false,
+        };
+        let doctype = Doctype::new(rt.alloc(), parts)?;
+        assert!(rt; doctype.parts().gives_quirks() == quirks, "{name}");
+        let mut parts = doctype.into_parts();
+        parts.force_quirks = true;
+        assert!(rt; parts.gives_quirks(), "{name}");
+        parts.force_quirks = false;
+        parts.name = None;
+        assert!(rt; parts.gives_quirks(), "{name}");
+    }
+    assert!(rt; Known::Title.raw_text() == Some(Rest::Rcdata));
+    assert!(rt; Known::Script.raw_text() == Some(Rest::Script));
+    assert!(rt; Known::Noframes.raw_text() == Some(Rest::Rawtext));
+    assert!(rt; Known::Div.raw_text().is_none());
+    Ok(())
+}
+
+/// A part of a doctype.
+fn part(alloc: Global, text: Option<&'static str>) -> Result<Option<Text<'static>>, AllocError> {
+    match text {
+        None => Ok(None),
+        Some(text) => Ok(Some(Text::from_str(alloc, text)?)),
+    }
+}
+
+#[test]
+fn tags_are_copied(rt: HostRuntime) -> Result<(), Fail> {
+    let mut attributes = Chain::new();
+    for (name, value) in [
+        ("class", "a"),
+        ("data-a-name-of-its-own", "a value on the heap"),
+    ] {
+        let attribute = Attribute {
+            space: AttributeSpace::Plain,
+            name: Name::from_text(rt.alloc(), name)?,
+            value: Text::from_str(rt.alloc(), value)?,
+        };
+        attributes.push(rt.alloc(), attribute)?;
+    }
+    let tag = Tag {
+        namespace: Namespace::Svg,
+        name: Name::of_known(Known::Title),
+        attributes,
+    };
+    let mut copy = tag.copy(rt.alloc())?;
+    assert!(rt; copy.same(&tag));
+    assert_eq!(rt; copy.attributes.len(), 2);
+    assert!(rt; copy.attributes.pop_front().is_some());
+    assert!(rt; !copy.same(&tag));
+    assert!(rt; !tag.same(&copy));
+    let mut names = List::of_one(tag.name.copy(rt.alloc())?);
+    names.push(rt.alloc(), Name::of_known(Known::Svg))?;
+    assert_eq!(rt; names.copy(rt.alloc())?.len(), 2);
+    let token = Token::Start {
+        self_closing: true,
+        tag,
+    };
+    assert!(rt; token.copy(rt.alloc())?.kind() == token.kind());
+    Ok(())
+}
+
+#[test]
+fn lists_are_appended(rt: HostRuntime) -> Result<(), Fail> {
+    for (front, back) in [
+        (0, 0),
+        (0, 2),
+        (1, 0),
+        (1, 1),
+        (1, 3),
+        (2, 0),
+        (2, 1),
+        (2, 2),
+    ] {
+        let mut list: List<u32> = List::new();
+        let mut more: List<u32> = List::new();
+        for item in 0..front {
+            list.push(rt.alloc(), item)?;
+        }
+        for item in front..front + back {
+            more.push(rt.alloc(), item)?;
+        }
+        list.append(rt.alloc(), &mut more)?;
+        assert!(rt; more.is_empty());
+        assert_eq!(rt; list.len(), front as usize + back as usize);
+        for (at, item) in list.into_iter().enumerate() {
+            assert_eq!(rt; at, item as usize);
+        }
+    }
     Ok(())
 }

@@ -127,11 +127,35 @@ impl<'p> Doctype<'p> {
         &self.parts
     }
 
+    /// A doctype of equal parts.
+    pub fn copy(&self, alloc: Global) -> Result<Doctype<'static>, AllocError>
+        ensures { IfOk result (λ copy. copy ≡ self.now) }
+    {
+        let parts = &self.parts;
+        let copy = DoctypeParts {
+            name: copied_part(alloc, &parts.name)?,
+            public: copied_part(alloc, &parts.public)?,
+            system: copied_part(alloc, &parts.system)?,
+            force_quirks: parts.force_quirks,
+        };
+        Doctype::new(alloc, copy)
+    }
+
     /// Gives the parts back.
     pub fn into_parts(self) -> DoctypeParts<'p>
         ensures { result ≡ self.entry }
     {
         Box::into_inner(self.parts)
+    }
+}
+
+/// A part that equals a part of a doctype.
+fn copied_part(alloc: Global, part: &Option<Text<'_>>) -> Result<Option<Text<'static>>, AllocError>
+    ensures { IfOk result (λ copy. copy ≡ part.now) }
+{
+    match part {
+        None => Ok(None),
+        Some(text) => Ok(Some(text.copy(alloc)?)),
     }
 }
 
@@ -163,6 +187,41 @@ impl<'p> Token<'p> {
             Token::Comment { .. } => Kind::Comment,
             Token::Doctype { .. } => Kind::Doctype,
             Token::EndOfInput => Kind::EndOfInput,
+        }
+    }
+
+    /// A token that equals this one and owns its texts.
+    pub fn copy(&self, alloc: Global) -> Result<Token<'static>, AllocError>
+        ensures { IfOk result (λ copy. copy ≡ self.now) }
+    {
+        match self {
+            Token::Characters { class, text } => {
+                let text = text.copy(alloc)?;
+                Ok(Token::Characters {
+                    class: *class,
+                    text,
+                })
+            }
+            Token::Start { self_closing, tag } => {
+                let tag = tag.copy(alloc)?;
+                Ok(Token::Start {
+                    self_closing: *self_closing,
+                    tag,
+                })
+            }
+            Token::EndTag { name } => {
+                let name = name.copy(alloc)?;
+                Ok(Token::EndTag { name })
+            }
+            Token::Comment { text } => {
+                let text = text.copy(alloc)?;
+                Ok(Token::Comment { text })
+            }
+            Token::Doctype { doctype } => {
+                let doctype = doctype.copy(alloc)?;
+                Ok(Token::Doctype { doctype })
+            }
+            Token::EndOfInput => Ok(Token::EndOfInput),
         }
     }
 }

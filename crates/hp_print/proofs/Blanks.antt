@@ -1,5 +1,5 @@
 -- Spaces in a row.
-use Rattle.std.proofs.Common.{◌≡◌, ℕ, ◌+◌, ◌≤◌, List, ◌++◌, replicate, ap, sym, ◌∙◌, refl, append_assoc, take}
+use Rattle.std.proofs.Common.{◌≡◌, ℕ, ◌+◌, ◌≤◌, List, ◌++◌, replicate, ap, sym, ◌∙◌, append_assoc, take}
 use Rattle.std.proofs.lemmas.List.{replicate-append-replicate, take-replicate}
 
 -- some spaces and more spaces

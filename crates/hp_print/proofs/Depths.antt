@@ -1,11 +1,11 @@
 -- How far an element of a forest stands below the document.
-use Rattle.std.proofs.Common.{◌≡◌, ℕ, zero, suc, ◌+◌, ◌-◌, ◌<◌, ◌≤◌, List, [], ◌∷◌, length, get_or, arith, refl, sym, ap, subst, eqb, true, false, inl, inr, Some, None, slice_get}
+use Rattle.std.proofs.Common.{◌≡◌, ℕ, zero, suc, ◌-◌, ◌<◌, ◌≤◌, List, [], ◌∷◌, length, get_or, arith, refl, sym, ap, subst, eqb, true, false, inl, inr}
 use Rattle.std.specs.List.{list_any}
-use Rattle.std.proofs.lemmas.Bool.{ne_eqb, eqb-true, or_cases, true≢false, cases_lt}
+use Rattle.std.proofs.lemmas.Bool.{ne_eqb, eqb-true, or_cases, true≢false}
 use Rattle.std.proofs.lemmas.List.{get_or_default}
 use Rattle.std.proofs.lemmas.Map.Steps.{length-le_from_distinct_below}
 use Rattle.std.proofs.lemmas.Map.Keys.{IsDistinct-from_apart}
-use Rattle.hp_control.specs.Tree.{Tree, HasChild, IsForest}
+use Rattle.hp_control.specs.Tree.{Tree, IsForest}
 use Rattle.hp_print.specs.Stack.{IsDeep}
 
 -- an element that is somewhere below the document is there

@@ -1,8 +1,8 @@
 -- Pieces that are printed one after the other.
 use Rattle.std.proofs.Common.{◌≡◌, ℕ, List, [], ◌+◌, ◌++◌, length, subst, sym, append_assoc, append-nil, length-append, arith}
 use Rattle.hp_print.specs.declared.output.Out.{Out}
-use Rattle.hp_print.specs.declared.output.Out.TheVariants.{Counting, Writing}
-use Rattle.hp_print.specs.Out.{Has, Prints}
+use Rattle.hp_print.specs.declared.output.Out.TheVariants.{Counting}
+use Rattle.hp_print.specs.Out.{Prints}
 
 sym_assoc : (x y z : List ℕ) → x ++ (y ++ z) ≡ (x ++ y) ++ z
 sym_assoc x y z = sym (append_assoc x y z)

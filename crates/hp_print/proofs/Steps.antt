@@ -1,21 +1,25 @@
 -- The steps of the walk.
-use Rattle.std.proofs.Common.{◌≡◌, ℕ, zero, suc, ◌+◌, ◌-◌, ◌<◌, ◌≤◌, List, [], ◌∷◌, ◌++◌, length, drop, get_or, arith, refl, sym, ap, ◌∙◌, subst, Some, slice_get, append_assoc, append-nil, add-one, length-append}
+use Rattle.std.proofs.Common.{◌≡◌, ℕ, zero, suc, ◌+◌, ◌-◌, ◌<◌, ◌≤◌, List, [], ◌∷◌, ◌++◌, length, drop, get_or, arith, refl, sym, ap, ◌∙◌, Some, slice_get, append_assoc, append-nil, add-one}
 use Rattle.std.proofs.lemmas.Option.{slice_get-get_or, slice_get_within}
-use Rattle.std.proofs.lemmas.List.{drop_all}
 use Rattle.std.proofs.Math.Seq.{drop-cons}
 use Rattle.std.specs.Prelude.{Option, None, true, false, if◌then◌else◌}
 use Rattle.std.specs.Borrow.{Bor}
 use Rattle.hp_elements.specs.declared.tag.Tag.{Tag}
 use Rattle.hp_control.specs.Tree.{Tree, Item, branch, HasChild, IsForest}
 use Rattle.hp_control.specs.Tree as item
-use Rattle.hp_arena.specs.Readers.{shown}
+use Rattle.std.specs.Option.{option_copied}
+use Rattle.std.specs.List.{concat}
+use Rattle.std.proofs.lemmas.Bool.{true≢false}
+use Rattle.hp_arena.specs.Readers.{shown, is_item, is_template, IsAt, IsIn, IsShown, parent_of, place_of, siblings}
+use Rattle.hp_arena.specs.declared.readers.At.{At}
+use Rattle.hp_arena.specs.declared.readers.At.TheVariants as at
 use Rattle.hp_arena.specs.declared.readers.NodeView.{NodeView}
 use Rattle.hp_arena.specs.declared.readers.NodeView.TheVariants as node
 use Rattle.hp_arena.specs.Arena.{Seen}
 use Rattle.hp_print.specs.declared.output.Out.{Out}
 use Rattle.hp_print.specs.declared.walk.Mark.{Mark}
 use Rattle.hp_print.specs.Out.{Prints}
-use Rattle.hp_print.specs.Print.{lines, inside, own_lines, extra, tag_extra, is_template, print}
+use Rattle.hp_print.specs.Print.{lines, inside, own_lines, extra, tag_extra, print}
 use Rattle.hp_print.specs.Stack.{lines_at, steps_at, rest, mark_lines, mark_steps, pending, work, todo, IsDeep, IsMark, AreMarks, Pushed, Stepped}
 use Rattle.hp_print.proofs.Depths.{deep-room}
 
@@ -89,21 +93,21 @@ drop_at xs n x e =
 
 -- what is left after the item at a mark
 abbrev pub after : Tree → Mark → List Item
-after t m = drop (m.at.place + 1) (branch t m.at.parent).inside
+after t m = drop ((place_of m.at) + 1) (branch t (parent_of m.at)).inside
 
 abbrev pub IsItemAt : Tree → Mark → Item → Type 0
-IsItemAt t m x = slice_get (branch t m.at.parent).inside m.at.place ≡ Some x
+IsItemAt t m x = slice_get (branch t (parent_of m.at)).inside (place_of m.at) ≡ Some x
 
 mark-text : (t : Tree) (m : Mark) (x : Item) → m.level < length t → IsItemAt t m x
     → mark_lines t m ≡ own_lines t (m.level + m.templates) x ++ lines t (length t - m.level - 1) (m.level + m.templates + 1 + extra t x) (inside t x) ++ lines_at t m.level m.templates (after t m)
 mark-text t m x room item =
-    ap (lines_at t m.level m.templates) (drop_at (branch t m.at.parent).inside m.at.place x item)
+    ap (lines_at t m.level m.templates) (drop_at (branch t (parent_of m.at)).inside (place_of m.at) x item)
     ∙ lines-some t (length t - m.level) (m.level + m.templates) x (after t m) (omega arith)
 
 mark-work : (t : Tree) (m : Mark) (x : Item) → m.level < length t → IsItemAt t m x
     → mark_steps t m ≡ work t (length t - m.level - 1) (inside t x) + 2 + work t (length t - m.level) (after t m) + 1
 mark-work t m x room item =
-    ap (steps_at t m.level) (drop_at (branch t m.at.parent).inside m.at.place x item)
+    ap (steps_at t m.level) (drop_at (branch t (parent_of m.at)).inside (place_of m.at) x item)
     ∙ ap (λ n. n + 1) (work-some t (length t - m.level) x (after t m) (omega arith))
 
 -- what is left after the item was marked
@@ -121,7 +125,7 @@ pub stepped_leaf : (t : Seen) (m : Mark) (x : Item) (old new : List Mark) (befor
     → NextPushed t m old new → Prints before after (own_lines t.branches (m.level + m.templates) x) → Stepped t m old new before after
 stepped_leaf t m x old new before after f is item leaf pushed printed =
     let b = t.branches in
-    let room : m.level < length b = deep-room b f m.level m.at.parent is.deep in
+    let room : m.level < length b = deep-room b f m.level (parent_of m.at) is.deep in
     let none : lines b (length b - m.level - 1) (m.level + m.templates + 1 + extra b x) (inside b x) ≡ [] = ap (lines b (length b - m.level - 1) (m.level + m.templates + 1 + extra b x)) leaf ∙ lines-none b (length b - m.level - 1) (m.level + m.templates + 1 + extra b x) in
     record {
       piece = own_lines b (m.level + m.templates) x;
@@ -137,7 +141,7 @@ pub stepped_element : (t : Seen) (m : Mark) (x : Item) (templates : ℕ) (old mi
     → Pushed t mid new (lines_at t.branches (m.level + 1) templates (inside t.branches x)) (steps_at t.branches (m.level + 1) (inside t.branches x)) → Stepped t m old new before after
 stepped_element t m x templates old mid new before after f is item more pushed printed below =
     let b = t.branches in
-    let room : m.level < length b = deep-room b f m.level m.at.parent is.deep in
+    let room : m.level < length b = deep-room b f m.level (parent_of m.at) is.deep in
     let left : length b - (m.level + 1) ≡ length b - m.level - 1 = omega arith in
     let depth : m.level + 1 + templates ≡ m.level + m.templates + 1 + extra b x = omega arith in
     let inner : lines_at b (m.level + 1) templates (inside b x) ≡ lines b (length b - m.level - 1) (m.level + m.templates + 1 + extra b x) (inside b x) =
@@ -152,8 +156,8 @@ stepped_element t m x templates old mid new before after f is item more pushed p
     }
 
 -- an item is one element below its list
-pub child_deep : (t : Tree) (m : Mark) (id : ℕ) → IsItemAt t m (item.Element id) → IsDeep t m.level m.at.parent → IsDeep t (m.level + 1) id
-child_deep t m id has deep = rw add-one (m.at.parent, m.at.place, (has, deep))
+pub child_deep : (t : Tree) (m : Mark) (id : ℕ) → IsItemAt t m (item.Element id) → IsDeep t m.level (parent_of m.at) → IsDeep t (m.level + 1) id
+child_deep t m id has deep = rw add-one ((parent_of m.at), (place_of m.at), (has, deep))
 
 pub extra_at_most : (t : Tree) (x : Item) → extra t x ≤ 1
 extra_at_most t (item.Element id) = tag_at_most (branch t id).tag where
@@ -164,12 +168,50 @@ extra_at_most t (item.Text text) = omega arith
 extra_at_most t (item.Comment text) = omega arith
 extra_at_most t (item.Doctype name public system) = omega arith
 
+-- what stands at a place in a list of children is in the tree, at that place
+pub in-there : (t : Seen) (parent place : ℕ) (a : At) → IsIn t parent place a → IsAt t a
+in-there t parent place at.Document h = absurd h
+in-there t parent place (at.Child spot) h = h.1.1
+in-there t parent place (at.Contents id) h = absurd h
+
+pub in-place : (t : Seen) (parent place : ℕ) (a : At) → IsIn t parent place a → (parent_of a ≡ parent) × (place_of a ≡ place)
+in-place t parent place at.Document h = absurd h
+in-place t parent place (at.Child spot) h = (h.0, h.1.0)
+in-place t parent place (at.Contents id) h = absurd h
+
+pub in-own : (t : Seen) (parent place : ℕ) (a : At) → IsIn t parent place a → IsIn t (parent_of a) (place_of a) a
+in-own t parent place at.Document h = absurd h
+in-own t parent place (at.Child spot) h = (refl, (refl, h.1.1))
+in-own t parent place (at.Contents id) h = absurd h
+
+pub in-siblings : (t : Seen) (parent place : ℕ) (a : At) → IsIn t parent place a → siblings t.branches a ≡ (branch t.branches (parent_of a)).inside
+in-siblings t parent place at.Document h = absurd h
+in-siblings t parent place (at.Child spot) h = refl
+in-siblings t parent place (at.Contents id) h = absurd h
+
+pub in-shown : (t : Seen) (parent place : ℕ) (a : At) (view : NodeView) → IsIn t parent place a → IsShown t.branches a view
+    → (slice_get (branch t.branches (parent_of a)).inside (place_of a) ≡ shown view) × (is_item view ≡ true)
+in-shown t parent place at.Document view h is = absurd h
+in-shown t parent place (at.Child spot) view h is = is
+in-shown t parent place (at.Contents id) view h is = absurd h
+
+-- the view of an item shows it
+pub item_shown : (view : NodeView) → is_item view ≡ true → (x : Item) × (shown view ≡ Some x)
+item_shown node.Document h = absurd (true≢false (sym h))
+item_shown node.Contents h = absurd (true≢false (sym h))
+item_shown (node.Doctype name public system) h = (_, refl)
+item_shown (node.Element id tag) h = (_, refl)
+item_shown (node.Text runs) h = (_, refl)
+item_shown (node.Comment text) h = (_, refl)
+
 -- nothing stands inside what is no element
-pub leaf_inside : (t : Tree) (view : NodeView) → ((id : ℕ) (tag : Bor Tag) → view ≡ node.Element id tag → ⊥) → inside t (shown view) ≡ []
-leaf_inside t (node.Doctype name public system) not_element = refl
-leaf_inside t (node.Element id tag) not_element = absurd (not_element id tag refl)
-leaf_inside t (node.Text runs) not_element = refl
-leaf_inside t (node.Comment text) not_element = refl
+pub leaf_inside : (t : Tree) (view : NodeView) (x : Item) → shown view ≡ Some x → ((id : ℕ) (tag : Bor Tag) → view ≡ node.Element id tag → ⊥) → inside t x ≡ []
+leaf_inside t node.Document x is not_element = cc is
+leaf_inside t node.Contents x is not_element = cc is
+leaf_inside t (node.Doctype name public system) x is not_element = let same : item.Doctype name.now (option_copied public) (option_copied system) ≡ x = cc is in ap (inside t) (sym same)
+leaf_inside t (node.Element id tag) x is not_element = absurd (not_element id tag refl)
+leaf_inside t (node.Text runs) x is not_element = let same : item.Text (concat runs.now) ≡ x = cc is in ap (inside t) (sym same)
+leaf_inside t (node.Comment text) x is not_element = let same : item.Comment text.now ≡ x = cc is in ap (inside t) (sym same)
 
 -- the whole text is that of what stands inside the document
 pub whole_text : (t : Tree) → lines_at t 0 0 (branch t 0).inside ≡ print t

@@ -1,5 +1,5 @@
 -- The printed form of a tree, in UTF-8: each line begins with `| ` and two spaces for each depth, and ends with a line feed.
-use Rattle.std.specs.Prelude.{◌≡◌, ℕ, zero, suc, ◌+◌, Bool, true, false, ◌&&◌, List, [], ◌∷◌, ◌++◌, length, Option, None, Some, unwrap_or, replicate, codes, encode_utf8_all, bytes_eq, if◌then◌else◌}
+use Rattle.std.specs.Prelude.{ℕ, zero, suc, ◌+◌, List, [], ◌∷◌, ◌++◌, length, Option, None, Some, unwrap_or, replicate, codes, encode_utf8_all, if◌then◌else◌}
 use Rattle.std.specs.List.{flat_map}
 use Rattle.hp_elements.specs.declared.sets.Namespace.{Namespace}
 use Rattle.hp_elements.specs.declared.sets.Namespace.TheVariants.{Html, Svg, MathMl}
@@ -7,6 +7,7 @@ use Rattle.hp_elements.specs.declared.tag.Attribute.{Attribute}
 use Rattle.hp_elements.specs.declared.tag.Tag.{Tag}
 use Rattle.hp_control.specs.Tree.{Tree, Item, branch}
 use Rattle.hp_control.specs.Tree as item
+use Rattle.hp_arena.specs.Readers.{is_template}
 use Rattle.hp_print.specs.Order.{space_word, in_order}
 
 -- how a line of this depth begins
@@ -30,14 +31,6 @@ attribute_line depth attribute =
 
 abbrev pub attribute_lines : ℕ → List Attribute → List ℕ
 attribute_lines depth attributes = flat_map (attribute_line depth) attributes
-
--- an HTML element `template`, whose contents stand inside
-abbrev pub is_template : Tag → Bool
-is_template tag = is_html tag.namespace && bytes_eq tag.name (codes "template") where
-  is_html : Namespace → Bool
-  is_html Html = true
-  is_html Svg = false
-  is_html MathMl = false
 
 -- the line above the contents of a template
 abbrev pub contents_line : ℕ → List ℕ
@@ -77,6 +70,11 @@ own_lines t depth (item.Element id) = tagged_lines depth (branch t id).tag
 own_lines t depth (item.Text text) = text_line depth text
 own_lines t depth (item.Comment text) = comment_line depth text
 own_lines t depth (item.Doctype name public system) = doctype_line depth name public system
+
+-- and of an item, if any
+abbrev pub lines_of : Tree → ℕ → Option Item → List ℕ
+lines_of t depth None = []
+lines_of t depth (Some item) = own_lines t depth item
 
 -- what stands inside an item
 abbrev pub inside : Tree → Item → List Item

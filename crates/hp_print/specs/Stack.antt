@@ -2,7 +2,7 @@
 use Rattle.std.specs.Prelude.{◌≡◌, ℕ, zero, suc, ◌+◌, ◌-◌, ◌<◌, ◌≤◌, List, [], ◌∷◌, ◌++◌, length, drop}
 use Rattle.hp_control.specs.Tree.{Tree, Item, branch, HasChild}
 use Rattle.hp_arena.specs.Arena.{Seen}
-use Rattle.hp_arena.specs.Readers.{IsAt}
+use Rattle.hp_arena.specs.Readers.{IsIn, parent_of, place_of}
 use Rattle.hp_print.specs.declared.output.Out.{Out}
 use Rattle.hp_print.specs.declared.walk.Mark.{Mark}
 use Rattle.hp_print.specs.Out.{Prints}
@@ -14,7 +14,7 @@ lines_at t level templates items = lines t (length t - level) (level + templates
 
 -- the items that are left at a mark
 abbrev pub rest : Tree → Mark → List Item
-rest t m = drop m.at.place (branch t m.at.parent).inside
+rest t m = drop (place_of m.at) (branch t (parent_of m.at)).inside
 
 abbrev pub mark_lines : Tree → Mark → List ℕ
 mark_lines t m = lines_at t m.level m.templates (rest t m)
@@ -47,8 +47,8 @@ IsDeep t (suc level) id = (parent : ℕ) × (place : ℕ) × (HasChild t parent 
 
 -- the mark is in the tree, at its level
 pub record IsMark (t : Seen) (m : Mark) : Type 0 where
-  pub at : IsAt t m.at
-  pub deep : IsDeep t.branches m.level m.at.parent
+  pub at : IsIn t (parent_of m.at) (place_of m.at) m.at
+  pub deep : IsDeep t.branches m.level (parent_of m.at)
   pub templates : m.templates ≤ m.level
 
 abbrev pub AreMarks : Seen → List Mark → Type 0

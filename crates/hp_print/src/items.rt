@@ -6,12 +6,12 @@ ghost use Rattle.std.specs.List.{concat};
 ghost use Rattle.hp_control.specs.Tree.{Tree};
 ghost use Rattle.hp_arena.specs.Readers.{shown, HasTag};
 ghost use Rattle.hp_print.specs.Out.{Prints};
-ghost use Rattle.hp_print.specs.Print.{opening, namespace_word, is_template, contents_line, element_lines, text_line, comment_line, identifiers, doctype_line, own_lines, tag_extra};
+ghost use Rattle.hp_print.specs.Print.{opening, namespace_word, contents_line, element_lines, text_line, comment_line, identifiers, doctype_line, lines_of, tag_extra};
 
 use crate::attributes::print_attributes;
 use crate::output::Out;
-use hp_arena::NodeView;
-use hp_elements::{Chain, Known, Namespace, NoMemory, Tag, Text};
+use hp_arena::{NodeView, is_template};
+use hp_elements::{Chain, Namespace, NoMemory, Tag, Text};
 use std::alloc::Global;
 
 /// What stands before the name of an element.
@@ -36,13 +36,6 @@ fn print_opening(out: &mut Out, tag: &Tag, depth: u64) -> Result<(), NoMemory>
     out.put_text(tag.name.as_str())?;
     out.put(b">\n")?;
     Ok(())
-}
-
-/// Whether this is a template, whose contents stand inside.
-fn is_template(tag: &Tag) -> bool
-    ensures { result ≡ is_template tag.now }
-{
-    tag.namespace == Namespace::Html && tag.name.is(Known::Template)
 }
 
 /// How much deeper the contents of a template stand than children do.
@@ -149,14 +142,15 @@ fn print_element(alloc: Global, out: &mut Out, tag: &Tag, depth: u64) -> Result<
     Ok(())
 }
 
-/// Prints the lines of an item, before those of what stands inside it.
+/// Prints the lines of an item, before those of what stands inside it. The document and contents have none.
+#[tactic(auto, using(crate::proofs::Pieces::prints_none))]
 pub fn print_item(
     alloc: Global,
     out: &mut Out,
     view: NodeView<'_, '_>,
     depth: u64,
 ) -> Result<(), NoMemory>
-    ensures { (t : Tree) → HasTag t view.entry → OnOk result (Prints out.old out.new (own_lines t depth (shown view.entry))) }
+    ensures { (t : Tree) → HasTag t view.entry → OnOk result (Prints out.old out.new (lines_of t depth (shown view.entry))) }
 {
     match view {
         NodeView::Doctype {
@@ -167,5 +161,6 @@ pub fn print_item(
         NodeView::Element { tag, .. } => print_element(alloc, out, tag, depth),
         NodeView::Text { runs } => print_text(out, runs, depth),
         NodeView::Comment { text } => print_comment(out, text, depth),
+        NodeView::Document | NodeView::Contents => Ok(()),
     }
 }

@@ -2,6 +2,7 @@
 
 ghost use Rattle.std.specs.Prelude.{◌≡◌, ◌+◌, ◌<◌, ◌≤◌, IfOk, OnOk, length, drop};
 ghost use Rattle.hp_control.specs.Tree.{branch};
+ghost use Rattle.hp_arena.specs.Readers.{parent_of, place_of};
 ghost use Rattle.hp_print.specs.Out.{Prints};
 ghost use Rattle.hp_print.specs.Print.{print};
 ghost use Rattle.hp_print.specs.Stack.{IsDeep, IsMark, Pushed, Stepped, lines_at, steps_at};
@@ -81,7 +82,7 @@ fn print_mark(
 /// Marks the item after the one at a mark, if there is one.
 fn push_next(tree: &Tree<'_>, stack: &mut Vec<Mark>, mark: Mark) -> Result<(), NoMemory>
     requires { IsMark tree.now mark }
-    ensures { let t = tree.now.branches in let items = drop (mark.at.place + 1) (branch t mark.at.parent).inside in OnOk result (Pushed tree.now stack.old.items stack.new.items (lines_at t mark.level mark.templates items) (steps_at t mark.level items)) }
+    ensures { let t = tree.now.branches in let items = drop (place_of mark.at + 1) (branch t (parent_of mark.at)).inside in OnOk result (Pushed tree.now stack.old.items stack.new.items (lines_at t mark.level mark.templates items) (steps_at t mark.level items)) }
 {
     match tree.next_sibling(mark.at) {
         Some(at) => {

@@ -4,3 +4,4 @@ pub mod Pieces
 pub mod Stepping
 pub mod OneByOne
 pub mod FineRows
+pub mod PlainRuns

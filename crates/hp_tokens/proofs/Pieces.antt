@@ -1,15 +1,13 @@
 -- A run over a text doesn't depend on its pieces.
-use Rattle.std.proofs.Common.{◌≡◌, ℕ, ◌+◌, ◌≤◌, List, [], ◌∷◌, ◌++◌, Bool, true, false, cond, length, take, drop, refl, ap, ◌∙◌, sym, subst, append-nil, append_assoc, Option, None, Some}
-use Rattle.std.specs.Prelude.{◌==◌, ◌&&◌, sum_by}
+use Rattle.std.proofs.Common.{◌≡◌, ℕ, List, [], ◌∷◌, ◌++◌, Bool, true, false, cond, refl, ap, ◌∙◌, sym, subst, append-nil, append_assoc, Option, Some}
+use Rattle.std.specs.Prelude.{◌==◌, ◌&&◌}
 use Rattle.std.specs.List.{concat}
-use Rattle.std.specs.Char.{len_utf8}
-use Rattle.std.proofs.lemmas.List.{take-append-le}
 use Rattle.hp_tokens.specs.declared.machine.Machine.{Machine}
 use Rattle.hp_tokens.specs.declared.rows.Reads.{Reads}
 use Rattle.hp_tokens.specs.declared.rows.Reads.TheVariants.{Consume, Again, End}
 use Rattle.hp_tokens.specs.Rows.{Row}
-use Rattle.hp_tokens.specs.Moves.{Lexing, Emitted, Move, needs_more, asks_cdata, asks_last_tag, makes, ends, Rules, after_row, row_move, after_pair, move_on, move, read_as}
-use Rattle.hp_tokens.specs.Runs.{Leads, here, onward, Waits, RunsTo, followed_by, RunsOver, Stays, IsSteady, AnyPieces, AnyPiecesAnyRules, IsWithin}
+use Rattle.hp_tokens.specs.Moves.{Lexing, Emitted, Move, makes, Rules, after_row, row_move, move_on, move, read_as}
+use Rattle.hp_tokens.specs.Runs.{Leads, here, onward, Waits, RunsTo, followed_by, RunsOver, Stays, IsSteady, AnyPiecesAnyRules, IsWithin}
 
 -- a row reads one code point: what follows doesn't matter
 pub after_row-stays : (r : Row) (l : Lexing) (c : ℕ) (cs text : List ℕ) (reads : Reads)

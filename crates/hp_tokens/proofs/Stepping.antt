@@ -1,10 +1,8 @@
 -- What the code's steps do is moves of the rules.
-use Rattle.std.proofs.Common.{◌≡◌, ℕ, ◌+◌, ◌*◌, ◌<◌, List, [], ◌∷◌, ◌++◌, Bool, true, false, ◌&&◌, ◌||◌, cond, not, nat_eq, length, map, refl, ap, ◌∙◌, sym, subst, arith, Option, None, Some, append-nil, append_assoc, length-append, eqb-true, eq-eqb}
+use Rattle.std.proofs.Common.{◌≡◌, ℕ, ◌+◌, ◌*◌, ◌<◌, List, [], ◌∷◌, ◌++◌, Bool, true, false, ◌&&◌, cond, not, nat_eq, length, map, refl, ap, ◌∙◌, sym, subst, arith, Option, None, Some, append-nil, length-append, eqb-true, eq-eqb}
 use Rattle.std.specs.Prelude.{◌==◌, IsTrue}
 use Rattle.std.specs.Char.{len_utf8}
-use Rattle.std.proofs.lemmas.Grind.{flat_map-append}
-use Rattle.std.proofs.lemmas.Bool.{not-false, and_parts}
-use Rattle.hp_elements.specs.declared.token.CharClass.{CharClass}
+use Rattle.std.proofs.lemmas.Bool.{and_parts}
 use Rattle.hp_elements.specs.declared.token.Token.{Token}
 use Rattle.hp_elements.specs.declared.token.Token.TheVariants as token
 use Rattle.hp_tokens.specs.declared.state.State.{State}
@@ -15,7 +13,7 @@ use Rattle.hp_tokens.specs.declared.rows.Reads.{Reads}
 use Rattle.hp_tokens.specs.declared.rows.Reads.TheVariants.{Consume, Again, End}
 use Rattle.hp_tokens.specs.Reading.{Unread, first}
 use Rattle.hp_tokens.specs.Rows.{Row, Follows}
-use Rattle.hp_tokens.specs.Moves.{Lexing, Emitted, Move, Rules, needs_more, makes, ends, standing, all_began, read_as, after_row, row_move, row_end, after_end, move_on, move, end_move_on, end_move}
+use Rattle.hp_tokens.specs.Moves.{Lexing, Emitted, Move, Rules, needs_more, makes, ends, standing, all_began, read_as, after_row, after_end, move_on, move, end_move_on, end_move}
 use Rattle.hp_tokens.specs.Runs.{here}
 use Rattle.hp_tokens.specs.Ranks.{rank, ends_name, symbol_of, weight, Falls, IsSingle, AreSingle, IsFine}
 use Rattle.hp_tokens.specs.Advancing.{unread, place_of, lexing, single, singles, tokens_of, Began, IsRun, IsRunText, AreRuns, Appends, Says, Goes, HasRows, MovesByRows}

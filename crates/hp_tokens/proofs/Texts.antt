@@ -1,15 +1,15 @@
 -- What a text that owns its code points has after an edit of its bytes.
-use Rattle.std.proofs.Common.{◌≡◌, ℕ, List, [], ◌∷◌, ◌++◌, Result, Ok, Err, OnOk, cond, is_ok, ap, ◌∙◌, sym, subst, append-nil, Bool, true, false, ◌↔◌, refl, ◌≢◌, append_assoc, map, length, drop, Some, arith, length-append, ◌≤◌, ◌<◌, ◌+◌, None}
+use Rattle.std.proofs.Common.{◌≡◌, ℕ, List, [], ◌∷◌, ◌++◌, Result, Ok, Err, OnOk, cond, is_ok, ap, ◌∙◌, sym, subst, append-nil, Bool, true, false, refl, ◌≢◌, append_assoc, map, length, drop, Some, arith, length-append, ◌≤◌, ◌<◌, ◌+◌, eqb-true}
 use lib.Pointwise.{pointwise}
 use lib.Dec.{eqb}
-use Rattle.std.specs.Cmp.Lexicographic.{same_text, told_text}
+use Rattle.std.specs.Cmp.Lexicographic.{told_text}
 use Rattle.std.specs.Bool.{MatchBool}
-use Rattle.std.specs.Prelude.{IsTrue}
+use Rattle.std.specs.Prelude.{IsTrue, ◌==◌}
 use Rattle.std.specs.Str.{chars, IsUtf8}
 use Rattle.std.specs.Char.{IsScalar, len_utf8}
 use Rattle.hp_tokens.specs.Reading.{first}
 use lib.Utf8.{encode, encodes}
-use Rattle.std.proofs.lemmas.Str.{chars-append, chars-nil, chars_past_char, IsUtf8-append, IsUtf8-encode, encodes-chars, IsUtf8-past_char, drop_past_char, length-encode}
+use Rattle.std.proofs.lemmas.Str.{chars-append, chars-nil, chars_past_char, IsUtf8-append, IsUtf8-encode, encodes-chars, IsUtf8-past_char, drop_past_char, length-encode, len_utf8_bounds}
 
 pub same_bytes : (a b : List ℕ) → IsUtf8 a → IsUtf8 b → chars a ≡ chars b → a ≡ b
 same_bytes a b u v e = sym (encodes-chars a u) ∙ (ap (λ (cs : List ℕ). encodes cs) e ∙ encodes-chars b v)
@@ -111,3 +111,27 @@ module _ (bytes now : List ℕ) (c : ℕ) (u : IsUtf8 bytes) (is : chars bytes �
       let both : c ∷ t.0 ≡ x ∷ chars rest = sym t.1 ∙ whole in
       let same : x ≡ c = cc in
       whole ∙ (ap (λ (y : ℕ). y ∷ chars rest) same ∙ ap (λ (xs : List ℕ). c ∷ chars xs) (sym d))
+
+not_none : (n : ℕ) → 0 < n → (n == 0) ≡ false
+not_none n h = grind arith
+
+empty_spelled : (cs : List ℕ) → (length (encodes cs) == 0) ≡ (length cs == 0)
+empty_spelled [] = refl
+empty_spelled (c ∷ cs) =
+    let some : 0 < length (encodes (c ∷ cs)) = omega (arith, length-append (encode c) (encodes cs), length-encode c, (len_utf8_bounds c).0) in
+    not_none (length (encodes (c ∷ cs))) some ∙ sym (not_none (length (c ∷ cs)) (omega arith))
+
+pub empty_text : (bs : List ℕ) → IsUtf8 bs → (length bs == 0) ≡ (length (chars bs) == 0)
+empty_text bs u = ap (λ (xs : List ℕ). length xs == 0) (sym (encodes-chars bs u)) ∙ empty_spelled (chars bs)
+
+-- an answer that a text has no code points
+pub has_none : (xs : List ℕ) → true ≡ (length xs == 0) → xs ≡ []
+has_none [] h = refl
+has_none (x ∷ xs) h = absurd (omega (arith, eqb-true (length (x ∷ xs)) 0 (sym h)))
+
+pub has_some : (xs : List ℕ) → false ≡ (length xs == 0) → 0 < length xs
+has_some [] h = cc
+has_some (x ∷ xs) h = omega arith
+
+pub some_spelled : (bs : List ℕ) → IsUtf8 bs → false ≡ (length bs == 0) → 0 < length (chars bs)
+some_spelled bs u h = has_some (chars bs) (h ∙ empty_text bs u)

@@ -1,8 +1,7 @@
 -- Where a lexer stands that has code points read ahead, and what the calls say of it.
-use Rattle.std.specs.Prelude.{◌≡◌, ℕ, ◌+◌, ◌-◌, ◌^◌, ◌<◌, ◌≤◌, ◌&&◌, Bool, true, false, ◌⊎◌, List, [], ◌∷◌, ◌++◌, map, length, sum_by, None, Some, Option, IsTrue, ◌==◌, drop}
-use Rattle.std.specs.List.{flat_map, list_all}
+use Rattle.std.specs.Prelude.{◌≡◌, ℕ, ◌+◌, ◌-◌, ◌^◌, ◌<◌, ◌≤◌, ◌&&◌, Bool, true, false, List, [], ◌∷◌, ◌++◌, map, length, sum_by, Option, IsTrue, ◌==◌}
+use Rattle.std.specs.List.{flat_map}
 use Rattle.std.specs.Char.{len_utf8}
-use Rattle.hp_elements.specs.Tokens.{class_of}
 use Rattle.hp_elements.specs.declared.token.Token.{Token}
 use Rattle.hp_elements.specs.declared.token.Token.TheVariants as token
 use Rattle.hp_tokens.specs.declared.state.State.{State}

@@ -8,3 +8,5 @@ pub mod Runs
 pub mod Ranks
 pub mod Advancing
 pub mod Valid
+pub mod Plain
+pub mod PlainLaws

@@ -1,5 +1,5 @@
 -- A move of the lexer, over any rules of its states.
-use Rattle.std.specs.Prelude.{◌≡◌, ℕ, ◌+◌, ◌==◌, ◌&&◌, false, List, [], ◌∷◌, ◌++◌, map, drop, take, sum_by, Option, None, Some, if◌then◌else◌}
+use Rattle.std.specs.Prelude.{ℕ, ◌+◌, ◌==◌, ◌&&◌, false, List, [], ◌∷◌, map, drop, take, sum_by, Option, None, Some, if◌then◌else◌}
 use Rattle.std.specs.Char.{len_utf8}
 use Rattle.hp_elements.specs.declared.token.Token.{Token}
 use Rattle.hp_tokens.specs.declared.machine.Machine.{Machine}

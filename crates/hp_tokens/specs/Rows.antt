@@ -1,5 +1,5 @@
 -- The combinators by which the lexer's rows read like the standard's table (13.2.5.1 to 13.2.5.80).
-use Rattle.std.specs.Prelude.{◌≡◌, ℕ, List, [], ◌∷◌, ◌++◌, ◌==◌, ◌||◌, Bool, Option, None, Some, true, false, map, if◌then◌else◌}
+use Rattle.std.specs.Prelude.{◌≡◌, ℕ, List, [], ◌∷◌, ◌++◌, ◌==◌, ◌||◌, Bool, None, map, if◌then◌else◌}
 use Rattle.std.specs.Char.{to_ascii_lowercase}
 use Rattle.hp_elements.specs.Tokens.{class_of}
 use Rattle.hp_elements.specs.declared.token.Token.{Token}
@@ -9,7 +9,6 @@ use Rattle.hp_tokens.specs.declared.state.State.TheVariants.{Data}
 use Rattle.hp_tokens.specs.declared.state.Return.{Return}
 use Rattle.hp_tokens.specs.declared.state.Return.TheVariants as returns
 use Rattle.hp_elements.specs.declared.token.Rest.{Rest}
-use Rattle.hp_tokens.specs.declared.building.Building.{Building}
 use Rattle.hp_tokens.specs.declared.building.Building.TheVariants as building
 use Rattle.hp_tokens.specs.declared.building.Part.{Part}
 use Rattle.hp_tokens.specs.declared.building.Part.TheVariants.{Value}
@@ -77,6 +76,10 @@ putting_text part text m = record m { building = put part text m.building }
 -- ASCII upper case lowered
 abbrev pub lowered : ℕ → ℕ
 lowered c = to_ascii_lowercase c
+
+-- U+0000 is replaced
+abbrev pub replaced : ℕ → ℕ
+replaced c = if c == 0 then replacement else c
 
 -- a new token, a new attribute, and their flags
 abbrev pub new_start_tag : Machine → Machine

@@ -9,7 +9,6 @@ use Rattle.hp_tokens.specs.declared.state.Return.{Return}
 use Rattle.hp_tokens.specs.declared.building.Building.{Building}
 use Rattle.hp_tokens.specs.declared.building.Building.TheVariants as building
 use Rattle.hp_tokens.specs.declared.building.NewAttribute.{NewAttribute}
-use Rattle.hp_tokens.specs.declared.machine.Machine.{Machine}
 use Rattle.hp_tokens.specs.declared.lexing.LexState.{LexState}
 use Rattle.hp_tokens.specs.States.{enter, is_in_value}
 

@@ -2,6 +2,7 @@
 ghost use Rattle.std.specs.Prelude.{◌≡◌, ℕ, List, [], ◌∷◌, ◌++◌, length, drop, take, IsUtf8, ◌+◌, ◌<◌, ◌≤◌, ◌^◌, MatchOption, true, false, slice_index, Bool};
 ghost use Rattle.std.specs.List.{list_all};
 
+use hp_elements::Text;
 use std::marker::Model;
 
 /// The place of a text's first byte. Places count from here, so that the few code points that stood before a text, and
@@ -9,7 +10,7 @@ use std::marker::Model;
 pub const ORIGIN: u64 = 1 << 32;
 
 /// A test of bytes: which of them a run goes over. A byte of 128 and above always passes, so that a run ends only
-/// between two code points.
+/// between two code points. CR, which is read as LF, never does.
 pub trait Run {
     ghost passes: { ℕ → Bool };
 
@@ -18,6 +19,8 @@ pub trait Run {
         ensures { result ≡ passes byte };
 
     ghost high: { (c : ℕ) → 128 ≤ c → passes c ≡ true };
+
+    ghost no_cr: { passes 13 ≡ false };
 }
 
 /// A cursor over a text.
@@ -42,6 +45,7 @@ impl<'p> Model for Cursor<'p> {
 impl<'p> Cursor<'p> {
     ghost use Rattle.std.specs.Str.{chars};
     ghost use Rattle.hp_tokens.specs.Reading.{Unread, first, Reads, ReadsRun};
+    ghost use Rattle.hp_tokens.specs.Rows.{is_blank};
 
     /// A cursor at the start of a text.
     pub fn of_str(text: &'p str) -> Cursor<'p>
@@ -94,6 +98,26 @@ impl<'p> Cursor<'p> {
         self.at += count;
         &self.text[from..self.at]
     }
+
+    /// Takes the run of code points at the front that pass, as a part of the text, in which nothing is copied.
+    pub fn take_text<R: Run>(&mut self) -> Text<'p>
+        ensures run { ReadsRun R.passes self.old result self.new }
+    {
+        let count = run_len::<R>(self.text.as_bytes(), self.at);
+        let from = self.at;
+        self.at += count;
+        Text::of_page(self.text, from, self.at)
+    }
+
+    /// Takes the tabs, line feeds, form feeds and spaces at the front, as a part of the text.
+    pub fn take_blanks(&mut self) -> Text<'p>
+        ensures run { ReadsRun is_blank self.old result self.new }
+    {
+        let count = blanks_len(self.text.as_bytes(), self.at);
+        let from = self.at;
+        self.at += count;
+        Text::of_page(self.text, from, self.at)
+    }
 }
 
 ghost use Rattle.hp_tokens.specs.Reading.{PassesFrom};
@@ -105,6 +129,21 @@ fn run_len<R: Run>(bytes: &[u8], at: usize) -> usize
 {
     for (i, byte) in bytes[at..].iter().enumerate() {
         if !R::passes(*byte) {
+            return i;
+        }
+    }
+    bytes.len() - at
+}
+
+ghost use Rattle.hp_tokens.specs.Rows.{is_blank};
+
+/// How many bytes from `at` on are tabs, line feeds, form feeds or spaces.
+fn blanks_len(bytes: &[u8], at: usize) -> usize
+    requires { at ≤ length bytes.now }
+    ensures { PassesFrom is_blank bytes.now at result }
+{
+    for (i, byte) in bytes[at..].iter().enumerate() {
+        if !matches!(*byte, b'\t' | b'\n' | b'\x0c' | b' ') {
             return i;
         }
     }

@@ -1,5 +1,5 @@
 // Texts that own their code points, which contracts see as lists of code points.
-ghost use Rattle.std.specs.Prelude.{◌≡◌, ◌↔◌, ℕ, List, [], ◌∷◌, ◌++◌, ◌<◌, OnOk, OnErr, IfOk, IsTrue, string_bytes, IsUtf8, length, MatchOption, sum_by};
+ghost use Rattle.std.specs.Prelude.{◌≡◌, ◌↔◌, ℕ, List, [], ◌∷◌, ◌++◌, ◌<◌, ◌==◌, OnOk, OnErr, IfOk, IsTrue, string_bytes, IsUtf8, length, MatchOption, sum_by};
 
 use crate::NoMemory;
 use crate::few::{Few, ROOM};
@@ -98,6 +98,13 @@ impl OwnedText {
         ensures { result ≡ sum_by len_utf8 self.now }
     {
         self.as_str().len() as u64
+    }
+
+    /// Whether there is no code point.
+    pub fn is_empty(&self) -> bool
+        ensures { result ≡ (length self.now == 0) }
+    {
+        self.as_str().is_empty()
     }
 
     /// The first code point.

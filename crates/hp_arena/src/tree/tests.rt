@@ -1,5 +1,6 @@
 //! Trees that edits make, read back.
 
+use crate::links::Node;
 use crate::{NodeView, Tree};
 use hp_control::{Child, Edit, Edits, Place, Ref};
 use hp_elements::{Attribute, AttributeSpace, Chain, Known, Name, Namespace, Tag, Text};
@@ -89,6 +90,7 @@ fn count_inside(tree: &Tree<'_>, id: u32) -> Option<Counts> {
                 found.runs = found.runs.wrapping_add(runs.len());
             }
             NodeView::Comment { .. } => found.comments = found.comments.wrapping_add(1),
+            NodeView::Document | NodeView::Contents => {}
             NodeView::Doctype { .. } => found.doctypes = found.doctypes.wrapping_add(1),
         }
         next = tree.next_sibling(at);
@@ -260,4 +262,32 @@ fn many_children_before_one_table(rt: HostRuntime) -> Result<(), Fail> {
     };
     assert_eq!(rt; count_inside(&tree, 1), Some(all));
     Ok(())
+}
+
+/// What stands in a template are its contents, and it has no children.
+#[test]
+fn readers_come_to_contents(rt: HostRuntime) -> Result<(), Fail> {
+    let mut tree = Tree::start(rt.alloc())?;
+    make_room(rt.alloc(), &mut tree, 10)?;
+    make(&rt, &mut tree, element(Known::Template));
+    make(&rt, &mut tree, element(Known::B));
+    make(&rt, &mut tree, put(Child::Element(Ref::Fixed(1)), 0));
+    make(&rt, &mut tree, put(Child::Element(Ref::Fixed(2)), 1));
+    let root = tree.root();
+    assert!(rt; matches!(tree.view(root), NodeView::Document));
+    let template = tree.first_child(root).ok_or("no template")?;
+    assert!(rt; matches!(tree.view(template), NodeView::Element { id: 1, .. }));
+    assert!(rt; tree.first_child(template).is_none());
+    assert!(rt; tree.next_sibling(template).is_none());
+    let contents = tree.contents(template).ok_or("no contents")?;
+    assert!(rt; matches!(tree.view(contents), NodeView::Contents));
+    let inner = tree.first_child(contents).ok_or("nothing inside")?;
+    assert!(rt; matches!(tree.view(inner), NodeView::Element { id: 2, .. }));
+    assert!(rt; tree.contents(inner).is_none());
+    Ok(())
+}
+
+#[test]
+fn a_node_takes_16_bytes(rt: HostRuntime) {
+    assert!(rt; size_of::<Node>() == 16);
 }

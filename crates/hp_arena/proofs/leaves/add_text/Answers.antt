@@ -1,4 +1,4 @@
-use Rattle.std.proofs.Common.{◌≡◌, sym, ◌∙◌}
+use Rattle.std.proofs.Common.{◌≡◌, ◌∙◌}
 use Rattle.std.proofs.lemmas.List.{get_or_default}
 use Rattle.hp_arena.specs.Leaves.{leaf_at, no_leaf}
 use Rattle.hp_arena.specs.declared.leaves.Leaf.TheVariants.{Text}

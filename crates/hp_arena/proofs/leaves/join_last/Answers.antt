@@ -1,5 +1,4 @@
-use Rattle.std.proofs.Common.{◌≡◌, ◌++◌, ℕ, List, Option, Some, None, IfSome, IfNone}
-use Rattle.std.specs.List.{concat}
+use Rattle.std.proofs.Common.{ℕ, List, Option, Some, None, IfSome, IfNone}
 use Rattle.hp_arena.proofs.Added.{last-joined, last-kept}
 use Rattle.hp_arena.proofs.leaves.join_last.Goals as goal
 

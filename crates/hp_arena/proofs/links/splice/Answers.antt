@@ -1,6 +1,6 @@
-use Rattle.std.proofs.Common.{◌≡◌, length, sym, ap, ◌∙◌, refl}
-use Rattle.hp_arena.specs.Nodes.{links_of, IsRelinked, node_at}
-use Rattle.hp_arena.specs.Ring.{spliced, joined}
+use Rattle.std.proofs.Common.{ap, ◌∙◌}
+use Rattle.hp_arena.specs.Nodes.{node_at}
+use Rattle.hp_arena.specs.Ring.{joined}
 use Rattle.hp_arena.proofs.links.splice.Goals as goal
 
 pub returns : goal.returns

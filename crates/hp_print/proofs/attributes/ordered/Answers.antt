@@ -1,4 +1,4 @@
-use Rattle.std.proofs.Common.{◌≡◌, ◌∷◌, sym, ap, ◌∙◌}
+use Rattle.std.proofs.Common.{◌≡◌, sym, ap, ◌∙◌}
 use Rattle.std.specs.List.{fold, insert}
 use Rattle.hp_print.specs.Order.{placed}
 use Rattle.hp_print.specs.Shown.{attribute_of, attributes_of}

@@ -1,4 +1,4 @@
-use Rattle.std.proofs.Common.{◌≡◌, ◌-◌, ◌+◌, ◌≤◌, ap, ◌∙◌, arith}
+use Rattle.std.proofs.Common.{◌-◌, arith}
 use Rattle.hp_print.proofs.Blanks.{blanks_more, blanks_part}
 use Rattle.hp_print.proofs.output.push_blanks.Goals as goal
 

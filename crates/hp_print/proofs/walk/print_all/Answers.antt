@@ -1,6 +1,5 @@
-use Rattle.std.proofs.Common.{◌≡◌, ◌++◌, ◌∷◌, [], List, length, refl, subst, sym, ap, ◌∙◌, append_assoc, append-nil, arith}
-use Rattle.hp_print.specs.Print.{print}
-use Rattle.hp_print.specs.Stack.{AreMarks, IsMark, pending, todo, mark_lines}
+use Rattle.std.proofs.Common.{◌≡◌, ◌++◌, ◌∷◌, [], List, length, refl, sym, ap, ◌∙◌, append_assoc, append-nil, arith}
+use Rattle.hp_print.specs.Stack.{pending}
 use Rattle.hp_print.proofs.Pieces.{prints_then, prints_none, prints_as}
 use Rattle.hp_print.proofs.Steps.{pending-push, todo-push, marks-pop, marks-last, whole_text}
 use Rattle.hp_print.proofs.walk.print_all.Goals as goal

@@ -1,17 +1,17 @@
-use Rattle.std.proofs.Common.{◌≡◌, ◌+◌, ◌≤◌, ◌<◌, ap, sym, ◌∙◌, Some, length, slice_get, arith}
+use Rattle.std.proofs.Common.{◌≡◌, ◌+◌, ◌<◌, ap, sym, ◌∙◌, subst, Some, length, arith}
 use Rattle.hp_control.specs.Tree.{branch}
 use Rattle.hp_control.specs.Tree as item
-use Rattle.hp_arena.specs.Readers.{HasTag, shown}
-use Rattle.hp_print.specs.Print.{extra, tag_extra, own_lines}
-use Rattle.hp_print.specs.Stack.{IsDeep}
-use Rattle.hp_print.proofs.Depths.{deep-room, deep-there}
-use Rattle.hp_print.proofs.Steps.{IsItemAt, child_deep, extra_at_most, leaf_inside, stepped_leaf, stepped_element}
+use Rattle.hp_arena.specs.Readers.{parent_of, place_of}
+use Rattle.hp_print.specs.Print.{extra, tag_extra, lines_of}
+use Rattle.hp_print.specs.Out.{Prints}
+use Rattle.hp_print.proofs.Depths.{deep-room}
+use Rattle.hp_print.proofs.Steps.{IsItemAt, child_deep, extra_at_most, leaf_inside, item_shown, in-there, in-shown, stepped_leaf, stepped_element}
 use Rattle.hp_print.proofs.walk.print_mark.Goals as goal
 
 pub overflow_add-templates : goal.overflow_add-templates
 overflow_add-templates c =
     let t = c.args.tree.now.branches in
-    let room : c.args.mark.level < length t = deep-room t c.len-elements.ensures.forest c.args.mark.level c.args.mark.at.parent c.requires.deep in
+    let room : c.args.mark.level < length t = deep-room t c.len-elements.ensures.forest c.args.mark.level (parent_of c.args.mark.at) c.requires.deep in
     let has : (branch t c.in-Element.id).tag ≡ Some c.in-Element.tag.now = rw c.in-Element.is at c.view-view.ensures.tag in
     let more : extra t (item.Element c.in-Element.id) ≡ c.extra_depth.result = ap tag_extra has ∙ sym c.extra_depth.ensures in
     omega (arith, extra_at_most t (item.Element c.in-Element.id), c.requires.templates, c.len-elements.ensures.count)
@@ -19,19 +19,19 @@ overflow_add-templates c =
 pub overflow_add-mark-in-Element : goal.overflow_add-mark-in-Element
 overflow_add-mark-in-Element c =
     let t = c.args.tree.now.branches in
-    let room : c.args.mark.level < length t = deep-room t c.len-elements.ensures.forest c.args.mark.level c.args.mark.at.parent c.requires.deep in
+    let room : c.args.mark.level < length t = deep-room t c.len-elements.ensures.forest c.args.mark.level (parent_of c.args.mark.at) c.requires.deep in
     omega (arith, c.len-elements.ensures.count)
 
 pub push_first-requires-clause-there : goal.push_first-requires-clause-there
 push_first-requires-clause-there c =
     let t = c.args.tree.now.branches in
-    let has : IsItemAt t c.args.mark (item.Element c.in-Element.id) = rw c.in-Element.is at c.view-view.ensures.item in
-    c.len-elements.ensures.forest.there c.args.mark.at.parent c.args.mark.at.place c.in-Element.id has
+    let has : IsItemAt t c.args.mark (item.Element c.in-Element.id) = rw c.in-Element.is at (in-shown c.args.tree.now (parent_of c.args.mark.at) (place_of c.args.mark.at) c.args.mark.at c.view-view.result c.requires.at c.view-view.ensures.view).0 in
+    c.len-elements.ensures.forest.there (parent_of c.args.mark.at) (place_of c.args.mark.at) c.in-Element.id has
 
 pub push_first-requires-clause-deep : goal.push_first-requires-clause-deep
 push_first-requires-clause-deep c =
     let t = c.args.tree.now.branches in
-    let has : IsItemAt t c.args.mark (item.Element c.in-Element.id) = rw c.in-Element.is at c.view-view.ensures.item in
+    let has : IsItemAt t c.args.mark (item.Element c.in-Element.id) = rw c.in-Element.is at (in-shown c.args.tree.now (parent_of c.args.mark.at) (place_of c.args.mark.at) c.args.mark.at c.view-view.result c.requires.at c.view-view.ensures.view).0 in
     child_deep t c.args.mark c.in-Element.id has c.requires.deep
 
 pub push_first-requires-clause-templates : goal.push_first-requires-clause-templates
@@ -48,7 +48,7 @@ returns-in_ok-push_first-in-Element c =
     let id = c.in-Element.id in
     let view = c.view-view.result in
     let x = item.Element id in
-    let has : IsItemAt b c.args.mark x = rw c.in-Element.is at c.view-view.ensures.item in
+    let has : IsItemAt b c.args.mark x = rw c.in-Element.is at (in-shown c.args.tree.now (parent_of c.args.mark.at) (place_of c.args.mark.at) c.args.mark.at c.view-view.result c.requires.at c.view-view.ensures.view).0 in
     let tag : (branch b id).tag ≡ Some c.in-Element.tag.now = rw c.in-Element.is at c.view-view.ensures.tag in
     let more : extra b x ≡ c.extra_depth.result = ap tag_extra tag ∙ sym c.extra_depth.ensures in
     let deeper : c.args.mark.templates + c.extra_depth.result ≡ c.args.mark.templates + extra b x = omega arith in
@@ -60,5 +60,12 @@ pub returns-in_default : goal.returns-in_default
 returns-in_default c =
     let t = c.args.tree.now in
     let view = c.view-view.result in
-    stepped_leaf t c.args.mark (shown view) _ _ _ _ c.len-elements.ensures.forest c.requires c.view-view.ensures.item (leaf_inside t.branches view c.in_default.not-Element)
-    c.in_ok-push_next.ensures (c.in_ok-print_item.ensures t.branches c.view-view.ensures.tag)
+    let mark = c.args.mark in
+    let there = in-shown t (parent_of mark.at) (place_of mark.at) mark.at view c.requires.at c.view-view.ensures.view in
+    let x = item_shown view there.1 in
+    let printed = subst (λ o. Prints c.args.out.now c.print_item.new.out (lines_of t.branches (mark.level + mark.templates) o)) x.1 (c.in_ok-print_item.ensures t.branches c.view-view.ensures.tag) in
+    stepped_leaf t mark x.0 _ _ _ _ c.len-elements.ensures.forest c.requires (there.0 ∙ x.1) (leaf_inside t.branches view x.0 x.1 c.in_default.not-Element)
+    c.in_ok-push_next.ensures printed
+
+pub view-view-requires : goal.view-view-requires
+view-view-requires c = in-there c.args.tree.now (parent_of c.args.mark.at) (place_of c.args.mark.at) c.args.mark.at c.requires.at

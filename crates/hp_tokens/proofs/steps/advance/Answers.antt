@@ -1,10 +1,8 @@
 use Rattle.std.proofs.Common.{◌≡◌, ℕ, ◌||◌, Bool, true, false, refl, sym, ◌∙◌, subst}
-use Rattle.hp_elements.specs.declared.token.Token.{Token}
 use Rattle.hp_tokens.specs.States.{is_resting}
 use Rattle.hp_tokens.specs.Moves.{Lexing, move}
 use Rattle.hp_tokens.specs.Advancing.{lexing, Stepped, Goes, Advances, Along, place_of, at_rest}
 use Rattle.hp_tokens.specs.declared.rows.Step.{Step}
-use Rattle.hp_tokens.specs.declared.rows.Step.TheVariants.{Made}
 use Rattle.hp_tokens.proofs.OneByOne.{none_yet, one_more, rests, settled_at_rest, settled_elsewhere, moved_on}
 use Rattle.hp_tokens.proofs.steps.advance.Given.{Over}
 use Rattle.hp_tokens.proofs.steps.advance.Goals as goal

@@ -1,8 +1,6 @@
 use Rattle.std.proofs.Common.{◌≡◌, ap, ◌∙◌, subst, sym, ℕ, List, Bool}
 use Rattle.std.proofs.lemmas.Str.{chars-nil}
-use Rattle.hp_tokens.specs.Reading.{Unread}
 use Rattle.hp_tokens.specs.declared.rows.EndStep.{EndStep}
-use Rattle.hp_tokens.specs.declared.rows.EndStep.TheVariants.{Made, Ended}
 use Rattle.hp_tokens.specs.Advancing.{lexing, Goes, EndSteps}
 use Rattle.hp_tokens.specs.Moves.{end_move}
 use Rattle.hp_tokens.proofs.OneByOne.{end_init, end_more, end_done, end_left}

@@ -1,4 +1,4 @@
-use Rattle.std.proofs.Common.{◌≡◌, not, nat_eq, length, None, refl, subst}
+use Rattle.std.proofs.Common.{not, nat_eq, length, None, refl, subst}
 use Rattle.hp_tokens.specs.declared.rows.Reads.{Reads}
 use Rattle.hp_tokens.specs.Rows.{Follows}
 use Rattle.hp_tokens.proofs.Stepping.{reread_end, ended_there}

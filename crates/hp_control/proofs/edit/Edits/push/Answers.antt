@@ -1,5 +1,4 @@
-use Rattle.std.proofs.Common.{◌≡◌, ◌+◌, arith, ap, ◌∙◌}
-use Rattle.hp_control.specs.Edits.{room_of_all}
+use Rattle.std.proofs.Common.{arith}
 use Rattle.hp_control.proofs.Rooms.{room_of_all-push}
 use Rattle.hp_control.proofs.edit.Edits.push.Goals as goal
 

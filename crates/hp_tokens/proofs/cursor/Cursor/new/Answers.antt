@@ -1,5 +1,4 @@
-use Rattle.std.proofs.Common.{◌≡◌, List, ℕ, subst, sym}
-use Rattle.std.specs.Str.{IsUtf8}
+use Rattle.std.proofs.Common.{List, ℕ, subst, sym}
 use Rattle.std.proofs.lemmas.Str.{IsCharBoundary-start}
 use Rattle.hp_tokens.specs.Reading.{IsAt}
 use Rattle.hp_tokens.proofs.cursor.Cursor.new.Goals as goal

@@ -1,7 +1,6 @@
-use Rattle.std.proofs.Common.{List, ℕ, subst, sym, ◌∙◌, ◌-◌, ◌+◌, ap, take, drop, ◌≡◌, arith}
-use Rattle.std.specs.Str.{chars}
-use Rattle.hp_tokens.specs.Reading.{Unread, PassesFrom, ReadsRun}
-use Rattle.hp_tokens.proofs.Characters.{run-boundary, run-IsAt, run-ReadsRun}
+use Rattle.std.proofs.Common.{List, ℕ, subst, ◌∙◌, ◌-◌, ◌+◌, ap, take, drop, ◌≡◌, arith}
+use Rattle.hp_tokens.specs.Reading.{PassesFrom}
+use Rattle.hp_tokens.proofs.Characters.{run-IsAt, run-ReadsRun}
 use Rattle.hp_tokens.proofs.cursor.Cursor.take_run.Given.{Over}
 use Rattle.hp_tokens.proofs.cursor.Cursor.take_run.Goals as goal
 use Rattle.hp_tokens.proofs.cursor.Cursor.take_run.Goals.{After-range}

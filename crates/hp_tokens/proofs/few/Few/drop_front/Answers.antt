@@ -1,6 +1,5 @@
-use Rattle.std.proofs.Common.{arith, length-drop, length, take, drop, ◌≤◌, ◌-◌, ap, List, ℕ}
+use Rattle.std.proofs.Common.{arith, length-drop}
 use Rattle.hp_tokens.proofs.Characters.{rest_whole}
-use Rattle.hp_tokens.specs.declared.few.Few.{Few}
 use Rattle.hp_tokens.proofs.few.Few.drop_front.Goals as goal
 
 pub extend-requires : goal.extend-requires

@@ -1,7 +1,4 @@
-use Rattle.std.proofs.Common.{◌≡◌, ap, ◌∙◌, sym, List, ℕ, Bool, true}
-use Rattle.std.specs.Str.{chars}
-use Rattle.std.specs.Cmp.Lexicographic.{same_text}
-use Rattle.hp_tokens.proofs.Texts.{same_bytes, told_same}
+use Rattle.hp_tokens.proofs.Texts.{told_same}
 use Rattle.hp_tokens.proofs.owned.OwnedText.same.Goals as goal
 
 pub returns : goal.returns

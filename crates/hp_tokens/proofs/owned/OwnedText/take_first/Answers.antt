@@ -1,6 +1,6 @@
-use Rattle.std.proofs.Common.{◌≡◌, List, ℕ, ap, ◌∙◌, sym, subst, arith, ◌≤◌, ◌<◌, length}
+use Rattle.std.proofs.Common.{ap, ◌∙◌, sym, subst, arith, length}
 use Rattle.std.specs.Prelude.{string_bytes}
-use Rattle.hp_tokens.specs.Texts.{spelled, stored, IsStored}
+use Rattle.hp_tokens.specs.Texts.{spelled, IsStored}
 use Rattle.hp_tokens.specs.declared.owned.Store.{Store}
 use Rattle.hp_tokens.proofs.Texts.{front-within, dropped-utf8, dropped-chars, removed-utf8, removed-chars, width-positive}
 use Rattle.hp_tokens.proofs.owned.OwnedText.take_first.Goals as goal

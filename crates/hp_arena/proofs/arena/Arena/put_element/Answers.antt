@@ -1,0 +1,72 @@
+use Rattle.std.proofs.Common.{◌≡◌, ◌≢◌, ◌<◌, ℕ, List, length, slice_index_or, sym, ap, ◌∙◌, subst}
+use Rattle.std.specs.Vec.{with_items}
+use Rattle.std.proofs.lemmas.List.{get_or_read}
+use Rattle.hp_control.specs.Tree.{detached, put, Element}
+use Rattle.hp_control.specs.declared.edit.Place.{Place}
+use Rattle.hp_arena.specs.Arena.{Seen}
+use Rattle.hp_arena.specs.Nodes.{links_of, IsRelinked, SameKinds}
+use Rattle.hp_arena.specs.Ring.{unlinked, inserted}
+use Rattle.hp_arena.specs.Shape.{IsSound, node_of, no_element, items_in, at_of, seen, IsPlaceIn}
+use Rattle.hp_arena.specs.declared.links.Node.{Node}
+use Rattle.hp_arena.specs.declared.arena.Element.{Element as ElementOf}
+use Rattle.hp_arena.specs.declared.arena.Arena.TheInside.{Inside}
+use Rattle.hp_arena.proofs.Detaching.{IsTree-detached}
+use Rattle.hp_arena.proofs.Glue.{with_nodes, items_are, IsSound-relinked, branches-relinked, id-below, place-in, tree_in, tree_out}
+use Rattle.hp_arena.proofs.Items.{leaves-plain}
+use Rattle.hp_arena.proofs.Putting.{IsTree-moved, branches-moved}
+use Rattle.hp_arena.proofs.arena.Arena.put_element.Goals as goal
+
+-- the two changes of the links, as the code makes them
+module _ (a : Inside) (s : Seen) (sound : IsSound a) (view : seen a ≡ s) (id : ℕ) (place : Place) (apart : id ≢ 0) (hid : id < length a.elements.items) (hp : IsPlaceIn (length a.elements.items) place)
+    (mid new lent other : List Node) (e : ElementOf) (es : List ElementOf) (at : ℕ) (read : e ≡ slice_index_or a.elements.items id e)
+    (first : IsRelinked a.nodes.items mid (unlinked (links_of a.nodes.items) e.node))
+    (seen_nodes : other ≡ (with_items a.nodes mid).items) (seen_elements : es ≡ a.elements.items) (found : at ≡ at_of other es place)
+    (is_lent : lent ≡ (with_items a.nodes mid).items)
+    (second : IsRelinked lent new (inserted (links_of lent) at e.node)) where
+  own : e ≡ slice_index_or a.elements.items id no_element
+  own = get_or_read a.elements.items id e hid read no_element
+
+  out : IsRelinked a.nodes.items mid (unlinked (links_of a.nodes.items) (node_of a.elements.items id))
+  out = subst (λ x. IsRelinked a.nodes.items mid (unlinked (links_of a.nodes.items) x.node)) own first
+
+  between : (with_items a.nodes mid).items ≡ mid
+  between = items_are a mid out.same
+
+  at_is : at ≡ at_of mid a.elements.items place
+  at_is = found ∙ ap (λ ns. at_of ns es place) (seen_nodes ∙ between) ∙ ap (λ xs. at_of mid xs place) seen_elements
+
+  into : IsRelinked mid new (inserted (links_of mid) (at_of mid a.elements.items place) (node_of a.elements.items id))
+  into =
+      subst (λ ns. IsRelinked ns new (inserted (links_of ns) (at_of mid a.elements.items place) (node_of a.elements.items id))) (is_lent ∙ between)
+      (subst (λ n. IsRelinked lent new (inserted (links_of lent) n (node_of a.elements.items id))) at_is
+      (subst (λ x. IsRelinked lent new (inserted (links_of lent) at x.node)) own second))
+
+  still : SameKinds (with_items a.nodes mid).items new
+  still = subst (λ ns. SameKinds ns new) (sym between) into.same
+
+  pub sound-put : IsSound (with_nodes (with_nodes a mid) new)
+  sound-put =
+      IsSound-relinked (with_nodes a mid) new
+      (IsSound-relinked a mid sound out.same (tree_out a mid a.elements.items (IsTree-detached a.nodes.items mid a.elements.items (items_in a) (tree_in a sound) id hid out)))
+      still
+      (tree_out a new a.elements.items (IsTree-moved a.nodes.items mid new a.elements.items (items_in a) (tree_in a sound) id place hid apart (leaves-plain a.doctypes.items a.leaves.items) hp out into))
+
+  pub branches-put : (seen (with_nodes (with_nodes a mid) new)).branches ≡ put (detached s.branches id) (Element id) place
+  branches-put =
+      branches-relinked (with_nodes a mid) new still
+      ∙ branches-moved a.nodes.items mid new a.elements.items (items_in a) (tree_in a sound) id place hid apart (leaves-plain a.doctypes.items a.leaves.items) hp out into
+      ∙ ap (λ r. put (detached r.branches id) (Element id) place) view
+
+pub invariant_of-self : goal.invariant_of-self
+invariant_of-self c =
+    sound-put c.self.inside c.args.self.now c.self.invariant c.self.view_is c.args.id c.args.place c.requires.apart
+    (id-below c.self.inside c.args.self.now c.args.id c.self.view_is c.requires.id_in) (place-in c.self.inside c.args.self.now c.args.place c.self.view_is c.requires.there)
+    c.unlink.new.nodes c.put_before.new.nodes c.deref_mut-2.result.now c.deref.result.now c.index.result.now c.deref-2.result.now c.node_at-at.result c.index.ensures
+    (rw c.deref_mut.ensures.value at c.unlink.ensures) c.deref.ensures.value c.deref-2.ensures.value c.node_at-at.ensures c.deref_mut-2.ensures.value c.put_before.ensures
+
+pub returns-clause-branches : goal.returns-clause-branches
+returns-clause-branches c =
+    branches-put c.self.inside c.args.self.now c.self.invariant c.self.view_is c.args.id c.args.place c.requires.apart
+    (id-below c.self.inside c.args.self.now c.args.id c.self.view_is c.requires.id_in) (place-in c.self.inside c.args.self.now c.args.place c.self.view_is c.requires.there)
+    c.unlink.new.nodes c.put_before.new.nodes c.deref_mut-2.result.now c.deref.result.now c.index.result.now c.deref-2.result.now c.node_at-at.result c.index.ensures
+    (rw c.deref_mut.ensures.value at c.unlink.ensures) c.deref.ensures.value c.deref-2.ensures.value c.node_at-at.ensures c.deref_mut-2.ensures.value c.put_before.ensures

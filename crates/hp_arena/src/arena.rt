@@ -1,0 +1,493 @@
+//! The nodes, elements and leaves of a tree, and the edits on them.
+
+ghost use Rattle.std.specs.Prelude.{◌≡◌, ◌≢◌, ◌+◌, ◌<◌, ◌≤◌, length, ◌++◌, [], ◌∷◌, ◌^◌, true, false, IfOk, OnOk, OnErr, All, MatchOption, Some, slice_get, slice_set, vec_len, vec_capacity};
+ghost use Rattle.hp_control.specs.Edits.{room_of, room_of_all};
+ghost use Rattle.hp_control.specs.Tree.{document, detached, put, put_child, applied, is_there, id_of, is_place, may_be_child, leads_into_document, children_moved, with_tag, with_attributes};
+ghost use Rattle.hp_control.specs.Tree.{branch, IsForest};
+ghost use Rattle.hp_control.specs.Tree as item;
+ghost use Rattle.hp_arena.specs.Leaves.{IsCell, leaf_items};
+ghost use Rattle.hp_arena.specs.Roots.{is_root_table, has_root_table};
+ghost use Rattle.hp_arena.specs.Nodes.{kind_of, IsClosed, end_from};
+ghost use Rattle.hp_arena.specs.Readers.{IsSpot, shown, is_item, HasTag};
+
+use crate::attributes::add_attributes;
+use crate::leaves::{
+    Doctype, Leaf, add_cells, add_leaf, add_text, alone, push_within, take_cell, text_at,
+};
+use crate::links::{Kind, Node, put_before, splice, unlink};
+use crate::readers::{NodeView, Spot};
+use hp_control::{Child, Edit, Edits, Place, Ref};
+use hp_elements::{Attribute, Chain, Tag, Text};
+use std::alloc::{AllocError, Global};
+use std::marker::Model;
+
+/// An element. Its own node is `node`, and its children end at the node after that.
+#[derive(Drop)]
+pub struct Element {
+    pub tag: Option<Tag>,
+    pub node: u32,
+}
+
+/// The parts of a tree. Contracts see the branches by their ids, and the room.
+#[derive(Drop)]
+pub struct Arena<'p> {
+    nodes: Vec<Node>,
+    elements: Vec<Element>,
+    leaves: Vec<Leaf<'p>>,
+    doctypes: Vec<Doctype<'p>>,
+    /// One-item lists, whose cells the runs of texts are made of.
+    cells: Vec<Chain<Text<'p>>>,
+    /// How much more room there is for edits.
+    spare: usize,
+    /// At least the number of runs of any text, and of attributes of any element.
+    used: usize,
+}
+
+impl<'p> Model for Arena<'p> {
+    ghost use Rattle.hp_arena.specs.Arena.{Seen};
+
+    ghost Value = { Seen };
+
+    ghost use Rattle.hp_arena.specs.Shape.{seen, IsSound};
+
+    ghost view = { seen };
+
+    ghost invariant = { IsSound };
+}
+
+/// The most nodes before, and the most room of, one reservation.
+const MOST: usize = 0x2000_0000;
+
+impl<'p> Arena<'p> {
+    /// The document alone.
+    pub fn start(alloc: Global) -> Result<Arena<'p>, AllocError>
+        ensures { IfOk result (λ t. t.branches ≡ document) }
+    {
+        let mut nodes = Vec::new(alloc);
+        let mut elements = Vec::new(alloc);
+        nodes.push(Node {
+            prev: 0,
+            next: 0,
+            kind: Kind::Element(0),
+        })?;
+        nodes.push(Node {
+            prev: 1,
+            next: 1,
+            kind: Kind::End(0),
+        })?;
+        elements.push(Element { tag: None, node: 0 })?;
+        Ok(Arena {
+            nodes,
+            elements,
+            leaves: Vec::new(alloc),
+            doctypes: Vec::new(alloc),
+            cells: Vec::new(alloc),
+            spare: 0,
+            used: 0,
+        })
+    }
+
+    /// Makes room for these edits. A tree of more than 2^29 nodes finds no memory for more.
+    pub fn reserve(&mut self, alloc: Global, edits: &Edits<'p>) -> Result<(), AllocError>
+        ensures branches { self.new.branches ≡ self.old.branches }
+        ensures room { OnOk result (room_of_all edits.now ≤ self.new.spare) }
+        ensures kept { self.old.spare ≤ self.new.spare }
+        ensures err { OnErr result (self.new ≡ self.old) }
+    {
+        let room = edits.room();
+        if room <= self.spare as u64 {
+            return Ok(());
+        }
+        let most = self
+            .nodes
+            .len()
+            .max(self.elements.len())
+            .max(self.leaves.len())
+            .max(self.doctypes.len())
+            .max(self.used);
+        if room > MOST as u64 || most > MOST {
+            return Err(AllocError);
+        }
+        let room = room as usize;
+        self.nodes.reserve(2 * room)?;
+        self.elements.reserve(room)?;
+        self.leaves.reserve(room)?;
+        self.doctypes.reserve(room)?;
+        add_cells(alloc, &mut self.cells, room)?;
+        self.spare = room;
+        Ok(())
+    }
+
+    /// How much room there is for edits: one for each, and one for each of their attributes.
+    pub fn spare(&self) -> u64
+        ensures { result ≡ self.now.spare }
+    {
+        self.spare as u64
+    }
+
+    /// Makes one edit. It takes no memory. The caller says whether it knows that the table before which a child goes
+    /// is no child of the document.
+    pub fn apply(&mut self, edit: Edit<'p>, apart: bool)
+        requires room { room_of edit ≤ self.old.spare }
+        requires table { apart ≡ true → has_root_table self.old.branches edit ≡ false }
+        ensures branches { self.new.branches ≡ applied self.old.branches edit.entry }
+        ensures spare { self.old.spare ≤ self.new.spare + room_of edit.entry }
+    {
+        match edit {
+            Edit::NewElement { tag } => self.new_element(tag),
+            Edit::Put { child, place } => {
+                if self.is_place(place) {
+                    self.put(child, place, apart);
+                }
+            }
+            Edit::Detach { node } => {
+                if self.may_be_child(node) {
+                    self.detach(id_of(node));
+                }
+            }
+            Edit::MoveChildren { from, to } => {
+                if self.is_there(from) && self.is_there(to) && id_of(from) != id_of(to) {
+                    self.move_children(id_of(from), id_of(to));
+                }
+            }
+            Edit::AddMissing { node, attributes } => {
+                if self.is_there(node) {
+                    self.add_missing(id_of(node), attributes);
+                }
+            }
+        }
+    }
+
+    /// Whether there is an element of this id.
+    fn is_there(&self, node: Ref) -> bool
+        ensures { result ≡ is_there self.now.branches node }
+    {
+        match node {
+            Ref::Fixed(id) => id < self.elements.len() as u64,
+            Ref::Older(_) | Ref::Own(_) => false,
+        }
+    }
+
+    /// Whether all that a place names is there.
+    fn is_place(&self, place: Place) -> bool
+        ensures { result ≡ is_place self.now.branches place }
+    {
+        match place {
+            Place::Into(parent) => self.is_there(parent),
+            Place::Foster { table, above } => self.is_there(table) && self.is_there(above),
+        }
+    }
+
+    /// Whether this is an element other than the document.
+    fn may_be_child(&self, node: Ref) -> bool
+        ensures { result ≡ may_be_child self.now.branches node }
+    {
+        self.is_there(node) && id_of(node) != 0
+    }
+
+    /// Puts a child at a place that is there.
+    fn put(&mut self, child: Child<'p>, place: Place, apart: bool)
+        requires room { 0 < self.old.spare }
+        requires there { is_place self.old.branches place ≡ true }
+        requires table { apart ≡ true → is_root_table self.old.branches place ≡ false }
+        ensures branches { self.new.branches ≡ put_child self.old.branches child.entry place }
+        ensures spare { self.old.spare ≤ self.new.spare + 1 }
+    {
+        match child {
+            Child::Element(node) => {
+                if self.may_be_child(node) {
+                    self.put_element(id_of(node), place);
+                }
+            }
+            Child::Text(text) => {
+                if !self.leads_into_document(place, apart) {
+                    self.put_text(text, place);
+                }
+            }
+            Child::Comment(text) => self.put_comment(text, place),
+            Child::Doctype {
+                name,
+                public,
+                system,
+            } => self.put_doctype(
+                Doctype {
+                    name,
+                    public,
+                    system,
+                },
+                place,
+            ),
+        }
+    }
+
+    /// Makes the next element, which has no parent.
+    fn new_element(&mut self, tag: Tag)
+        requires { length tag.attributes < self.old.spare }
+        ensures branches { self.new.branches ≡ applied self.old.branches (Edit.NewElement tag) }
+        ensures spare { self.new.spare + (length tag.attributes + 1) ≡ self.old.spare }
+    {
+        let node = self.nodes.len() as u32;
+        let id = self.elements.len() as u32;
+        let room = tag.attributes.len() + 1;
+        push_within(&mut self.nodes, alone(node, Kind::Element(id)));
+        push_within(&mut self.nodes, alone(node + 1, Kind::End(id)));
+        push_within(
+            &mut self.elements,
+            Element {
+                tag: Some(tag),
+                node,
+            },
+        );
+        self.spare -= room;
+        self.used += room;
+    }
+
+    /// Takes an element out of its list of children.
+    fn detach(&mut self, id: u64)
+        requires { id < length self.old.branches }
+        ensures branches { self.new.branches ≡ detached self.old.branches id }
+        ensures spare { self.new.spare ≡ self.old.spare }
+    {
+        let node = self.elements[id as usize].node;
+        unlink(&mut self.nodes, node);
+    }
+
+    /// Takes an element out of its list of children, and puts it at a place.
+    fn put_element(&mut self, id: u64, place: Place)
+        requires id_in { id < length self.old.branches }
+        requires apart { id ≢ 0 }
+        requires there { is_place self.old.branches place ≡ true }
+        ensures branches { self.new.branches ≡ put (detached self.old.branches id) (item.Element id) place }
+        ensures spare { self.new.spare ≡ self.old.spare }
+    {
+        let node = self.elements[id as usize].node;
+        unlink(&mut self.nodes, node);
+        let at = node_at(&self.nodes, &self.elements, place);
+        put_before(&mut self.nodes, at, node);
+    }
+
+    /// Appends all children of an element to those of another.
+    fn move_children(&mut self, from: u64, to: u64)
+        requires from_in { from < length self.old.branches }
+        requires to_in { to < length self.old.branches }
+        requires apart { from ≢ to }
+        ensures branches { self.new.branches ≡ children_moved self.old.branches from to }
+        ensures spare { self.new.spare ≡ self.old.spare }
+    {
+        let source = self.elements[from as usize].node + 1;
+        let target = self.elements[to as usize].node + 1;
+        if self.nodes[source as usize].next != source {
+            splice(&mut self.nodes, source, target);
+        }
+    }
+
+    /// Adds the attributes whose names an element doesn't have.
+    fn add_missing(&mut self, id: u64, attributes: Chain<Attribute>)
+        requires id_in { id < length self.old.branches }
+        requires room { length attributes < self.old.spare }
+        ensures branches { self.new.branches ≡ with_tag self.old.branches id (with_attributes (branch self.old.branches id).tag attributes) }
+        ensures spare { self.new.spare + (length attributes + 1) ≡ self.old.spare }
+    {
+        let room = attributes.len() + 1;
+        self.spare -= room;
+        self.used += room;
+        retag(&mut self.elements, id, attributes);
+    }
+
+    /// Puts a comment at a place.
+    fn put_comment(&mut self, text: Text<'p>, place: Place)
+        requires room { 0 < self.old.spare }
+        requires there { is_place self.old.branches place ≡ true }
+        ensures branches { self.new.branches ≡ put self.old.branches (item.Comment text.entry) place }
+        ensures spare { self.new.spare + 1 ≡ self.old.spare }
+    {
+        let at = node_at(&self.nodes, &self.elements, place);
+        add_leaf(&mut self.nodes, &mut self.leaves, at, Leaf::Comment(text));
+        self.spare -= 1;
+    }
+
+    /// Puts a doctype at a place.
+    fn put_doctype(&mut self, doctype: Doctype<'p>, place: Place)
+        requires room { 0 < self.old.spare }
+        requires there { is_place self.old.branches place ≡ true }
+        ensures branches { self.new.branches ≡ put self.old.branches (item.Doctype doctype.entry.name doctype.entry.public doctype.entry.system) place }
+        ensures spare { self.new.spare + 1 ≡ self.old.spare }
+    {
+        let at = node_at(&self.nodes, &self.elements, place);
+        let number = self.doctypes.len() as u32;
+        push_within(&mut self.doctypes, doctype);
+        add_leaf(&mut self.nodes, &mut self.leaves, at, Leaf::Doctype(number));
+        self.spare -= 1;
+    }
+
+    /// Whether the parent at a place is the document.
+    fn leads_into_document(&self, place: Place, apart: bool) -> bool
+        requires there { is_place self.now.branches place ≡ true }
+        requires table { apart ≡ true → is_root_table self.now.branches place ≡ false }
+        ensures { result ≡ leads_into_document self.now.branches place }
+    {
+        match place {
+            Place::Into(parent) => id_of(parent) == 0,
+            Place::Foster { table, above } => {
+                let node = self.elements[id_of(table) as usize].node;
+                if self.nodes[node as usize].next == node {
+                    return id_of(above) == 0;
+                }
+                if apart {
+                    return false;
+                }
+                end_after(&self.nodes, node) == self.elements[0].node + 1
+            }
+        }
+    }
+
+    /// Puts a text at a place. It joins a text that stands before it.
+    fn put_text(&mut self, text: Text<'p>, place: Place)
+        requires room { 0 < self.old.spare }
+        requires there { is_place self.old.branches place ≡ true }
+        ensures branches { self.new.branches ≡ put self.old.branches (item.Text text.entry) place }
+        ensures spare { self.new.spare + 1 ≡ self.old.spare }
+    {
+        let at = node_at(&self.nodes, &self.elements, place);
+        let before = self.nodes[at as usize].prev;
+        self.spare -= 1;
+        self.used += 1;
+        match text_at(&self.nodes, &self.leaves, before) {
+            Some(number) => add_text(&mut self.leaves, &mut self.cells, number, text),
+            None => {
+                let runs = take_cell(&mut self.cells, text);
+                add_leaf(&mut self.nodes, &mut self.leaves, at, Leaf::Text(runs));
+            }
+        }
+    }
+}
+
+impl<'p> Arena<'p> {
+    /// The number of elements, with the document. Each element has at most one parent, and the document has none.
+    pub fn len(&self) -> u32
+        ensures count { result ≡ length self.now.branches }
+        ensures forest { IsForest self.now.branches }
+    {
+        self.elements.len() as u32
+    }
+
+    /// The first of what stands inside an element: of its children, or of the contents if it is a template. The document is 0.
+    pub fn first_inside(&self, id: u32) -> Option<Spot>
+        requires { id < length self.now.branches }
+        ensures first { MatchOption result ((branch self.now.branches id).inside ≡ []) (λ at. (at.parent ≡ id) × (at.place ≡ 0) × IsSpot self.now at) }
+        ensures forest { IsForest self.now.branches }
+    {
+        let end = self.elements[id as usize].node + 1;
+        let node = self.nodes[end as usize].next;
+        if node == end {
+            return None;
+        }
+        Some(Spot {
+            parent: id,
+            place: 0,
+            node,
+        })
+    }
+
+    /// The next in the same list.
+    pub fn next_sibling(&self, at: Spot) -> Option<Spot>
+        requires { IsSpot self.now at }
+        ensures { MatchOption result (length (branch self.now.branches at.parent).inside ≡ at.place + 1) (λ next. (next.parent ≡ at.parent) × (next.place ≡ at.place + 1) × IsSpot self.now next) }
+    {
+        let node = self.nodes[at.node as usize].next;
+        match self.nodes[node as usize].kind {
+            Kind::End(_) => None,
+            Kind::Element(_) | Kind::Leaf(_) => Some(Spot {
+                parent: at.parent,
+                place: at.place + 1,
+                node,
+            }),
+        }
+    }
+
+    /// What stands there.
+    pub fn view(&self, at: Spot) -> NodeView<'_, 'p>
+        requires { IsSpot self.now at }
+        ensures item { slice_get (branch self.now.branches at.parent).inside at.place ≡ shown result }
+        ensures child { is_item result ≡ true }
+        ensures tag { HasTag self.now.branches result }
+    {
+        match self.nodes[at.node as usize].kind {
+            Kind::End(_) => unreachable!(),
+            Kind::Element(id) => match &self.elements[id as usize].tag {
+                Some(tag) => NodeView::Element { id, tag },
+                None => unreachable!(),
+            },
+            Kind::Leaf(number) => match &self.leaves[number as usize] {
+                Leaf::Text(runs) => NodeView::Text { runs },
+                Leaf::Comment(text) => NodeView::Comment { text },
+                Leaf::Doctype(number) => {
+                    let doctype = &self.doctypes[*number as usize];
+                    NodeView::Doctype {
+                        name: &doctype.name,
+                        public: doctype.public.as_ref(),
+                        system: doctype.system.as_ref(),
+                    }
+                }
+            },
+        }
+    }
+}
+
+/// The id that is meant. Where it isn't told, no edit asks for it.
+pub fn id_of(node: Ref) -> u64
+    ensures { result ≡ id_of node }
+{
+    match node {
+        Ref::Fixed(id) => id,
+        Ref::Older(_) | Ref::Own(_) => 0,
+    }
+}
+
+ghost use Rattle.hp_arena.specs.Shape.{at_of, node_of, attribute_count, tag_at, with_tag_at, IsPlaceIn, AreNodesIn};
+
+/// The node before which a child at a place goes.
+fn node_at(nodes: &[Node], elements: &[Element], place: Place) -> u32
+    requires there { IsPlaceIn (length elements.now) place }
+    requires closed { AreNodesIn elements.now (length nodes.now) }
+    ensures { result ≡ at_of nodes.now elements.now place }
+{
+    match place {
+        Place::Into(parent) => elements[id_of(parent) as usize].node + 1,
+        Place::Foster { table, above } => {
+            let node = elements[id_of(table) as usize].node;
+            if nodes[node as usize].next == node {
+                elements[id_of(above) as usize].node + 1
+            } else {
+                node
+            }
+        }
+    }
+}
+
+/// Adds the attributes that an element doesn't have. The document has none and gets none.
+fn retag(elements: &mut [Element], id: u64, more: Chain<Attribute>)
+    requires id_in { id < length elements.old }
+    requires room { attribute_count (tag_at elements.old id) + length more < 2 ^ 63 }
+    ensures { elements.new ≡ with_tag_at elements.old id (with_attributes (tag_at elements.old id) more) }
+{
+    if let Some(tag) = &mut elements[id as usize].tag {
+        add_attributes(&mut tag.attributes, more);
+    }
+}
+
+/// The end of the list that a node stands in.
+fn end_after(nodes: &[Node], from: u32) -> u32
+    requires from_in { from < length nodes.now }
+    requires closed { IsClosed nodes.now }
+    ensures { result ≡ end_from nodes.now (length nodes.now) from }
+{
+    let mut at = from;
+    for _ in 0..nodes.len() {
+        if let Kind::End(_) = nodes[at as usize].kind {
+            return at;
+        }
+        at = nodes[at as usize].next;
+    }
+    at
+}

@@ -1,0 +1,40 @@
+-- Which resting state a state of the lexer is.
+use Rattle.std.proofs.Common.{◌≡◌, false, None, Some, refl, ap, sym, ◌∙◌}
+use Rattle.hp_elements.specs.declared.token.Rest.{Rest}
+use Rattle.hp_elements.specs.declared.token.Rest.TheVariants as rest
+use Rattle.hp_tokens.specs.declared.state.State.{State}
+use Rattle.hp_tokens.specs.declared.state.State.TheVariants.{Data, Rcdata, Rawtext, ScriptData, Plaintext, ScriptDataEscaped, ScriptDataEscapedDash, ScriptDataEscapedDashDash, ScriptDataDoubleEscaped, ScriptDataDoubleEscapedDash, ScriptDataDoubleEscapedDashDash, CdataSection}
+use Rattle.hp_tokens.specs.States.{is_resting, state_of_rest}
+use Rattle.hp_control.specs.Truth.{rest_of}
+
+pub no_rest : (s : State) → is_resting s ≡ false → rest_of s ≡ None
+no_rest Data h = absurd (cc)
+no_rest Rcdata h = absurd (cc)
+no_rest Rawtext h = absurd (cc)
+no_rest ScriptData h = absurd (cc)
+no_rest Plaintext h = absurd (cc)
+no_rest ScriptDataEscaped h = absurd (cc)
+no_rest ScriptDataEscapedDash h = absurd (cc)
+no_rest ScriptDataEscapedDashDash h = absurd (cc)
+no_rest ScriptDataDoubleEscaped h = absurd (cc)
+no_rest ScriptDataDoubleEscapedDash h = absurd (cc)
+no_rest ScriptDataDoubleEscapedDashDash h = absurd (cc)
+no_rest CdataSection h = absurd (cc)
+no_rest _ h = refl
+
+rest_of_rest : (r : Rest) → rest_of (state_of_rest r) ≡ Some r
+rest_of_rest rest.Data = refl
+rest_of_rest rest.Rcdata = refl
+rest_of_rest rest.Rawtext = refl
+rest_of_rest rest.Script = refl
+rest_of_rest rest.Plaintext = refl
+rest_of_rest rest.Escaped = refl
+rest_of_rest rest.EscapedDash = refl
+rest_of_rest rest.EscapedDashDash = refl
+rest_of_rest rest.Double = refl
+rest_of_rest rest.DoubleDash = refl
+rest_of_rest rest.DoubleDashDash = refl
+rest_of_rest rest.Cdata = refl
+
+pub some_rest : (s : State) (r : Rest) → state_of_rest r ≡ s → rest_of s ≡ Some r
+some_rest s r h = ap rest_of (sym h) ∙ rest_of_rest r

@@ -1,0 +1,23 @@
+-- What a list turned round is, where a part is taken off.
+use Rattle.std.proofs.Common.{◌≡◌, ℕ, suc, ◌+◌, ◌-◌, ◌<◌, ◌≤◌, List, ◌∷◌, ◌++◌, length, take, drop, get_or, reverse, ap, sym, ◌∙◌, arith, length-drop, drop-cons}
+use Rattle.std.proofs.lemmas.List.{length-reverse, reverse-append, take-append-drop, drop_at}
+
+reverse_parts : {X : Type 0} (n : ℕ) (xs : List X) → reverse xs ≡ reverse (drop n xs) ++ reverse (take n xs)
+reverse_parts n xs = sym (ap reverse (take-append-drop n xs)) ∙ reverse-append (take n xs) (drop n xs)
+
+length_back : {X : Type 0} (n : ℕ) (xs : List X) → n ≤ length xs → length (reverse (drop (length xs - n) xs)) ≡ n
+length_back n xs h = length-reverse (drop (length xs - n) xs) ∙ (length-drop (length xs - n) xs ∙ omega arith)
+
+-- the list without its last n, turned round
+pub drop_reverse : {X : Type 0} (n : ℕ) (xs : List X) → n ≤ length xs → reverse (take (length xs - n) xs) ≡ drop n (reverse xs)
+drop_reverse n xs h = sym (ap (drop n) (reverse_parts (length xs - n) xs) ∙ drop_at _ _ n (length_back n xs h))
+
+-- one more item of a list, from its end on
+pub piled : {X : Type 0} (xs : List X) (count turn : ℕ) (x : X) (done : List X) → count ≡ length xs → turn < count → x ≡ get_or xs (count - 1 - turn) x → done ≡ drop (count - turn) xs → x ∷ done ≡ drop (count - (turn + 1)) xs
+piled xs count turn x done c t v d =
+    let e : count - (turn + 1) ≡ count - 1 - turn = omega arith in
+    let f : suc (count - 1 - turn) ≡ count - turn = omega arith in
+    let h : count - 1 - turn < length xs = omega arith in
+    ap (λ y. y ∷ done) v
+    ∙ (ap (λ rest. get_or xs (count - 1 - turn) x ∷ rest) (d ∙ ap (λ (n : ℕ). drop n xs) (sym f))
+    ∙ (sym (drop-cons xs (count - 1 - turn) x h) ∙ ap (λ (n : ℕ). drop n xs) (sym e)))

@@ -1,0 +1,127 @@
+//! The state below a chunk, as far as it is known.
+ghost use Rattle.std.specs.Prelude.{◌≡◌, [], IfOk, Some, None, Ok};
+ghost use Rattle.hp_control.specs.Truth.{answer_of, fact_answer};
+ghost use Rattle.hp_control.specs.Nothing.{nothing};
+ghost use Rattle.hp_control.specs.Plan.{Heard, Runs, asks, gives};
+ghost use Rattle.hp_control.specs.declared.question.Question.{Question};
+ghost use Rattle.hp_control.specs.declared.question.Answer.{Answer};
+
+use crate::question::{Answer, Assumptions, EntryKind, FactKind, Kept, Question};
+use hp_elements::{List, Mode, Name, NoMemory, Rest};
+use std::alloc::Global;
+
+/// What is below a chunk: a state that is asked.
+pub trait Below {
+    /// What is answered to each question, and what was kept of the answers.
+    ghost heard: { Self → Heard };
+
+    /// Asks the state. The answer is what it says, and the pair is kept where answers are kept.
+    fn ask(&mut self, alloc: Global, question: Question) -> Result<Answer, NoMemory>
+        ensures { IfOk result (λ answer. Runs (heard self.old) (heard self.new) (asks question gives) (Ok answer)) };
+}
+
+/// No older state: it answers as a state with empty lists, and keeps nothing.
+#[derive(Drop)]
+pub struct Nothing;
+
+impl Below for Nothing {
+    ghost heard = { λ _. record { says = answer_of nothing; kept = None } };
+
+    fn ask(&mut self, alloc: Global, question: Question) -> Result<Answer, NoMemory> {
+        answer_nothing(alloc, &question)
+    }
+}
+
+/// What a state with empty lists answers.
+pub(crate) fn answer_nothing(alloc: Global, question: &Question) -> Result<Answer, NoMemory>
+    ensures { IfOk result (λ answer. answer ≡ answer_of nothing question.now) }
+{
+    match question {
+        Question::Elem { .. } => Ok(Answer::NoElement),
+        Question::Seen { .. } => Ok(Answer::No),
+        Question::Reach { .. } => Ok(Answer::NoDepth),
+        Question::RunOf { .. } => Ok(Answer::Count(0)),
+        Question::HasTemplate { .. } => Ok(Answer::No),
+        Question::ResetFrom { .. } => Ok(Answer::NewMode(Mode::InBody)),
+        Question::Quiet { .. } => Ok(Answer::Yes),
+        Question::Listed { .. } => Ok(Answer::Entry {
+            kind: EntryKind::Absent,
+            top: false,
+        }),
+        Question::Same { .. } => Ok(Answer::Count(0)),
+        Question::Pointer { .. } => Ok(Answer::Null),
+        Question::Fact { which } => fact_of_nothing(alloc, *which),
+        Question::Whole { .. } => Ok(Answer::Whole {
+            body: false,
+            frameset_ok: true,
+        }),
+        Question::Entry => Ok(Answer::Resting {
+            rest: Rest::Data,
+            after_cr: false,
+            mode: Mode::Initial,
+            original: None,
+            skip_lf: false,
+        }),
+    }
+}
+
+fn fact_of_nothing(alloc: Global, which: FactKind) -> Result<Answer, NoMemory>
+    ensures { IfOk result (λ answer. answer ≡ fact_answer nothing which) }
+{
+    match which {
+        FactKind::Quirks => Ok(Answer::No),
+        FactKind::LastTag => no_last_tag(alloc),
+    }
+}
+
+fn no_last_tag(alloc: Global) -> Result<Answer, NoMemory>
+    ensures { IfOk result (λ answer. answer ≡ Answer.LastTag []) }
+{
+    let name = Name::from_text(alloc, "")?;
+    Ok(Answer::LastTag(name))
+}
+
+/// Says what an older state is.
+pub trait Predictor {
+    ghost says: { Self → Question → Answer };
+
+    /// What is said to the question.
+    fn say(&self, alloc: Global, question: &Question) -> Result<Answer, NoMemory>
+        ensures { IfOk result (λ answer. answer ≡ says self.now question.now) };
+}
+
+/// An older state that is guessed: it answers as the predictor, and keeps each pair.
+#[derive(Drop)]
+pub struct Guess<P: Drop> {
+    pub predictor: P,
+    pub kept: Assumptions,
+}
+
+impl<P: Drop> Guess<P> {
+    /// The guesses of that predictor, of which none was made yet.
+    pub fn new(predictor: P) -> Guess<P>
+        ensures { result ≡ record { predictor = predictor; kept = [] } }
+    {
+        Guess {
+            predictor,
+            kept: List::new(),
+        }
+    }
+}
+
+impl<P: Predictor + Drop> Below for Guess<P> {
+    ghost heard = { λ guess. record { says = P.says guess.predictor; kept = Some guess.kept } };
+
+    fn ask(&mut self, alloc: Global, question: Question) -> Result<Answer, NoMemory> {
+        let answer = self.predictor.say(alloc, &question)?;
+        let kept = answer.copy(alloc)?;
+        self.kept.push(
+            alloc,
+            Kept {
+                question,
+                answer: kept,
+            },
+        )?;
+        Ok(answer)
+    }
+}

@@ -1,0 +1,136 @@
+//! The mode to which the insertion mode is reset (13.2.4.1).
+ghost use Rattle.std.specs.Prelude.{◌≡◌, ◌+◌, ◌<◌, length, drop};
+ghost use Rattle.hp_control.specs.Walks.{mode_at, mode_of, is_cell, is_last, reset_mode, last_template_mode, table_comes, select_mode, html_mode};
+
+use crate::element::OpenElement;
+use crate::kinds::{is_named, is_within};
+use crate::stack::Stack;
+use crate::walks::reach_from;
+use hp_elements::{Kinds, Known, Mode, Name, SetName};
+
+/// The last template mode; in body where there is none.
+fn last_template_mode(templates: &Stack<Mode>) -> Mode
+    ensures { result ≡ last_template_mode templates.now }
+{
+    if templates.is_empty() {
+        Mode::InBody
+    } else {
+        *templates.at(0)
+    }
+}
+
+/// Whether a table comes from this depth down before a template.
+fn table_comes(stack: &Stack<OpenElement>, depth: usize) -> bool
+    ensures { result ≡ table_comes (drop depth stack.now) }
+{
+    let table = Kinds::Html(Name::of_known(Known::Table));
+    let template = Kinds::Html(Name::of_known(Known::Template));
+    reach_from(stack, depth, &table, &template).is_some()
+}
+
+fn select_mode(in_table: bool) -> Mode
+    ensures { result ≡ select_mode in_table }
+{
+    if in_table {
+        Mode::InSelectInTable
+    } else {
+        Mode::InSelect
+    }
+}
+
+fn html_mode(has_head: bool) -> Mode
+    ensures { result ≡ html_mode has_head }
+{
+    if has_head {
+        Mode::AfterHead
+    } else {
+        Mode::BeforeHead
+    }
+}
+
+fn is_cell(element: &OpenElement) -> bool
+    ensures { result ≡ is_cell element.now }
+{
+    is_named(Known::Td, element) || is_named(Known::Th, element)
+}
+
+/// Whether no element stands at this depth.
+fn is_last(stack: &Stack<OpenElement>, depth: usize) -> bool
+    ensures { result ≡ is_last (drop depth stack.now) }
+{
+    if depth < stack.len() { false } else { true }
+}
+
+/// The mode that an element decides, where this depth is the next below it; `None` where the walk goes on.
+fn mode_at(
+    has_head: bool,
+    templates: &Stack<Mode>,
+    element: &OpenElement,
+    stack: &Stack<OpenElement>,
+    below: usize,
+) -> Option<Mode>
+    ensures { result ≡ mode_at has_head templates.now element.now (drop below stack.now) }
+{
+    let is_last = is_last(stack, below);
+    if is_named(Known::Select, element) {
+        return Some(select_mode(table_comes(stack, below)));
+    }
+    if is_cell(element) && !is_last {
+        return Some(Mode::InCell);
+    }
+    if is_named(Known::Template, element) {
+        return Some(last_template_mode(templates));
+    }
+    if is_named(Known::Head, element) && !is_last {
+        return Some(Mode::InHead);
+    }
+    if is_named(Known::Html, element) {
+        return Some(html_mode(has_head));
+    }
+    mode_of(element)
+}
+
+/// The mode of an element that decides one wherever it stands.
+fn mode_of(element: &OpenElement) -> Option<Mode>
+    ensures { result ≡ mode_of element.now }
+{
+    if is_named(Known::Tr, element) {
+        return Some(Mode::InRow);
+    }
+    if is_within(&Kinds::Set(SetName::TableSections), element) {
+        return Some(Mode::InTableBody);
+    }
+    if is_named(Known::Caption, element) {
+        return Some(Mode::InCaption);
+    }
+    if is_named(Known::Colgroup, element) {
+        return Some(Mode::InColumnGroup);
+    }
+    if is_named(Known::Table, element) {
+        return Some(Mode::InTable);
+    }
+    if is_named(Known::Body, element) {
+        return Some(Mode::InBody);
+    }
+    if is_named(Known::Frameset, element) {
+        return Some(Mode::InFrameset);
+    }
+    None
+}
+
+/// The mode to which the insertion mode is reset, seen from this depth.
+pub fn reset_from(
+    has_head: bool,
+    templates: &Stack<Mode>,
+    stack: &Stack<OpenElement>,
+    depth: usize,
+) -> Mode
+    ensures { result ≡ reset_mode has_head templates.now (drop depth stack.now) }
+{
+    for at in depth..stack.len() {
+        if let Some(mode) = mode_at(has_head, templates, stack.at(at), stack, at + 1) {
+            return mode;
+        }
+    }
+    Mode::InBody
+}

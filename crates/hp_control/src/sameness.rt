@@ -1,0 +1,121 @@
+//! Whether two control states are the same, part by part.
+ghost use Rattle.std.specs.Prelude.{◌≡◌, ◌↔◌, ◌<◌, IsTrue, length};
+
+use crate::element::{FormattingEntry, OpenElement};
+use crate::stack::Stack;
+use hp_elements::{Attribute, Chain, Mode, Tag};
+
+fn same_element(element: &OpenElement, other: &OpenElement) -> bool
+    ensures { IsTrue result ↔ (element.now ≡ other.now) }
+{
+    element.id == other.id
+        && element.namespace == other.namespace
+        && element.point == other.point
+        && element.name.same(&other.name)
+}
+
+/// Whether the two stacks have the same elements.
+pub(crate) fn same_elements(stack: &Stack<OpenElement>, other: &Stack<OpenElement>) -> bool
+    ensures { IsTrue result ↔ (stack.now ≡ other.now) }
+{
+    if stack.len() != other.len() {
+        return false;
+    }
+    for depth in 0..stack.len() {
+        if !same_element(stack.at(depth), other.at(depth)) {
+            return false;
+        }
+    }
+    true
+}
+
+fn equal_attribute(attribute: &Attribute, other: &Attribute) -> bool
+    ensures { IsTrue result ↔ (attribute.now ≡ other.now) }
+{
+    attribute.space == other.space
+        && attribute.name.same(&other.name)
+        && attribute.value.same(&other.value)
+}
+
+/// Whether the attributes are the same, in the same order.
+fn equal_attributes(attributes: &Chain<Attribute>, other: &Chain<Attribute>) -> bool
+    ensures { IsTrue result ↔ (attributes.now ≡ other.now) }
+{
+    let mut rest = other.iter();
+    for attribute in attributes.iter() {
+        match rest.next() {
+            Some(that) => {
+                if !equal_attribute(attribute, that) {
+                    return false;
+                }
+            }
+            None => return false,
+        }
+    }
+    rest.next().is_none()
+}
+
+fn equal_tag(tag: &Tag, other: &Tag) -> bool
+    ensures { IsTrue result ↔ (tag.now ≡ other.now) }
+{
+    tag.namespace == other.namespace
+        && tag.name.same(&other.name)
+        && equal_attributes(&tag.attributes, &other.attributes)
+}
+
+fn same_entry(entry: &FormattingEntry, other: &FormattingEntry) -> bool
+    ensures { IsTrue result ↔ (entry.now ≡ other.now) }
+{
+    match (entry, other) {
+        (FormattingEntry::Marker, FormattingEntry::Marker) => true,
+        (
+            FormattingEntry::Element { id, tag },
+            FormattingEntry::Element {
+                id: other_id,
+                tag: other_tag,
+            },
+        ) => *id == *other_id && equal_tag(tag, other_tag),
+        (FormattingEntry::Marker, FormattingEntry::Element { .. }) => false,
+        (FormattingEntry::Element { .. }, FormattingEntry::Marker) => false,
+    }
+}
+
+pub(crate) fn same_original(original: Option<Mode>, other: Option<Mode>) -> bool
+    ensures { IsTrue result ↔ (original ≡ other) }
+{
+    match (original, other) {
+        (None, None) => true,
+        (Some(mode), Some(other)) => mode == other,
+        _ => false,
+    }
+}
+
+/// Whether the two lists have the same entries.
+pub(crate) fn same_entries(list: &Stack<FormattingEntry>, other: &Stack<FormattingEntry>) -> bool
+    ensures { IsTrue result ↔ (list.now ≡ other.now) }
+{
+    if list.len() != other.len() {
+        return false;
+    }
+    for depth in 0..list.len() {
+        if !same_entry(list.at(depth), other.at(depth)) {
+            return false;
+        }
+    }
+    true
+}
+
+/// Whether the two stacks have the same template modes.
+pub(crate) fn same_templates(modes: &Stack<Mode>, other: &Stack<Mode>) -> bool
+    ensures { IsTrue result ↔ (modes.now ≡ other.now) }
+{
+    if modes.len() != other.len() {
+        return false;
+    }
+    for depth in 0..modes.len() {
+        if *modes.at(depth) != *other.at(depth) {
+            return false;
+        }
+    }
+    true
+}

@@ -1,0 +1,73 @@
+//! Stacks, which contracts see as lists with their top first.
+ghost use Rattle.std.specs.Prelude.{◌≡◌, ◌+◌, ◌-◌, ◌<◌, ◌≤◌, ◌==◌, [], ◌∷◌, ◌++◌, length, drop, OnOk, OnErr, IfErr, slice_index_or};
+
+use hp_elements::List;
+use std::alloc::{AllocFailed, Global};
+use std::marker::Model;
+
+/// A list whose end is its top, as the stack of open elements and the list of formatting elements are. A contract sees
+/// its items with the top first. One of none or one item takes no heap.
+#[derive(Drop)]
+pub struct Stack<T> {
+    items: List<T>,
+}
+
+impl<T> Model for Stack<T> {
+    ghost use Rattle.std.specs.Prelude.{List, reverse};
+
+    ghost Value = { List T };
+
+    ghost view = { λ s. reverse s.items };
+}
+
+impl<T> Stack<T> {
+    /// A stack without items.
+    pub fn new() -> Stack<T>
+        ensures { result ≡ [] }
+    {
+        Stack { items: List::new() }
+    }
+
+    /// The number of items.
+    pub fn len(&self) -> usize
+        ensures { result ≡ length self.now }
+    {
+        self.items.len()
+    }
+
+    /// Whether there is no item.
+    pub fn is_empty(&self) -> bool
+        ensures { result ≡ (length self.now == 0) }
+    {
+        self.len() == 0
+    }
+
+    /// The item at a depth; the top is at 0.
+    pub fn at(&self, depth: usize) -> &T
+        requires { depth < length self.now }
+        ensures { result.now ≡ slice_index_or self.now depth result.now }
+    {
+        let items = self.items.as_slice();
+        &items[items.len() - 1 - depth]
+    }
+}
+
+impl<T: Drop> Stack<T> {
+    /// Puts an item on top. At an `Err`, which comes only for want of memory, the stack is as before and the item comes back.
+    pub fn push(&mut self, alloc: Global, item: T) -> Result<(), AllocFailed<T>>
+        ensures ok { OnOk result (self.new ≡ item ∷ self.old) }
+        ensures err { OnErr result (self.new ≡ self.old) }
+        ensures returned { IfErr result (λ failed. failed.value ≡ item) }
+    {
+        self.items.push(alloc, item)
+    }
+
+    /// Takes the top `count` items off.
+    pub fn drop_top(&mut self, count: usize)
+        requires { count ≤ length self.old }
+        ensures { self.new ≡ drop count self.old }
+    {
+        let rest = self.items.len() - count;
+        self.items.truncate(rest);
+    }
+}

@@ -1,0 +1,389 @@
+//! Whether an answer is the true one.
+ghost use Rattle.std.specs.Prelude.{◌≡◌, ◌↔◌, ℕ, Option, Some, None, IsTrue, MatchOption, ◌+◌, ◌<◌, ◌≤◌, [], drop, length, slice_get};
+ghost use Rattle.std.specs.Str.{chars};
+ghost use Rattle.std.specs.Option.{unwrap_or, option_copied};
+ghost use Rattle.hp_control.specs.Truth.{answer_of, yes_or_no, depth_answer, IfSomeIs, away_or, pointer_answer, element_answer, entry_answer, rest_of, fact_answer, kind_at, kind_of, top_has_entry, listed_answer};
+ghost use Rattle.hp_control.specs.Walks.{second_is_body, is_quiet, last_named};
+
+use crate::control::Control;
+use crate::element::{FormattingEntry, OpenElement};
+use crate::kinds::is_named;
+use crate::question::{Answer, EntryKind, FactKind, Question};
+use crate::reset::reset_from;
+use crate::sameness::same_original;
+use crate::stack::Stack;
+use crate::tags::same_namespace;
+use crate::walks::{
+    cleared_from, equals_from, has_entry_from, has_template, last_named_from, open_from,
+    reach_from, run_from, scope_from,
+};
+use hp_elements::{Known, Mode, Name, Rest};
+use hp_tokens::LexState;
+
+/// Whether the answer says so.
+fn is_yes_or_no(yes: bool, answer: &Answer) -> bool
+    ensures { IsTrue result ↔ (yes_or_no yes ≡ answer.now) }
+{
+    match answer {
+        Answer::Yes => yes,
+        Answer::No => !yes,
+        _ => false,
+    }
+}
+
+/// Whether the answer is that number.
+fn is_count(count: u64, answer: &Answer) -> bool
+    ensures { IsTrue result ↔ (Answer.Count count ≡ answer.now) }
+{
+    match answer {
+        Answer::Count(said) => *said == count,
+        _ => false,
+    }
+}
+
+/// Whether the answer is that mode.
+fn is_mode(mode: Mode, answer: &Answer) -> bool
+    ensures { IsTrue result ↔ (Answer.NewMode mode ≡ answer.now) }
+{
+    match answer {
+        Answer::NewMode(said) => *said == mode,
+        _ => false,
+    }
+}
+
+/// Whether the answer is the depth of what was found so far below, or that nothing was.
+fn is_depth(from: u64, found: Option<usize>, answer: &Answer) -> bool
+    ensures { IsTrue result ↔ (depth_answer from found ≡ answer.now) }
+{
+    match answer {
+        Answer::Depth(said) => is_below(from, found, *said),
+        Answer::NoDepth => found.is_none(),
+        _ => false,
+    }
+}
+
+/// Whether something was found at that depth.
+fn is_below(from: u64, found: Option<usize>, depth: u64) -> bool
+    ensures { IsTrue result ↔ IfSomeIs from found depth }
+{
+    match found {
+        Some(found) => depth >= from && depth - from == found as u64,
+        None => false,
+    }
+}
+
+/// Whether the answer is how the element of the form pointer stands.
+fn is_pointer(stack: &Stack<OpenElement>, from: u64, form: Option<u64>, answer: &Answer) -> bool
+    ensures { IsTrue result ↔ (pointer_answer from form (drop from stack.now) ≡ answer.now) }
+{
+    match form {
+        None => matches!(answer, Answer::Null),
+        Some(id) => is_away_or(from, scope_from(stack, from as usize, id), answer),
+    }
+}
+
+fn is_away_or(from: u64, found: Option<usize>, answer: &Answer) -> bool
+    ensures { IsTrue result ↔ (away_or from found ≡ answer.now) }
+{
+    match answer {
+        Answer::Depth(said) => is_below(from, found, *said),
+        Answer::Away => found.is_none(),
+        _ => false,
+    }
+}
+
+/// Whether the answer is the element at the depth.
+fn is_element(stack: &Stack<OpenElement>, depth: u64, answer: &Answer) -> bool
+    ensures { IsTrue result ↔ (element_answer (slice_get stack.now depth) ≡ answer.now) }
+{
+    let depth = depth as usize;
+    if depth >= stack.len() {
+        return matches!(answer, Answer::NoElement);
+    }
+    is_that_element(stack.at(depth), answer)
+}
+
+fn is_that_element(element: &OpenElement, answer: &Answer) -> bool
+    ensures { IsTrue result ↔ (element_answer (Some element.now) ≡ answer.now) }
+{
+    match answer {
+        Answer::Element {
+            namespace,
+            name,
+            point,
+        } => {
+            element.namespace == *namespace && element.point == *point && element.name.same(name)
+        }
+        _ => false,
+    }
+}
+
+/// How the entry with this id stands.
+fn kind_at(stack: &Stack<OpenElement>, depth: usize, id: u64) -> EntryKind
+    ensures { result ≡ kind_at id (drop depth stack.now) }
+{
+    if open_from(stack, depth, id).is_none() {
+        return EntryKind::Closed;
+    }
+    if scope_from(stack, depth, id).is_some() {
+        EntryKind::InScope
+    } else {
+        EntryKind::Hidden
+    }
+}
+
+/// How the last entry of the name stands.
+fn kind_of(
+    stack: &Stack<OpenElement>,
+    depth: usize,
+    list: &Stack<FormattingEntry>,
+    from: usize,
+    name: &Name,
+) -> EntryKind
+    ensures { result ≡ kind_of (last_named name.now (drop from list.now)) (drop depth stack.now) }
+{
+    match last_named_from(list, from, name) {
+        None => EntryKind::Absent,
+        Some(id) => kind_at(stack, depth, id),
+    }
+}
+
+/// Whether the element at the depth has an entry.
+fn top_has_entry(
+    stack: &Stack<OpenElement>,
+    depth: usize,
+    list: &Stack<FormattingEntry>,
+    from: usize,
+) -> bool
+    ensures { result ≡ top_has_entry (drop depth stack.now) (drop from list.now) }
+{
+    depth < stack.len() && has_entry_from(list, from, stack.at(depth).id)
+}
+
+/// Whether the answer says how the last entry of a name stands.
+fn is_listed(kind: EntryKind, top: bool, answer: &Answer) -> bool
+    ensures { IsTrue result ↔ (Answer.Entry kind top ≡ answer.now) }
+{
+    match answer {
+        Answer::Entry {
+            kind: said,
+            top: said_top,
+        } => *said == kind && *said_top == top,
+        _ => false,
+    }
+}
+
+/// Whether nothing below is to be reconstructed.
+fn is_quiet(
+    stack: &Stack<OpenElement>,
+    depth: usize,
+    list: &Stack<FormattingEntry>,
+    from: usize,
+) -> bool
+    ensures { result ≡ is_quiet (drop depth stack.now) (drop from list.now) }
+{
+    if from >= list.len() {
+        return true;
+    }
+    match list.at(from) {
+        FormattingEntry::Marker => true,
+        FormattingEntry::Element { id, .. } => open_from(stack, depth, *id).is_some(),
+    }
+}
+
+/// Whether the second element is an HTML `body` that stands at the depth or below.
+fn second_is_body(stack: &Stack<OpenElement>, depth: usize) -> bool
+    ensures { result ≡ second_is_body (drop depth stack.now) }
+{
+    match second_place(stack.len(), depth) {
+        Some(at) => is_named(Known::Body, stack.at(at)),
+        None => false,
+    }
+}
+
+/// Where the second of so many elements stands, if that is at the depth or below.
+fn second_place(count: usize, depth: usize) -> Option<usize>
+    ensures { MatchOption result (count < depth + 2) (λ at. (depth + 2 ≤ count) × (at + 2 ≡ count)) }
+{
+    if count < 2 {
+        return None;
+    }
+    if depth > count - 2 {
+        return None;
+    }
+    Some(count - 2)
+}
+
+fn is_whole(body: bool, frameset_ok: bool, answer: &Answer) -> bool
+    ensures { IsTrue result ↔ (Answer.Whole body frameset_ok ≡ answer.now) }
+{
+    match answer {
+        Answer::Whole {
+            body: said,
+            frameset_ok: said_ok,
+        } => *said == body && *said_ok == frameset_ok,
+        _ => false,
+    }
+}
+
+/// Whether the answer is what is told at the chunk's start.
+fn is_entry(
+    lex: &LexState,
+    mode: Mode,
+    original: Option<Mode>,
+    skip_lf: bool,
+    answer: &Answer,
+) -> bool
+    ensures { IsTrue result ↔ (entry_answer lex.now.machine.after_cr mode original skip_lf (rest_of lex.now.machine.state) ≡ answer.now) }
+{
+    let after_cr = lex.machine.after_cr;
+    match lex.machine.state.rest() {
+        None => matches!(answer, Answer::NotResting),
+        Some(rest) => is_resting(rest, after_cr, mode, original, skip_lf, answer),
+    }
+}
+
+fn same_flags(after_cr: bool, other_cr: bool, skip_lf: bool, other_lf: bool) -> bool
+    ensures { IsTrue result ↔ ((after_cr ≡ other_cr) × (skip_lf ≡ other_lf)) }
+{
+    after_cr == other_cr && skip_lf == other_lf
+}
+
+fn same_modes(mode: Mode, other: Mode, original: Option<Mode>, other_original: Option<Mode>) -> bool
+    ensures { IsTrue result ↔ ((mode ≡ other) × (original ≡ other_original)) }
+{
+    mode == other && same_original(original, other_original)
+}
+
+fn is_resting(
+    rest: Rest,
+    after_cr: bool,
+    mode: Mode,
+    original: Option<Mode>,
+    skip_lf: bool,
+    answer: &Answer,
+) -> bool
+    ensures { IsTrue result ↔ (Answer.Resting rest after_cr mode original skip_lf ≡ answer.now) }
+{
+    match answer {
+        Answer::Resting {
+            rest: said_rest,
+            after_cr: said_cr,
+            mode: said_mode,
+            original: said_original,
+            skip_lf: said_lf,
+        } => {
+            *said_rest == rest
+                && same_flags(*said_cr, after_cr, *said_lf, skip_lf)
+                && same_modes(*said_mode, mode, *said_original, original)
+        }
+        _ => false,
+    }
+}
+
+/// The text of the last start tag's name; empty where there was none.
+fn last_tag(lex: &LexState) -> &str
+    ensures { chars result.now ≡ unwrap_or lex.now.machine.last_tag [] }
+{
+    match &lex.machine.last_tag {
+        Some(name) => name.as_str(),
+        None => "",
+    }
+}
+
+/// Whether the text is that name.
+fn is_name(text: &str, name: &Name) -> bool
+    ensures { IsTrue result ↔ (chars text.now ≡ name.now) }
+{
+    text == name.as_str()
+}
+
+/// Whether the answer is that name.
+fn is_last_tag(lex: &LexState, answer: &Answer) -> bool
+    ensures { IsTrue result ↔ (Answer.LastTag (unwrap_or lex.now.machine.last_tag []) ≡ answer.now) }
+{
+    match answer {
+        Answer::LastTag(said) => is_name(last_tag(lex), said),
+        _ => false,
+    }
+}
+
+/// Whether the answer is the true one, read in the full state. It takes no memory.
+pub fn truth(control: &Control, question: &Question, answer: &Answer) -> bool
+    ensures { IsTrue result ↔ (answer_of control.now question.now ≡ answer.now) }
+{
+    match question {
+        Question::Entry => is_entry(
+            &control.lex,
+            control.mode,
+            control.original,
+            control.skip_lf,
+            answer,
+        ),
+        Question::Elem { depth } => is_element(&control.stack, *depth, answer),
+        Question::Seen {
+            depth,
+            goals,
+            stops,
+        } => {
+            let found = reach_from(&control.stack, *depth as usize, goals, stops);
+            is_yes_or_no(found.is_some(), answer)
+        }
+        Question::Reach {
+            depth,
+            goals,
+            stops,
+        } => {
+            let found = reach_from(&control.stack, *depth as usize, goals, stops);
+            is_depth(*depth, found, answer)
+        }
+        Question::RunOf { depth, names } => {
+            let count = run_from(&control.stack, *depth as usize, names);
+            is_count(count as u64, answer)
+        }
+        Question::HasTemplate { depth } => {
+            is_yes_or_no(has_template(&control.stack, *depth as usize), answer)
+        }
+        Question::ResetFrom { depth } => {
+            let mode = reset_from(
+                control.head.is_some(),
+                &control.templates,
+                &control.stack,
+                *depth as usize,
+            );
+            is_mode(mode, answer)
+        }
+        Question::Quiet { depth, cuts } => {
+            let from = cleared_from(&control.formatting, *cuts);
+            is_yes_or_no(
+                is_quiet(&control.stack, *depth as usize, &control.formatting, from),
+                answer,
+            )
+        }
+        Question::Listed { depth, cuts, name } => {
+            let depth = *depth as usize;
+            let from = cleared_from(&control.formatting, *cuts);
+            let kind = kind_of(&control.stack, depth, &control.formatting, from, name);
+            let top = top_has_entry(&control.stack, depth, &control.formatting, from);
+            is_listed(kind, top, answer)
+        }
+        Question::Same { cuts, tag } => {
+            let from = cleared_from(&control.formatting, *cuts);
+            is_count(equals_from(&control.formatting, from, tag), answer)
+        }
+        Question::Pointer { depth } => is_pointer(&control.stack, *depth, control.form, answer),
+        Question::Fact {
+            which: FactKind::Quirks,
+        } => is_yes_or_no(control.quirks, answer),
+        Question::Fact {
+            which: FactKind::LastTag,
+        } => is_last_tag(&control.lex, answer),
+        Question::Whole { depth } => {
+            is_whole(
+                second_is_body(&control.stack, *depth as usize),
+                control.frameset_ok,
+                answer,
+            )
+        }
+    }
+}

@@ -1,0 +1,4 @@
+pub mod Spelled
+pub mod Compared
+pub mod WordSteps
+pub mod Steady

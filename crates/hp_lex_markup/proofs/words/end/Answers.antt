@@ -1,0 +1,21 @@
+use Rattle.std.proofs.Common.{◌∙◌, sym, refl, ap, false}
+use Rattle.hp_tokens.specs.Advancing.{unread}
+use Rattle.hp_tokens.proofs.Stepping.{text_of_some}
+use Rattle.hp_lex_markup.proofs.Spelled.{word_fits}
+use Rattle.hp_lex_markup.proofs.WordSteps.{no_pair_at, none_read_at_end, past_at_end, past_held}
+use Rattle.hp_lex_markup.proofs.words.end.Goals as goal
+
+pub read_word-requires : goal.read_word-requires
+read_word-requires c = word_fits c.args.state.now.machine.state c.args.state.now.ahead c.in-Some-first_word.word (sym c.in-Some-first_word.ensures)
+
+pub returns-clause-step : goal.returns-clause-step
+returns-clause-step c = λ rested settled.
+    let text = text_of_some (unread c.args.state.now c.args.input.now) (sym c.in-Some.ensures) in
+    let no_lf = no_pair_at c.args.state.now.machine.after_cr (unread c.args.state.now c.args.input.now) (sym c.is_pair_next.ensures ∙ c.if-is_pair_next.false) c.in-Some.c text.0 text.1 in (
+      false,
+      past_at_end c.args.state.now c.args.input.now c.in-Some.c c.requires.here c.requires.ended no_lf text.0 text.1
+          c.in-Some-first_word.word c.read_word.new.state rested c.args.tokens.now (sym c.in-Some-first_word.ensures) c.requires.held c.in_ok-read_word.ensures settled,
+    )
+
+pub returns-clause-held : goal.returns-clause-held
+returns-clause-held c = past_held c.in-Some-first_word.word c.args.state.now c.args.input.now c.read_word.new.state 0 c.requires.held c.in_ok-read_word.ensures

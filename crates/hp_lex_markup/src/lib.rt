@@ -1,0 +1,12 @@
+//! The lexer's states for markup declarations, comments, doctypes and CDATA sections.
+#![tactic(auto)]
+
+mod comments;
+mod doctypes;
+mod markup;
+mod rows;
+#[cfg(test)]
+mod tests;
+mod words;
+
+pub use markup::{advance, any_pieces, at_end, is_here};

@@ -1,0 +1,75 @@
+// The rows of CDATA sections, and what other rows have in common.
+ghost use Rattle.std.specs.Prelude.{◌≡◌, IfOk, OnOk, IsTrue};
+ghost use Rattle.std.specs.List.{list_all};
+ghost use Rattle.std.specs.Char.{is_ascii};
+ghost use Rattle.hp_tokens.specs.Rows.{Follows, putting_text};
+ghost use Rattle.hp_lex_markup.specs.Rows as rows;
+
+use hp_elements::Tokens;
+use hp_tokens::{Machine, NoMemory, Part, Reads, State, again, emitted_char, ended, go, push_char};
+use std::alloc::Global;
+
+/// An ASCII text goes to a part of what is built.
+pub fn put_ascii(
+    alloc: Global,
+    machine: &mut Machine,
+    part: Part,
+    text: &str,
+) -> Result<(), NoMemory>
+    requires ascii { IsTrue (list_all is_ascii text.now) }
+    ensures { OnOk result (machine.new ≡ putting_text part text.now machine.old) }
+{
+    machine.put_text(alloc, part, text)?;
+    Ok(())
+}
+
+pub fn cdata_section(
+    alloc: Global,
+    machine: &mut Machine,
+    symbol: Option<char>,
+    tokens: &mut Tokens<'_>,
+) -> Result<Reads, NoMemory>
+    ensures { IfOk result (Follows (rows.cdata_section machine.old symbol) tokens.old machine.new tokens.new) }
+{
+    match symbol {
+        None => ended(alloc, machine, tokens),
+        Some(']') => Ok(go(machine, State::CdataSectionBracket)),
+        Some(c) => emitted_char(alloc, machine, tokens, c),
+    }
+}
+
+pub fn cdata_section_bracket(
+    alloc: Global,
+    machine: &mut Machine,
+    symbol: Option<char>,
+    tokens: &mut Tokens<'_>,
+) -> Result<Reads, NoMemory>
+    ensures { IfOk result (Follows (rows.cdata_section_bracket machine.old symbol) tokens.old machine.new tokens.new) }
+{
+    match symbol {
+        Some(']') => Ok(go(machine, State::CdataSectionEnd)),
+        _ => {
+            push_char(alloc, tokens, ']')?;
+            Ok(again(machine, State::CdataSection))
+        }
+    }
+}
+
+pub fn cdata_section_end(
+    alloc: Global,
+    machine: &mut Machine,
+    symbol: Option<char>,
+    tokens: &mut Tokens<'_>,
+) -> Result<Reads, NoMemory>
+    ensures { IfOk result (Follows (rows.cdata_section_end machine.old symbol) tokens.old machine.new tokens.new) }
+{
+    match symbol {
+        Some(']') => emitted_char(alloc, machine, tokens, ']'),
+        Some('>') => Ok(go(machine, State::Data)),
+        _ => {
+            push_char(alloc, tokens, ']')?;
+            push_char(alloc, tokens, ']')?;
+            Ok(again(machine, State::CdataSection))
+        }
+    }
+}

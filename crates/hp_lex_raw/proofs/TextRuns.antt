@@ -1,0 +1,139 @@
+-- In a state of text the row emits each code point of a run, and the state stays.
+use Rattle.std.proofs.Common.{◌≡◌, ℕ, List, [], ◌∷◌, Bool, true, false, refl, ap, ◌∙◌, sym, Some, eqb-true, IsTrue}
+use Rattle.std.specs.Prelude.{◌==◌, ◌&&◌}
+use Rattle.hp_tokens.specs.declared.state.State.{State}
+use Rattle.hp_tokens.specs.declared.state.State.TheVariants.{Rcdata, Rawtext, ScriptData, Plaintext, ScriptDataEscaped, ScriptDataDoubleEscaped}
+use Rattle.hp_tokens.specs.declared.machine.Machine.{Machine}
+use Rattle.hp_tokens.specs.Rows.{Row, is_blank, replaced, stay, plus}
+use Rattle.hp_tokens.specs.Moves.{Lexing, read_as, row_move, row_end, needs_more}
+use Rattle.hp_tokens.specs.Advancing.{HasRows}
+use Rattle.hp_tokens.specs.Plain.{none_of, data_stops, raw_stops, plaintext_stops, escaped_stops, EmitsPlain}
+use Rattle.hp_tokens.specs.PlainLaws.{apart, blank-apart}
+use Rattle.hp_lex_raw.specs.Rows.{has_row, row, row_of, ends_name, rcdata, raw_text, plaintext, escaped, double_escaped}
+use Rattle.hp_lex_raw.specs.Fine.{text_here}
+use Rattle.hp_lex_raw.specs.Raw.{raw_rules, asks, names_end_tag, is_untold, reads_text}
+use Rattle.hp_lex_raw.proofs.Reading.{chosen, passed}
+
+-- the row of the state that the machine is in
+row_there : (m : Machine) (c : ℕ) (s t : State) → m.state ≡ s → s ≡ t → row m (Some c) ≡ row_of t m (Some c)
+row_there m c s t is e = ap (λ (x : State). row_of x m (Some c)) (is ∙ e)
+
+-- what is not U+0000 is not replaced
+kept : (m : Machine) (c : ℕ) → (c == 0) ≡ false → plus (replaced c) (stay m) ≡ plus c (stay m)
+kept m c z =
+    let same : replaced c ≡ c = rw z refl in
+    ap (λ (x : ℕ). plus x (stay m)) same
+
+rcdata_emits : (m : Machine) (c : ℕ) → (c == 38) ≡ false → (c == 60) ≡ false → (c == 0) ≡ false → rcdata m (Some c) ≡ plus c (stay m)
+rcdata_emits m c a b z = rw (a, b) (kept m c z)
+
+raw_emits : (n : State) (m : Machine) (c : ℕ) → (c == 60) ≡ false → (c == 0) ≡ false → raw_text n m (Some c) ≡ plus c (stay m)
+raw_emits n m c a z = rw a (kept m c z)
+
+plaintext_emits : (m : Machine) (c : ℕ) → (c == 0) ≡ false → plaintext m (Some c) ≡ plus c (stay m)
+plaintext_emits m c z = kept m c z
+
+escaped_emits : (m : Machine) (c : ℕ) → (c == 45) ≡ false → (c == 60) ≡ false → (c == 0) ≡ false → escaped m (Some c) ≡ plus c (stay m)
+escaped_emits m c a b z = rw (a, b) (kept m c z)
+
+double_escaped_emits : (m : Machine) (c : ℕ) → (c == 45) ≡ false → (c == 60) ≡ false → (c == 0) ≡ false → double_escaped m (Some c) ≡ plus c (stay m)
+double_escaped_emits m c a b z = rw (a, b) (kept m c z)
+
+module _ (s : State) where
+  pub rcdata_blanks : s ≡ Rcdata → EmitsPlain row is_blank s
+  rcdata_blanks e = record {
+    stays = λ m c is h.
+        let a = blank-apart (38 ∷ 60 ∷ 0 ∷ []) refl c h in
+        row_there m c s Rcdata is e ∙ rcdata_emits m c a.0 a.1.0 a.1.1.0;
+  }
+
+  pub rcdata_others : s ≡ Rcdata → EmitsPlain row (none_of data_stops) s
+  rcdata_others e = record {
+    stays = λ m c is h.
+        let a = apart data_stops c h in
+        row_there m c s Rcdata is e ∙ rcdata_emits m c a.1.1.1.1.1.1.0 a.1.1.1.1.1.1.1.0 a.0;
+  }
+
+  pub rawtext_blanks : s ≡ Rawtext → EmitsPlain row is_blank s
+  rawtext_blanks e = record {
+    stays = λ m c is h.
+        let a = blank-apart (60 ∷ 0 ∷ []) refl c h in
+        row_there m c s Rawtext is e ∙ raw_emits _ m c a.0 a.1.0;
+  }
+
+  pub rawtext_others : s ≡ Rawtext → EmitsPlain row (none_of raw_stops) s
+  rawtext_others e = record {
+    stays = λ m c is h.
+        let a = apart raw_stops c h in
+        row_there m c s Rawtext is e ∙ raw_emits _ m c a.1.1.1.1.1.1.0 a.0;
+  }
+
+  pub script_blanks : s ≡ ScriptData → EmitsPlain row is_blank s
+  script_blanks e = record {
+    stays = λ m c is h.
+        let a = blank-apart (60 ∷ 0 ∷ []) refl c h in
+        row_there m c s ScriptData is e ∙ raw_emits _ m c a.0 a.1.0;
+  }
+
+  pub script_others : s ≡ ScriptData → EmitsPlain row (none_of raw_stops) s
+  script_others e = record {
+    stays = λ m c is h.
+        let a = apart raw_stops c h in
+        row_there m c s ScriptData is e ∙ raw_emits _ m c a.1.1.1.1.1.1.0 a.0;
+  }
+
+  pub plaintext_blanks : s ≡ Plaintext → EmitsPlain row is_blank s
+  plaintext_blanks e = record {
+    stays = λ m c is h. row_there m c s Plaintext is e ∙ plaintext_emits m c (blank-apart (0 ∷ []) refl c h).0;
+  }
+
+  pub plaintext_others : s ≡ Plaintext → EmitsPlain row (none_of plaintext_stops) s
+  plaintext_others e = record {
+    stays = λ m c is h. row_there m c s Plaintext is e ∙ plaintext_emits m c (apart plaintext_stops c h).0;
+  }
+
+  pub escaped_blanks : s ≡ ScriptDataEscaped → EmitsPlain row is_blank s
+  escaped_blanks e = record {
+    stays = λ m c is h.
+        let a = blank-apart (45 ∷ 60 ∷ 0 ∷ []) refl c h in
+        row_there m c s ScriptDataEscaped is e ∙ escaped_emits m c a.0 a.1.0 a.1.1.0;
+  }
+
+  pub escaped_others : s ≡ ScriptDataEscaped → EmitsPlain row (none_of escaped_stops) s
+  escaped_others e = record {
+    stays = λ m c is h.
+        let a = apart escaped_stops c h in
+        row_there m c s ScriptDataEscaped is e ∙ escaped_emits m c a.1.1.1.1.1.1.0 a.1.1.1.1.1.1.1.0 a.0;
+  }
+
+  pub double_escaped_blanks : s ≡ ScriptDataDoubleEscaped → EmitsPlain row is_blank s
+  double_escaped_blanks e = record {
+    stays = λ m c is h.
+        let a = blank-apart (45 ∷ 60 ∷ 0 ∷ []) refl c h in
+        row_there m c s ScriptDataDoubleEscaped is e ∙ double_escaped_emits m c a.0 a.1.0 a.1.1.0;
+  }
+
+  pub double_escaped_others : s ≡ ScriptDataDoubleEscaped → EmitsPlain row (none_of escaped_stops) s
+  double_escaped_others e = record {
+    stays = λ m c is h.
+        let a = apart escaped_stops c h in
+        row_there m c s ScriptDataDoubleEscaped is e ∙ double_escaped_emits m c a.1.1.1.1.1.1.0 a.1.1.1.1.1.1.1.0 a.0;
+  }
+
+-- nothing is asked in a state of text
+pub text_rows : HasRows raw_rules reads_text row
+text_rows = record {
+  on = λ l c cs is.
+      chosen (has_row l.machine.state) _ _ (text_here l.machine.state is)
+      ∙ passed (asks l.machine c) _ _ (not_asked l.machine.state (is_untold l.machine.last_tag) (ends_name (read_as c)) is);
+  last = λ l text is. chosen (has_row l.machine.state) _ _ (text_here l.machine.state is);
+}
+  where
+    not_asked : (s : State) (untold ends : Bool) → IsTrue (reads_text s) → ((names_end_tag s && untold) && ends) ≡ false
+    not_asked Rcdata untold ends h = refl
+    not_asked Rawtext untold ends h = refl
+    not_asked ScriptData untold ends h = refl
+    not_asked Plaintext untold ends h = refl
+    not_asked ScriptDataEscaped untold ends h = refl
+    not_asked ScriptDataDoubleEscaped untold ends h = refl
+    not_asked _ untold ends h = cc

@@ -1,0 +1,4 @@
+pub mod Letters
+pub mod Rows
+pub mod Raw
+pub mod Fine

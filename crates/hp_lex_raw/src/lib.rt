@@ -1,0 +1,10 @@
+//! The lexer's states for raw text: RCDATA, RAWTEXT, script data with its escaped states, and PLAINTEXT.
+#![tactic(auto)]
+
+mod raw;
+mod rows;
+mod script;
+#[cfg(test)]
+mod tests;
+
+pub use raw::{advance, any_pieces, at_end, is_here};

@@ -1,0 +1,3 @@
+pub mod NamedSteps
+pub mod PlainRows
+pub mod Steady

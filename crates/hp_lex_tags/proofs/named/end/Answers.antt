@@ -1,0 +1,14 @@
+use Rattle.std.proofs.Common.{◌∙◌, sym}
+use Rattle.hp_names.specs.Longest.{longest}
+use Rattle.hp_lex_tags.proofs.NamedSteps.{end_goes, decided_held}
+use Rattle.hp_lex_tags.proofs.named.end.Goals as goal
+
+pub returns-clause-step : goal.returns-clause-step
+returns-clause-step c = λ rested settled.
+    end_goes c.args.names.now c.args.state.now c.args.input.now c.decide.new.state c.args.tokens.now c.decide.new.tokens rested
+    c.requires.here c.requires.held c.requires.ended (sym c.is_pair_next.ensures ∙ c.if-is_pair_next.false) c.in_ok-decide.ensures settled
+
+pub returns-clause-held : goal.returns-clause-held
+returns-clause-held c =
+    decided_held (longest c.args.names.now c.args.state.now.ahead) c.args.state.now c.args.input.now c.decide.new.state
+    c.args.tokens.now c.decide.new.tokens c.in_ok-decide.ensures c.requires.held

@@ -1,0 +1,6 @@
+pub mod Letters
+pub mod Rows
+pub mod Named
+pub mod Held
+pub mod Tags
+pub mod Fine

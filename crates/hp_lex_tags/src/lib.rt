@@ -1,0 +1,11 @@
+//! The lexer's states for text, tags and character references.
+#![tactic(auto)]
+
+mod named;
+mod references;
+mod rows;
+mod tags;
+#[cfg(test)]
+mod tests;
+
+pub use tags::{advance, any_pieces, at_end, is_here};

@@ -1,0 +1,22 @@
+use Rattle.std.proofs.Common.{List, ℕ, subst, ◌∙◌, ◌-◌, ◌+◌, ap, take, drop, ◌≡◌, arith}
+use Rattle.std.specs.Str.{chars}
+use Rattle.hp_tokens.specs.Reading.{PassesFrom}
+use Rattle.hp_tokens.proofs.Characters.{run-IsAt, run-ReadsRun}
+use Rattle.hp_tokens.proofs.cursor.Cursor.take_text.Given.{Over}
+use Rattle.hp_tokens.proofs.cursor.Cursor.take_text.Goals as goal
+use Rattle.hp_tokens.proofs.cursor.Cursor.take_text.Goals.{After-of_page}
+
+run : (g : Over) (c : After-of_page g) → PassesFrom g.R.Run.passes c.self.inside.text.now c.self.inside.at c.run_len-count.result
+run g c =
+    let P : List ℕ → Type 0 = λ xs. PassesFrom g.R.Run.passes xs c.self.inside.at c.run_len-count.result in
+    subst P c.as_bytes.ensures.value c.run_len-count.ensures
+
+pub invariant_of-self : goal.invariant_of-self
+invariant_of-self g c = run-IsAt g.R.Run.passes g.met.R.Run.high _ _ _ c.self.invariant (run g c)
+
+pub returns : goal.returns
+returns g c =
+    let width : (c.self.inside.at + c.run_len-count.result) - c.self.inside.at ≡ c.run_len-count.result = omega arith in
+    let taken : c.of_page.result ≡ chars (take c.run_len-count.result (drop c.self.inside.at c.self.inside.text.now)) =
+    c.of_page.ensures ∙ ap (λ (n : ℕ). chars (take n (drop c.self.inside.at c.self.inside.text.now))) width in
+    rw (← c.self.view_is, taken) record { run = run-ReadsRun g.R.Run.passes g.met.R.Run.high _ _ _ c.self.invariant (run g c) }

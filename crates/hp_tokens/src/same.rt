@@ -1,0 +1,128 @@
+// Whether two states of the lexer are the same, part by part.
+ghost use Rattle.std.specs.Prelude.{◌≡◌, ◌↔◌, IsTrue};
+
+use crate::building::{Building, NewAttribute, NewDoctype, NewTag};
+use crate::lexing::LexState;
+use crate::machine::Machine;
+use crate::owned::OwnedText;
+use crate::state::{Return, State};
+use hp_elements::{Attribute, AttributeSpace, Chain};
+
+impl LexState {
+    /// Whether two states of the lexer are the same.
+    pub fn same(&self, other: &LexState) -> bool
+        ensures { IsTrue result ↔ (self.now ≡ other.now) }
+    {
+        self.ahead.same(&other.ahead) && self.machine.same(&other.machine)
+    }
+}
+
+impl Machine {
+    /// Whether two machines are the same.
+    pub fn same(&self, other: &Machine) -> bool
+        ensures { IsTrue result ↔ (self.now ≡ other.now) }
+    {
+        same_state(self.state, other.state)
+            && same_return(self.return_to, other.return_to)
+            && self.value == other.value
+            && self.after_cr == other.after_cr
+            && self.buffer.same(&other.buffer)
+            && same_part(&self.last_tag, &other.last_tag)
+            && self.building.same(&other.building)
+    }
+}
+
+impl Building {
+    /// Whether two tokens under construction are the same.
+    pub fn same(&self, other: &Building) -> bool
+        ensures { IsTrue result ↔ (self.now ≡ other.now) }
+    {
+        match (self, other) {
+            (Building::Nothing, Building::Nothing) => true,
+            (Building::StartTag(one), Building::StartTag(two)) => same_tag(one, two),
+            (Building::EndTag(one), Building::EndTag(two)) => one.same(two),
+            (Building::Comment(one), Building::Comment(two)) => one.same(two),
+            (Building::Doctype(one), Building::Doctype(two)) => same_doctype(one, two),
+            _ => false,
+        }
+    }
+}
+
+fn same_state(one: State, two: State) -> bool
+    ensures { IsTrue result ↔ (one ≡ two) }
+{
+    one == two
+}
+
+fn same_return(one: Return, two: Return) -> bool
+    ensures { IsTrue result ↔ (one ≡ two) }
+{
+    one == two
+}
+
+fn same_space(one: AttributeSpace, two: AttributeSpace) -> bool
+    ensures { IsTrue result ↔ (one ≡ two) }
+{
+    one == two
+}
+
+fn same_part(one: &Option<OwnedText>, two: &Option<OwnedText>) -> bool
+    ensures { IsTrue result ↔ (one.now ≡ two.now) }
+{
+    match (one, two) {
+        (None, None) => true,
+        (Some(one), Some(two)) => one.same(two),
+        _ => false,
+    }
+}
+
+fn same_new_attribute(one: &Option<NewAttribute>, two: &Option<NewAttribute>) -> bool
+    ensures { IsTrue result ↔ (one.now ≡ two.now) }
+{
+    match (one, two) {
+        (None, None) => true,
+        (Some(one), Some(two)) => one.name.same(&two.name) && one.value.same(&two.value),
+        _ => false,
+    }
+}
+
+fn same_tag(one: &NewTag, two: &NewTag) -> bool
+    ensures { IsTrue result ↔ (one.now ≡ two.now) }
+{
+    one.self_closing == two.self_closing
+        && one.name.same(&two.name)
+        && same_new_attribute(&one.attribute, &two.attribute)
+        && same_attributes(&one.attributes, &two.attributes)
+}
+
+fn same_doctype(one: &NewDoctype, two: &NewDoctype) -> bool
+    ensures { IsTrue result ↔ (one.now ≡ two.now) }
+{
+    one.force_quirks == two.force_quirks
+        && same_part(&one.name, &two.name)
+        && same_part(&one.public, &two.public)
+        && same_part(&one.system, &two.system)
+}
+
+fn same_attribute(one: &Attribute, two: &Attribute) -> bool
+    ensures { IsTrue result ↔ (one.now ≡ two.now) }
+{
+    same_space(one.space, two.space) && one.name.same(&two.name) && one.value.same(&two.value)
+}
+
+fn same_attributes(one: &Chain<Attribute>, two: &Chain<Attribute>) -> bool
+    ensures { IsTrue result ↔ (one.now ≡ two.now) }
+{
+    let mut others = two.iter();
+    for attribute in one.iter() {
+        match others.next() {
+            Some(other) => {
+                if !same_attribute(attribute, other) {
+                    return false;
+                }
+            }
+            None => return false,
+        }
+    }
+    others.next().is_none()
+}
