@@ -1,11 +1,15 @@
 #!/usr/bin/env python3
 """Writes the table of short texts that enter, leave and end in every state of the lexer.
 
-    lexer_table.py ORACLE > crates/hp_lexer/src/cases.rt
+    lexer_table.py ORACLE > crates/hp_lexer/src/cases.rt       the crate's own table
+    lexer_table.py ORACLE --all > COPY/hp_lexer/src/cases.rt   the whole table, for a copy of the crate
 
 ORACLE is the folder of an independent lexer (`lexer.py`, `tables.py`) whose rows were written by hand. For each state the
-shortest text that leads into it is found by breadth; the text ends there, or goes on with each code point that the state's row
-tells apart. The places are bytes of the text.
+shortest text that leads into it is found by breadth. In the crate's own table the text ends there; in the whole table it also
+goes on with each code point that the state's row tells apart. Both have the texts that were chosen by hand. The places are
+bytes of the text.
+
+The whole table is too large for the proof of the tests: `rt try --test` in the copy compares it, whole and cut at each place.
 """
 import sys
 
@@ -106,6 +110,7 @@ def whole(lexer, state, foreign, text):
 def main():
     sys.path.insert(0, sys.argv[1])
     import lexer
+    every = '--all' in sys.argv[2:]
     cases, seen, found = [], set(), set()
 
     def add(rest, foreign, text):
@@ -130,7 +135,7 @@ def main():
             add(rest, True, text)
             if '[CDATA[' in text:
                 add(rest, False, text + 'y>')
-            for part in PARTS:
+            for part in PARTS if every else []:
                 if differs(lexer, state, text, part):
                     add(rest, True, text + part + 'y>')
         found.update(reached)
@@ -138,11 +143,14 @@ def main():
     print('states that no text ends in: %s' % sorted(missing), file=sys.stderr)
     for case in BY_HAND:
         add(*case)
-    print('// Short texts that enter, leave and end in every state, with the tokens that an independent lexer gives; written by')
+    does = 'enter, leave and end in' if every else 'end in'
+    print('// Short texts that %s every state, with the tokens that an independent lexer gives; written by' % does)
     print('// tools/lexer_table.py.')
     print('use hp_elements::Rest;\n')
     print('/// The state that is begun in, whether there is an adjusted current node outside the HTML namespace, the text, its tokens.')
-    print('pub const CASES: [(Rest, bool, &str, &str); %d] = [' % len(cases))
+    print("pub type Case = (Rest, bool, &'static str, &'static str);\n")
+    print('/// The texts, of no more than 1000 bytes each.')
+    print('pub const CASES: &[Case] = &[')
     numbers = dict(RESTS)
     for rest, foreign, text in cases:
         told = whole(lexer, numbers[rest], foreign, text)

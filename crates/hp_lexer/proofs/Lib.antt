@@ -1,0 +1,6 @@
+pub mod Parts
+pub mod Falling
+pub mod Runs
+pub mod Ending
+pub mod Steady
+pub mod Opening

@@ -1,0 +1,74 @@
+-- Where a lexer stands in a text, and what its calls promise.
+use Rattle.std.specs.Prelude.{◌≡◌, ℕ, ◌-◌, ◌≤◌, ◌^◌, Bool, true, false, List, []}
+use Rattle.hp_elements.specs.declared.token.Token.{Token}
+use Rattle.hp_tokens.specs.declared.state.State.{State}
+use Rattle.hp_tokens.specs.declared.machine.Machine.{Machine}
+use Rattle.hp_tokens.specs.Reading.{Unread}
+use Rattle.hp_tokens.specs.Moves.{Lexing, needs_more, asks_cdata, asks_last_tag, move}
+use Rattle.hp_tokens.specs.Advancing.{held, lexing, Advances, Stops}
+use Rattle.hp_lex_markup.specs.declared.words.Word.TheVariants.{Cdata as CdataWord}
+use Rattle.hp_lex_markup.specs.Markup.{in_section, after_word}
+use Rattle.hp_lexer.specs.declared.lexer.Asked.{Asked}
+use Rattle.hp_lexer.specs.declared.lexer.Asked.TheVariants as asked
+use Rattle.hp_lexer.specs.declared.lexer.Lexer.{Lexer}
+use Rattle.hp_lexer.specs.declared.lexer.Step.{Step}
+use Rattle.hp_lexer.specs.declared.lexer.Step.TheVariants as steps
+use Rattle.hp_lexer.specs.Table.{table, part_of}
+
+-- a question waits for its answer
+abbrev pub is_answered : Asked → Bool
+is_answered asked.Cdata = false
+is_answered _ = true
+
+-- the machine behind `[CDATA[`: in a CDATA section where there is an adjusted current node outside the HTML namespace,
+-- otherwise in a comment
+abbrev pub behind_cdata : Bool → Machine → Machine
+behind_cdata true m = in_section m
+behind_cdata false m = after_word CdataWord m
+
+-- the machine, once the move behind an answered question is made
+abbrev pub opened : Asked → Machine → Machine
+opened (asked.CdataAnswered foreign) m = behind_cdata foreign m
+opened _ m = m
+
+-- where the lexer stands in a text
+abbrev pub stands : Lexer → Unread → Lexing
+stands l input = lexing (record l.lex { machine = opened l.asked l.lex.machine }) input l.rested
+
+-- the same, if the question after `[CDATA[` is answered so
+abbrev pub stands_answered : Bool → Lexer → Unread → Lexing
+stands_answered foreign l input = stands (record l { asked = asked.CdataAnswered foreign }) input
+
+-- these tokens were emitted by moves from there to here, and the first of them began at that place
+abbrev pub Reaches : Lexer → Unread → Lexer → Unread → List Token → Bool → Type 0
+Reaches old old_input new new_input tokens emitted = Advances (table old.names) (stands old old_input) [] (stands new new_input) tokens new.rested emitted
+
+-- moves that emit nothing led to the question after `[CDATA[`, and it was read
+pub record ReachesCdata (old : Lexer) (old_input : Unread) (new : Lexer) (new_input : Unread) : Type 0 where
+  pub there : Lexing
+  pub rested : ℕ
+  pub advances : Advances (table old.names) (stands old old_input) [] there [] rested false
+  pub asks : move (table old.names) there ≡ asks_cdata (stands_answered true new new_input) (stands_answered false new new_input)
+  pub asked : new.asked ≡ asked.Cdata
+
+-- moves that emit nothing led to where more input is needed; in the next text the lexer rested nowhere yet
+pub record ReachesCut (old : Lexer) (old_input : Unread) (new : Lexer) (new_input : Unread) : Type 0 where
+  pub rested : ℕ
+  pub advances : Advances (table old.names) (stands old old_input) [] (stands (record new { rested = rested }) new_input) [] rested false
+  pub needs : move (table old.names) (stands (record new { rested = rested }) new_input) ≡ needs_more
+  pub asked : new.asked ≡ asked.Nothing
+  pub start : new.rested ≡ 2 ^ 32
+  pub held : held new.lex ≤ 2 ^ 32
+
+-- The promise of `next`. The tokens are those of moves from one rest to the next, or to where no move is made or the state is in
+-- another part of the table; more input is needed; a question is asked.
+abbrev pub Stepped : Lexer → Unread → Lexer → Unread → Step → Type 0
+Stepped old old_input new new_input (steps.Tokens began tokens) =
+    Reaches old old_input new new_input tokens true
+    × (began ≡ new.rested - 2 ^ 32) × (new.asked ≡ asked.Nothing)
+    × ((s : State) × Stops (table old.names) (part_of s) (stands new new_input))
+Stepped old old_input new new_input steps.AskCdata = ReachesCdata old old_input new new_input
+Stepped old old_input new new_input steps.AskLastTag =
+    Reaches old old_input new new_input [] false
+    × (move (table old.names) (stands new new_input) ≡ asks_last_tag) × (new.asked ≡ asked.LastTag)
+Stepped old old_input new new_input steps.AtCut = ReachesCut old old_input new new_input

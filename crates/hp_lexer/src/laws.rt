@@ -1,0 +1,15 @@
+// The law of any pieces, for the whole table.
+ghost use Rattle.std.specs.Prelude.{List};
+ghost use Rattle.hp_names.specs.References.{Reference};
+ghost use Rattle.hp_tokens.specs.Runs.{IsSteady, AnyPieces};
+ghost use Rattle.hp_lexer.specs.Table.{table};
+
+/// A move that is made stays made when more text follows; and so, however a text is cut into pieces, the lexer gives the same
+/// tokens, the places where they began and the last state, over any table of reference names. It does nothing; its contract is
+/// the law.
+pub fn any_pieces()
+    ensures steady { (names : List Reference) → IsSteady (table names) }
+    ensures pieces { (names : List Reference) → AnyPieces (table names) }
+{
+    hp_tokens::any_pieces();
+}

@@ -1,0 +1,257 @@
+//! One call for each kind of question: it asks, and reads the answer.
+ghost use Rattle.std.specs.Prelude.{◌≡◌, ◌+◌, ◌<◌, ◌^◌, [], IfOk, IfSome};
+ghost use Rattle.hp_views.specs.Asking.{ask_seen, ask_reach, ask_run, ask_template, ask_reset, ask_quiet, ask_listed, ask_same, ask_pointer, ask_quirks, ask_last_tag, ask_body, ask_frameset, depth_from as spec_depth_from};
+ghost use Rattle.hp_views.specs.View.{Learns};
+
+use hp_control::{Answer, Below, EntryKind, FactKind, Question};
+use hp_elements::{Kinds, Mode, Name, NoMemory, Tag};
+use std::alloc::Global;
+
+/// An older stack is shorter.
+const LIMIT: u64 = 1 << 60;
+
+/// How the last entry of a name stands in the older list, and whether the element at the depth has an entry.
+#[derive(Clone, Copy)]
+pub struct Standing {
+    pub kind: EntryKind,
+    pub top: bool,
+}
+
+/// Where the older form pointer points.
+#[derive(Clone, Copy)]
+pub enum Pointed {
+    /// It is empty.
+    Nowhere,
+    /// To an element that isn't in scope.
+    Away,
+    /// To an element so many below the depth.
+    Here(u64),
+}
+
+/// How far below the depth an answer is.
+fn depth_from(depth: u64, answer: &Answer) -> Option<u64>
+    ensures found { result ≡ spec_depth_from depth answer.now }
+    ensures short { IfSome result (λ k. depth + k < 2 ^ 60) }
+{
+    match answer {
+        Answer::Depth(found) => below_of(depth, *found),
+        _ => None,
+    }
+}
+
+ghost use Rattle.std.specs.Prelude.{Some, None, ◌-◌, ◌&&◌, nat_le, nat_lt, if◌then◌else◌};
+
+fn below_of(depth: u64, found: u64) -> Option<u64>
+    ensures found { result ≡ (if nat_le depth found && nat_lt found (2 ^ 60) then Some (found - depth) else None) }
+    ensures short { IfSome result (λ k. depth + k < 2 ^ 60) }
+{
+    if depth <= found && found < LIMIT {
+        Some(found - depth)
+    } else {
+        None
+    }
+}
+
+fn is_yes(answer: &Answer) -> bool
+    ensures { result ≡ spec_is_yes answer.now }
+{
+    matches!(answer, Answer::Yes)
+}
+
+ghost use Rattle.hp_views.specs.Asking.{is_yes as spec_is_yes, count_in as spec_count_in};
+
+fn count_in(answer: &Answer) -> u64
+    ensures count { result ≡ spec_count_in answer.now }
+    ensures short { result < 2 ^ 60 }
+{
+    match answer {
+        Answer::Count(count) if *count < LIMIT => *count,
+        _ => 0,
+    }
+}
+
+/// Whether a goal stands above each stop, from this depth downward.
+pub fn older_seen<B: Below>(
+    below: &mut B,
+    alloc: Global,
+    depth: u64,
+    goals: Kinds,
+    stops: Kinds,
+) -> Result<bool, NoMemory>
+    ensures { Learns result (B.heard below.old) (B.heard below.new) (ask_seen depth goals stops) }
+{
+    let question = Question::Seen {
+        depth,
+        goals,
+        stops,
+    };
+    let answer = below.ask(alloc, question)?;
+    Ok(is_yes(&answer))
+}
+
+/// How many elements stand above it, from this depth downward.
+pub fn older_reach<B: Below>(
+    below: &mut B,
+    alloc: Global,
+    depth: u64,
+    goals: Kinds,
+    stops: Kinds,
+) -> Result<Option<u64>, NoMemory>
+    ensures learns { Learns result (B.heard below.old) (B.heard below.new) (ask_reach depth goals stops) }
+    ensures short { IfOk result (λ found. IfSome found (λ k. depth + k < 2 ^ 60)) }
+{
+    let question = Question::Reach {
+        depth,
+        goals,
+        stops,
+    };
+    let answer = below.ask(alloc, question)?;
+    Ok(depth_from(depth, &answer))
+}
+
+/// How many elements from this depth on are of these kinds.
+pub fn older_run<B: Below>(
+    below: &mut B,
+    alloc: Global,
+    depth: u64,
+    names: Kinds,
+) -> Result<u64, NoMemory>
+    ensures learns { Learns result (B.heard below.old) (B.heard below.new) (ask_run depth names) }
+    ensures short { IfOk result (λ count. count < 2 ^ 60) }
+{
+    let answer = below.ask(alloc, Question::RunOf { depth, names })?;
+    Ok(count_in(&answer))
+}
+
+/// Whether an HTML `template` stands at this depth or below.
+pub fn older_template<B: Below>(below: &mut B, alloc: Global, depth: u64) -> Result<bool, NoMemory>
+    ensures { Learns result (B.heard below.old) (B.heard below.new) (ask_template depth) }
+{
+    let answer = below.ask(alloc, Question::HasTemplate { depth })?;
+    Ok(is_yes(&answer))
+}
+
+/// The mode to which the insertion mode is reset, seen from this depth.
+pub fn older_reset<B: Below>(below: &mut B, alloc: Global, depth: u64) -> Result<Mode, NoMemory>
+    ensures { Learns result (B.heard below.old) (B.heard below.new) (ask_reset depth) }
+{
+    match below.ask(alloc, Question::ResetFrom { depth })? {
+        Answer::NewMode(mode) => Ok(mode),
+        _ => Ok(Mode::InBody),
+    }
+}
+
+/// Whether nothing of the older list is to be reconstructed.
+pub fn older_quiet<B: Below>(
+    below: &mut B,
+    alloc: Global,
+    depth: u64,
+    cuts: u64,
+) -> Result<bool, NoMemory>
+    ensures { Learns result (B.heard below.old) (B.heard below.new) (ask_quiet depth cuts) }
+{
+    let answer = below.ask(alloc, Question::Quiet { depth, cuts })?;
+    Ok(is_yes(&answer))
+}
+
+/// How the last entry of that name stands.
+pub fn older_listed<B: Below>(
+    below: &mut B,
+    alloc: Global,
+    depth: u64,
+    cuts: u64,
+    name: Name,
+) -> Result<Standing, NoMemory>
+    ensures { Learns result (B.heard below.old) (B.heard below.new) (ask_listed depth cuts name) }
+{
+    match below.ask(alloc, Question::Listed { depth, cuts, name })? {
+        Answer::Entry { kind, top } => Ok(Standing { kind, top }),
+        _ => Ok(Standing {
+            kind: EntryKind::Absent,
+            top: false,
+        }),
+    }
+}
+
+/// How many entries are equal to the tag.
+pub fn older_same<B: Below>(
+    below: &mut B,
+    alloc: Global,
+    cuts: u64,
+    tag: Tag,
+) -> Result<u64, NoMemory>
+    ensures learns { Learns result (B.heard below.old) (B.heard below.new) (ask_same cuts tag) }
+    ensures short { IfOk result (λ count. count < 2 ^ 60) }
+{
+    let answer = below.ask(alloc, Question::Same { cuts, tag })?;
+    Ok(count_in(&answer))
+}
+
+/// Where the form pointer points.
+pub fn older_pointer<B: Below>(
+    below: &mut B,
+    alloc: Global,
+    depth: u64,
+) -> Result<Pointed, NoMemory>
+    ensures { Learns result (B.heard below.old) (B.heard below.new) (ask_pointer depth) }
+{
+    match below.ask(alloc, Question::Pointer { depth })? {
+        Answer::Null => Ok(Pointed::Nowhere),
+        Answer::Depth(found) => match below_of(depth, found) {
+            Some(count) => Ok(Pointed::Here(count)),
+            None => Ok(Pointed::Away),
+        },
+        _ => Ok(Pointed::Away),
+    }
+}
+
+/// Whether the page is in quirks mode.
+pub fn older_quirks<B: Below>(below: &mut B, alloc: Global) -> Result<bool, NoMemory>
+    ensures { Learns result (B.heard below.old) (B.heard below.new) ask_quirks }
+{
+    let question = Question::Fact {
+        which: FactKind::Quirks,
+    };
+    let answer = below.ask(alloc, question)?;
+    Ok(is_yes(&answer))
+}
+
+/// The name of the last start tag.
+pub fn older_last_tag<B: Below>(below: &mut B, alloc: Global) -> Result<Name, NoMemory>
+    ensures { Learns result (B.heard below.old) (B.heard below.new) ask_last_tag }
+{
+    let question = Question::Fact {
+        which: FactKind::LastTag,
+    };
+    match below.ask(alloc, question)? {
+        Answer::LastTag(name) => Ok(name),
+        _ => no_name(alloc),
+    }
+}
+
+fn no_name(alloc: Global) -> Result<Name, NoMemory>
+    ensures { IfOk result (λ name. name ≡ []) }
+{
+    let name = Name::from_text(alloc, "")?;
+    Ok(name)
+}
+
+/// Whether the second element is an HTML `body` and stands at this depth or below.
+pub fn older_body<B: Below>(below: &mut B, alloc: Global, depth: u64) -> Result<bool, NoMemory>
+    ensures { Learns result (B.heard below.old) (B.heard below.new) (ask_body depth) }
+{
+    match below.ask(alloc, Question::Whole { depth })? {
+        Answer::Whole { body, .. } => Ok(body),
+        _ => Ok(false),
+    }
+}
+
+/// Whether a frameset may still replace the body.
+pub fn older_frameset<B: Below>(below: &mut B, alloc: Global, depth: u64) -> Result<bool, NoMemory>
+    ensures { Learns result (B.heard below.old) (B.heard below.new) (ask_frameset depth) }
+{
+    match below.ask(alloc, Question::Whole { depth })? {
+        Answer::Whole { frameset_ok, .. } => Ok(frameset_ok),
+        _ => Ok(false),
+    }
+}

@@ -1,0 +1,151 @@
+//! Closing elements with what their ends imply (13.2.6.3, 13.2.6.4.7).
+ghost use Rattle.std.specs.Prelude.{◌≡◌};
+ghost use Rattle.hp_control.specs.Composed.{implied_but as spec_implied_but};
+ghost use Rattle.hp_elements.specs.Names.{text_of};
+ghost use Rattle.hp_elements.specs.declared.kinds.Kinds.TheVariants as kinds;
+ghost use Rattle.hp_views.specs.View.{sight, Meets};
+ghost use Rattle.hp_views.specs.Steps.{implied_step, implied_except_step, implied_thoroughly_step, through_named_step, walk_step, close_step, close_paragraph_step, close_item_step, close_description_step, end_form_in_template_step};
+ghost use Rattle.hp_views.specs.View.{Answers, Carries};
+ghost use Rattle.hp_views.specs.ClosingPlans.{is_item_plan, close_term_plan, through_form_plan};
+
+use crate::view::View;
+use hp_control::{Below, Refusal};
+use hp_elements::{Kinds, Known, Name, Scope, SetName};
+use std::alloc::Global;
+
+/// The elements whose end tags are implied, but that one.
+fn implied_but(name: Known) -> SetName
+    ensures { result ≡ spec_implied_but name }
+{
+    match name {
+        Known::Dd => SetName::ImpliedButDd,
+        Known::Dt => SetName::ImpliedButDt,
+        Known::Li => SetName::ImpliedButLi,
+        Known::Optgroup => SetName::ImpliedButOptgroup,
+        Known::Option => SetName::ImpliedButOption,
+        Known::P => SetName::ImpliedButP,
+        Known::Rb => SetName::ImpliedButRb,
+        Known::Rp => SetName::ImpliedButRp,
+        Known::Rt => SetName::ImpliedButRt,
+        Known::Rtc => SetName::ImpliedButRtc,
+        _ => SetName::Implied,
+    }
+}
+
+impl<'p, B: Below> View<'p, B> {
+    /// Generates implied end tags.
+    pub fn implied(&mut self, alloc: Global) -> Result<(), Refusal>
+        ensures { Meets result (sight B.heard self.old) (sight B.heard self.new) implied_step }
+    {
+        self.pop_run(alloc, Kinds::Set(SetName::Implied))
+    }
+
+    /// Generates implied end tags, but not that of the name.
+    pub fn implied_except(&mut self, alloc: Global, name: Known) -> Result<(), Refusal>
+        ensures { Meets result (sight B.heard self.old) (sight B.heard self.new) (implied_except_step name) }
+    {
+        self.pop_run(alloc, Kinds::Set(implied_but(name)))
+    }
+
+    /// Generates all implied end tags thoroughly.
+    pub fn implied_thoroughly(&mut self, alloc: Global) -> Result<(), Refusal>
+        ensures { Meets result (sight B.heard self.old) (sight B.heard self.new) implied_thoroughly_step }
+    {
+        self.pop_run(alloc, Kinds::Set(SetName::ThoroughlyImplied))
+    }
+
+    /// Pops up to and with the first HTML element of the name, where one is open.
+    pub fn through_named(&mut self, alloc: Global, name: Name) -> Result<(), Refusal>
+        ensures { Meets result (sight B.heard self.old) (sight B.heard self.new) (through_named_step name) }
+    {
+        self.through(alloc, Kinds::Html(name), Kinds::Nothing)
+    }
+
+    /// What an end tag does that no row names: up to and with the nearest element of the name, unless a special one stands above it.
+    pub fn walk(&mut self, alloc: Global, name: Name) -> Result<(), Refusal>
+        ensures { Meets result (sight B.heard self.old) (sight B.heard self.new) (walk_step name) }
+    {
+        self.through(alloc, Kinds::Html(name), Kinds::Set(SetName::Special))
+    }
+
+    /// Closes the HTML element of the name with what its end implies.
+    pub fn close(&mut self, alloc: Global, name: Known) -> Result<(), Refusal>
+        ensures { Meets result (sight B.heard self.old) (sight B.heard self.new) (close_step name) }
+    {
+        self.implied_except(alloc, name)?;
+        self.through_named(alloc, Name::of_known(name))
+    }
+
+    /// Closes a p element, where one is in button scope.
+    pub fn close_paragraph(&mut self, alloc: Global) -> Result<(), Refusal>
+        ensures { Meets result (sight B.heard self.old) (sight B.heard self.new) close_paragraph_step }
+    {
+        let paragraph = Kinds::Html(Name::of_known(Known::P));
+        if self.in_scope(alloc, Scope::Button, paragraph)? {
+            self.close(alloc, Known::P)
+        } else {
+            Ok(())
+        }
+    }
+
+    /// Whether the first element that is the item or a barrier is the item.
+    fn is_item(&mut self, alloc: Global, item: Known) -> Result<bool, Refusal>
+        ensures { Answers result (sight B.heard self.old) (sight B.heard self.new) (is_item_plan (kinds.Html (text_of item))) }
+    {
+        let items = Kinds::Html(Name::of_known(item));
+        self.is_seen(alloc, items, Kinds::Set(SetName::ItemBarriers))
+    }
+
+    /// Closes a list item that a new one ends.
+    pub fn close_item(&mut self, alloc: Global) -> Result<(), Refusal>
+        ensures { Meets result (sight B.heard self.old) (sight B.heard self.new) close_item_step }
+    {
+        if self.is_item(alloc, Known::Li)? {
+            self.close(alloc, Known::Li)
+        } else {
+            Ok(())
+        }
+    }
+
+    /// Closes a term.
+    fn close_term(&mut self, alloc: Global) -> Result<(), Refusal>
+        ensures { Carries result (sight B.heard self.old) (sight B.heard self.new) close_term_plan }
+    {
+        if self.is_item(alloc, Known::Dt)? {
+            self.close(alloc, Known::Dt)
+        } else {
+            Ok(())
+        }
+    }
+
+    /// Closes a term or a description that a new one ends.
+    pub fn close_description(&mut self, alloc: Global) -> Result<(), Refusal>
+        ensures { Meets result (sight B.heard self.old) (sight B.heard self.new) close_description_step }
+    {
+        if self.is_item(alloc, Known::Dd)? {
+            self.close(alloc, Known::Dd)
+        } else {
+            self.close_term(alloc)
+        }
+    }
+
+    /// The end of a form in a template.
+    pub fn end_form_in_template(&mut self, alloc: Global) -> Result<(), Refusal>
+        ensures { Meets result (sight B.heard self.old) (sight B.heard self.new) end_form_in_template_step }
+    {
+        let form = Kinds::Html(Name::of_known(Known::Form));
+        if self.in_scope(alloc, Scope::Default, form)? {
+            self.through_form(alloc)
+        } else {
+            Ok(())
+        }
+    }
+
+    /// Pops up to and with the nearest form element, with what its end implies.
+    fn through_form(&mut self, alloc: Global) -> Result<(), Refusal>
+        ensures { Carries result (sight B.heard self.old) (sight B.heard self.new) through_form_plan }
+    {
+        self.implied(alloc)?;
+        self.through_named(alloc, Name::of_known(Known::Form))
+    }
+}

@@ -1,0 +1,157 @@
+//! The edits that acts make.
+ghost use Rattle.std.specs.Prelude.{◌≡◌, IfOk};
+ghost use Rattle.hp_control.specs.Acts.{element_for, point_in};
+ghost use Rattle.hp_control.specs.Plan.{gives};
+ghost use Rattle.hp_views.specs.Steps.{add_body_step, add_first_step, detach_step, insert_document_step, insert_step, put_document_step, put_first_step, put_step};
+ghost use Rattle.hp_views.specs.View.{sight, Carries, Meets};
+ghost use Rattle.hp_views.specs.PlacePlans.{put_at, insert_at, add_to_on};
+
+use crate::place::{first_id, second_id};
+use crate::view::View;
+use hp_control::{Below, Child, Crossing, Edit, OpenElement, Place, Ref, Refusal};
+use hp_elements::{Attribute, Chain, NoMemory, Point, Tag};
+use std::alloc::Global;
+
+/// The element of this id that is made for the tag, and is that point.
+fn element_for(alloc: Global, id: u64, tag: &Tag, point: Point) -> Result<OpenElement, NoMemory>
+    requires point { point ≡ point_in tag.now.namespace tag.now }
+    ensures { IfOk result (λ element. element ≡ element_for id tag.now) }
+{
+    Ok(OpenElement {
+        id,
+        namespace: tag.namespace,
+        name: tag.name.copy(alloc)?,
+        point,
+    })
+}
+
+impl<'p, B: Below> View<'p, B> {
+    /// A child at a place.
+    fn put_at(&mut self, child: Child<'p>, place: Place) -> Result<(), Refusal>
+        ensures { Carries result (sight B.heard self.old) (sight B.heard self.new) (λ v. gives (put_at child.entry v place)) }
+    {
+        self.edits.push(Edit::Put { child, place })?;
+        Ok(())
+    }
+
+    /// A child at the appropriate place.
+    pub fn put(&mut self, alloc: Global, fostering: bool, child: Child<'p>) -> Result<(), Refusal>
+        ensures { Meets result (sight B.heard self.old) (sight B.heard self.new) (put_step fostering child.entry) }
+    {
+        let place = self.place(alloc, fostering)?;
+        self.edits.push(Edit::Put { child, place })?;
+        Ok(())
+    }
+
+    /// A child of the document.
+    pub fn put_into_document(&mut self, _alloc: Global, child: Child<'p>) -> Result<(), Refusal>
+        ensures { Meets result (sight B.heard self.old) (sight B.heard self.new) (put_document_step child.entry) }
+    {
+        self.put_at(child, Place::Into(Ref::Fixed(0)))
+    }
+
+    /// A child of the first element.
+    pub fn put_into_first(&mut self, _alloc: Global, child: Child<'p>) -> Result<(), Refusal>
+        ensures { Meets result (sight B.heard self.old) (sight B.heard self.new) (put_first_step child.entry) }
+    {
+        let first = self.first_ref();
+        self.put_at(child, Place::Into(first))
+    }
+
+    /// Makes an element for the tag, puts it into a place and pushes it.
+    fn insert_at(
+        &mut self,
+        alloc: Global,
+        tag: Tag,
+        point: Point,
+        place: Place,
+    ) -> Result<(), Refusal>
+        requires point { point ≡ point_in tag.namespace tag }
+        ensures { Carries result (sight B.heard self.old) (sight B.heard self.new) (λ v. gives (insert_at tag v place)) }
+    {
+        let id = self.change.made;
+        let Some(made) = id.checked_add(1) else {
+            return Err(Refusal::NoMemory);
+        };
+        let element = element_for(alloc, id, &tag, point)?;
+        let child = Child::Element(self.own_ref(id));
+        self.edits.push(Edit::NewElement { tag })?;
+        self.edits.push(Edit::Put { child, place })?;
+        self.change.stack.push(alloc, element)?;
+        self.change.made = made;
+        Ok(())
+    }
+
+    /// Inserts an element for the tag at the appropriate place (13.2.6.1). `point` is the integration point that it is; an
+    /// HTML element is none.
+    pub fn insert(
+        &mut self,
+        alloc: Global,
+        fostering: bool,
+        tag: Tag,
+        point: Point,
+    ) -> Result<(), Refusal>
+        requires point { point ≡ point_in tag.namespace tag }
+        ensures { Meets result (sight B.heard self.old) (sight B.heard self.new) (insert_step fostering tag) }
+    {
+        let place = self.place(alloc, fostering)?;
+        self.insert_at(alloc, tag, point, place)
+    }
+
+    /// Inserts an element for the tag into the document.
+    pub fn insert_into_document(&mut self, alloc: Global, tag: Tag) -> Result<(), Refusal>
+        requires html { tag.namespace ≡ Html }
+        ensures { Meets result (sight B.heard self.old) (sight B.heard self.new) (insert_document_step tag) }
+    {
+        self.insert_at(alloc, tag, Point::No, Place::Into(Ref::Fixed(0)))
+    }
+
+    /// Adds missing attributes to the first element.
+    pub fn add_missing_to_first(
+        &mut self,
+        _alloc: Global,
+        attributes: Chain<Attribute>,
+    ) -> Result<(), Refusal>
+        ensures { Meets result (sight B.heard self.old) (sight B.heard self.new) (add_first_step attributes) }
+    {
+        let id = first_id(&self.change.stack);
+        self.add_missing_to(id, attributes)
+    }
+
+    /// Adds missing attributes to the second element.
+    pub fn add_missing_to_body(
+        &mut self,
+        _alloc: Global,
+        attributes: Chain<Attribute>,
+    ) -> Result<(), Refusal>
+        ensures { Meets result (sight B.heard self.old) (sight B.heard self.new) (add_body_step attributes) }
+    {
+        let id = second_id(&self.change.stack);
+        self.add_missing_to(id, attributes)
+    }
+
+    fn add_missing_to(&mut self, id: u64, attributes: Chain<Attribute>) -> Result<(), Refusal>
+        ensures { Carries result (sight B.heard self.old) (sight B.heard self.new) (λ v. add_to_on v.page id attributes v) }
+    {
+        if self.page.is_none() {
+            return Err(Refusal::Crossed(Crossing::X5));
+        }
+        let node = Ref::Fixed(id);
+        self.edits.push(Edit::AddMissing { node, attributes })?;
+        Ok(())
+    }
+
+    /// Takes the body out of the tree.
+    pub fn detach_body(&mut self, _alloc: Global) -> Result<(), Refusal>
+        ensures { Meets result (sight B.heard self.old) (sight B.heard self.new) detach_step }
+    {
+        if self.page.is_none() {
+            return Err(Refusal::Crossed(Crossing::X5));
+        }
+        let node = Ref::Fixed(second_id(&self.change.stack));
+        self.edits.push(Edit::Detach { node })?;
+        Ok(())
+    }
+}
+
+ghost use Rattle.hp_elements.specs.declared.sets.Namespace.TheVariants.{Html};

@@ -1,0 +1,79 @@
+//! The list of active formatting elements (13.2.4.3).
+ghost use Rattle.std.specs.Prelude.{◌≡◌};
+ghost use Rattle.hp_views.specs.Steps.{append_step, clear_step, marker_step};
+ghost use Rattle.hp_views.specs.View.{sight, Answers, Meets};
+ghost use Rattle.hp_views.specs.ListPlans.{listed_plan, is_there};
+
+use crate::asking::older_listed;
+use crate::view::View;
+use crate::walks::{Walk, marker_walk, name_walk};
+use hp_control::{Below, EntryKind, FormattingEntry, Refusal};
+use hp_elements::{Name, Tag};
+use std::alloc::Global;
+
+fn is_there(kind: EntryKind) -> bool
+    ensures { result ≡ is_there kind }
+{
+    match kind {
+        EntryKind::Absent => false,
+        EntryKind::Closed | EntryKind::Hidden | EntryKind::InScope => true,
+    }
+}
+
+impl<'p, B: Below> View<'p, B> {
+    /// A marker at the list's end.
+    pub fn add_marker(&mut self, alloc: Global) -> Result<(), Refusal>
+        ensures { Meets result (sight B.heard self.old) (sight B.heard self.new) marker_step }
+    {
+        self.change.formatting.push(alloc, FormattingEntry::Marker)?;
+        Ok(())
+    }
+
+    /// An entry for the current node, which was made for the tag.
+    pub fn append_entry(&mut self, alloc: Global, tag: Tag) -> Result<(), Refusal>
+        ensures { Meets result (sight B.heard self.old) (sight B.heard self.new) (append_step tag) }
+    {
+        let id = self.own_current();
+        self.change
+            .formatting
+            .push(alloc, FormattingEntry::Element { id, tag })?;
+        Ok(())
+    }
+
+    /// Takes entries off up to and with the last marker.
+    pub fn clear_to_marker(&mut self, _alloc: Global) -> Result<(), Refusal>
+        ensures { Meets result (sight B.heard self.old) (sight B.heard self.new) clear_step }
+    {
+        match marker_walk(&self.change.formatting) {
+            Walk::Found(depth) => {
+                self.change.formatting.drop_top(depth + 1);
+                Ok(())
+            }
+            _ => {
+                let Some(cuts) = self.change.cuts.checked_add(1) else {
+                    return Err(Refusal::NoMemory);
+                };
+                let count = self.change.formatting.len();
+                self.change.formatting.drop_top(count);
+                self.change.cuts = cuts;
+                Ok(())
+            }
+        }
+    }
+
+    /// Whether an entry of that name stands after the last marker.
+    pub fn is_listed(&mut self, alloc: Global, name: Name) -> Result<bool, Refusal>
+        ensures { Answers result (sight B.heard self.old) (sight B.heard self.new) (listed_plan name) }
+    {
+        match name_walk(&self.change.formatting, &name) {
+            Walk::Found(_) => Ok(true),
+            Walk::Stopped => Ok(false),
+            Walk::PastAll => {
+                let depth = self.change.popped;
+                let cuts = self.change.cuts;
+                let standing = older_listed(&mut self.below, alloc, depth, cuts, name)?;
+                Ok(is_there(standing.kind))
+            }
+        }
+    }
+}

@@ -1,0 +1,207 @@
+//! Resetting the insertion mode (13.2.4.1).
+ghost use Rattle.std.specs.Prelude.{◌≡◌, ◌<◌, ◌≤◌, ◌+◌, drop, length, slice_index_or, ℕ};
+ghost use Rattle.hp_control.specs.declared.element.OpenElement.{OpenElement};
+ghost use Rattle.hp_control.specs.Walks.{is_cell as spec_is_cell, mode_of as spec_mode_of, last_template_mode as spec_last_template_mode, html_mode as spec_html_mode, select_mode as spec_select_mode};
+ghost use Rattle.hp_views.specs.Steps.{reset_step};
+ghost use Rattle.hp_views.specs.View.{sight, split_of, Carries, Answers, Meets};
+ghost use Rattle.hp_views.specs.ResetPlans.{decides, mode_or_nothing as spec_mode_or_nothing, table_plan, is_first as spec_is_first};
+
+use crate::asking::{older_reset, older_seen};
+use crate::place::{a_table, a_template};
+use crate::view::View;
+use crate::walks::{Walk, element_walk_from};
+use hp_control::{Below, OpenElement, Refusal, Stack, is_named, is_within};
+use hp_elements::{Kinds, Known, Mode, SetName};
+use std::alloc::Global;
+
+/// What an element decides of the insertion mode.
+#[derive(Clone, Copy)]
+pub enum Decides {
+    Nothing,
+    /// It is a select: in select, in or out of a table.
+    Select,
+    To(Mode),
+}
+
+fn is_cell(element: &OpenElement) -> bool
+    ensures { result ≡ spec_is_cell element.now }
+{
+    is_named(Known::Td, element) || is_named(Known::Th, element)
+}
+
+/// The mode of an element that decides one wherever it stands.
+fn mode_of(element: &OpenElement) -> Option<Mode>
+    ensures { result ≡ spec_mode_of element.now }
+{
+    if is_named(Known::Tr, element) {
+        Some(Mode::InRow)
+    } else if is_within(&Kinds::Set(SetName::TableSections), element) {
+        Some(Mode::InTableBody)
+    } else if is_named(Known::Caption, element) {
+        Some(Mode::InCaption)
+    } else if is_named(Known::Colgroup, element) {
+        Some(Mode::InColumnGroup)
+    } else if is_named(Known::Table, element) {
+        Some(Mode::InTable)
+    } else if is_named(Known::Body, element) {
+        Some(Mode::InBody)
+    } else if is_named(Known::Frameset, element) {
+        Some(Mode::InFrameset)
+    } else {
+        None
+    }
+}
+
+fn mode_or_nothing(mode: Option<Mode>) -> Decides
+    ensures { result ≡ spec_mode_or_nothing mode }
+{
+    match mode {
+        Some(mode) => Decides::To(mode),
+        None => Decides::Nothing,
+    }
+}
+
+fn last_template_mode(modes: &Stack<Mode>) -> Mode
+    ensures { result ≡ spec_last_template_mode modes.now }
+{
+    if modes.is_empty() {
+        Mode::InBody
+    } else {
+        *modes.at(0)
+    }
+}
+
+fn html_mode(has_head: bool) -> Mode
+    ensures { result ≡ spec_html_mode has_head }
+{
+    if has_head {
+        Mode::AfterHead
+    } else {
+        Mode::BeforeHead
+    }
+}
+
+fn select_mode(in_table: bool) -> Mode
+    ensures { result ≡ spec_select_mode in_table }
+{
+    if in_table {
+        Mode::InSelectInTable
+    } else {
+        Mode::InSelect
+    }
+}
+
+/// What an element decides, of which it is said whether it is the first of all, and whether the page has a head.
+fn decided(
+    element: &OpenElement,
+    is_first: bool,
+    templates: &Stack<Mode>,
+    has_head: bool,
+) -> Decides
+    ensures { result ≡ decided_by is_first has_head templates.now element.now }
+{
+    if is_named(Known::Select, element) {
+        return Decides::Select;
+    }
+    if is_cell(element) && !is_first {
+        return Decides::To(Mode::InCell);
+    }
+    if is_named(Known::Template, element) {
+        return Decides::To(last_template_mode(templates));
+    }
+    if is_named(Known::Head, element) && !is_first {
+        return Decides::To(Mode::InHead);
+    }
+    if is_named(Known::Html, element) {
+        return Decides::To(html_mode(has_head));
+    }
+    mode_or_nothing(mode_of(element))
+}
+
+ghost use Rattle.hp_views.specs.ResetPlans.{decided_by, decides_at, has_head as spec_has_head};
+
+impl<'p, B: Below> View<'p, B> {
+    fn page_has_head(&self) -> bool
+        ensures { result ≡ spec_has_head (split_of self.now).page }
+    {
+        match self.page {
+            Some(facts) => facts.head.is_some(),
+            None => true,
+        }
+    }
+
+    /// Whether the own element at that depth is the first of all.
+    fn is_first_at(&self, depth: usize) -> bool
+        requires { depth < length self.now.change.stack }
+        ensures { result ≡ spec_is_first (split_of self.now).page (drop (depth + 1) self.now.change.stack) }
+    {
+        match self.page {
+            Some(_) => self.change.stack.len() - 1 - depth == 0,
+            None => false,
+        }
+    }
+
+    /// What the own element at that depth decides.
+    fn decides_at(&self, depth: usize) -> Decides
+        requires { depth < length self.now.change.stack }
+        ensures { result ≡ decides_at (split_of self.now) (drop depth self.now.change.stack) }
+    {
+        let is_first = self.is_first_at(depth);
+        let has_head = self.page_has_head();
+        decided(
+            self.change.stack.at(depth),
+            is_first,
+            &self.change.templates,
+            has_head,
+        )
+    }
+
+    /// Whether a table stands before a template from that depth downward.
+    fn table_comes(&mut self, alloc: Global, from: usize) -> Result<bool, Refusal>
+        requires { from ≤ length self.old.change.stack }
+        ensures { Answers result (sight B.heard self.old) (sight B.heard self.new) (λ v. table_plan v (drop from self.old.change.stack)) }
+    {
+        let table = a_table();
+        let template = a_template();
+        match element_walk_from(&self.change.stack, from, &table, &template) {
+            Walk::Found(_) => Ok(true),
+            Walk::Stopped => Ok(false),
+            Walk::PastAll => {
+                let depth = self.change.popped;
+                Ok(older_seen(&mut self.below, alloc, depth, table, template)?)
+            }
+        }
+    }
+
+    /// The mode in a select whose own elements below begin at that depth.
+    fn reset_to_select(&mut self, alloc: Global, from: usize) -> Result<(), Refusal>
+        requires { from ≤ length self.old.change.stack }
+        ensures { Carries result (sight B.heard self.old) (sight B.heard self.new) (λ v. select_plan v (drop from self.old.change.stack)) }
+    {
+        let in_table = self.table_comes(alloc, from)?;
+        self.change.mode = select_mode(in_table);
+        Ok(())
+    }
+
+    /// Resets the insertion mode.
+    pub fn reset(&mut self, alloc: Global) -> Result<(), Refusal>
+        ensures { Meets result (sight B.heard self.old) (sight B.heard self.new) reset_step }
+    {
+        for depth in 0..self.change.stack.len() {
+            match self.decides_at(depth) {
+                Decides::Nothing => {}
+                Decides::Select => return self.reset_to_select(alloc, depth + 1),
+                Decides::To(mode) => {
+                    self.change.mode = mode;
+                    return Ok(());
+                }
+            }
+        }
+        let depth = self.change.popped;
+        let mode = older_reset(&mut self.below, alloc, depth)?;
+        self.change.mode = mode;
+        Ok(())
+    }
+}
+
+ghost use Rattle.hp_views.specs.ResetPlans.{select_plan};

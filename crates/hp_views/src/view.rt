@@ -1,0 +1,21 @@
+//! The view.
+use hp_control::{Change, Edits};
+
+/// What is known of the page where the parser starts from a known state: the head element, and whether it is in quirks mode.
+#[derive(Clone, Copy, Drop)]
+pub struct PageFacts {
+    pub head: Option<u64>,
+    pub quirks: bool,
+}
+
+/// A control state whose lower part is asked: what a chunk changed of it so far, and the edits that it makes.
+#[derive(Drop)]
+pub struct View<'p, B> {
+    pub(crate) below: B,
+    pub(crate) change: Change,
+    pub(crate) edits: Edits<'p>,
+    /// Whether the chunk began among pending table characters.
+    pub(crate) older_text: bool,
+    /// The facts of the page, where there is no older state.
+    pub(crate) page: Option<PageFacts>,
+}
