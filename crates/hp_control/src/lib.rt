@@ -16,6 +16,8 @@ mod sameness;
 mod spelled;
 mod stack;
 mod tags;
+#[cfg(test)]
+mod tests;
 mod truths;
 mod walks;
 
