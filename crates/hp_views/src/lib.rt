@@ -14,8 +14,17 @@ mod tests_of_state;
 mod view;
 mod walks;
 
+pub use asking::{
+    Pointed, Standing, older_body, older_frameset, older_last_tag, older_listed, older_pointer,
+    older_quiet, older_quirks, older_reach, older_reset, older_run, older_same, older_seen,
+    older_template,
+};
 pub use laws::{
     closing_means, fields_mean, inserts_mean, lists_mean, places_mean, pops_mean, reset_means,
     steps_mean, tests_tell,
 };
+pub use place::{a_table, a_template, first_id, second_id};
 pub use view::{PageFacts, View};
+pub use walks::{
+    Walk, element_walk, element_walk_from, marker_walk, name_walk, open_walk, run_of_walk,
+};

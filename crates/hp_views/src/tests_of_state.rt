@@ -29,12 +29,7 @@ ghost use Rattle.hp_control.specs.Composed.{ends_of as spec_ends_of};
 
 impl<'p, B: Below> View<'p, B> {
     /// Whether a goal stands above each stop.
-    pub(crate) fn is_seen(
-        &mut self,
-        alloc: Global,
-        goals: Kinds,
-        stops: Kinds,
-    ) -> Result<bool, Refusal>
+    pub fn is_seen(&mut self, alloc: Global, goals: Kinds, stops: Kinds) -> Result<bool, Refusal>
         ensures { Answers result (sight B.heard self.old) (sight B.heard self.new) (seen_plan goals stops) }
     {
         match element_walk(&self.change.stack, &goals, &stops) {
