@@ -26,6 +26,7 @@ const NOTHING: Handled = Handled {
 };
 
 /// A token in its turns.
+#[derive(Drop)]
 struct Turn<'p> {
     token: Token<'p>,
     handled: Handled,
@@ -128,8 +129,19 @@ fn step<'p, B: Below>(
             follow(alloc, view, turn, at, mode, fostering, depth)
         }
         Act::If { otherwise, .. } | Act::Unless { otherwise, .. } => {
-            let goes_on = carry(alloc, view, act, &mut turn.token, Spending::Copies, fostering)?;
-            Ok(Next::At(if goes_on { at + 1 } else { otherwise }))
+            let goes_on = carry(
+                alloc,
+                view,
+                act,
+                &mut turn.token,
+                Spending::Copies,
+                fostering,
+            )?;
+            Ok(Next::At(if goes_on {
+                at + 1
+            } else {
+                u32::from(otherwise)
+            }))
         }
         Act::Stop => {
             turn.handled.stopped = true;

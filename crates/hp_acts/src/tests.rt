@@ -2,8 +2,8 @@
 use crate::{Handled, handle};
 use hp_control::{Child, Control, Edit, Place, Ref, Refusal};
 use hp_elements::{
-    Attribute, AttributeSpace, Chain, CharClass, Doctype, DoctypeParts, Known, Mode, Name, Namespace,
-    NoMemory, Rest, Tag, Text, Token,
+    Attribute, AttributeSpace, Chain, CharClass, Doctype, DoctypeParts, Known, Mode, Name,
+    Namespace, NoMemory, Rest, Tag, Text, Token,
 };
 use hp_views::View;
 use std::alloc::Global;
@@ -93,6 +93,7 @@ fn token_of<'p>(alloc: Global, part: Part) -> Result<Token<'p>, NoMemory> {
 }
 
 /// Writes edits down: `+name` makes an element, `4>3` puts the element 4 into 3, `4>5^3` before 5, and else into 3.
+#[derive(Drop)]
 struct Teller {
     text: String,
 }
@@ -175,6 +176,7 @@ impl Teller {
 }
 
 /// What comes of a page.
+#[derive(Drop)]
 struct Ended {
     edits: String,
     mode: Mode,

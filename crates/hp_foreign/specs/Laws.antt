@@ -124,7 +124,7 @@ pub insert_as_current_faithful : (fostering self_closing : Bool) (tag : Tag) →
 insert_as_current_faithful fostering self_closing tag = λ s v st fit u.
     let P : Result Split Crossing → Type 0 = λ e. Matches s v e (insert_as_current fostering self_closing tag (state_over v s)) in
     subst P (sym (end_then (answer_of s) (namespace_plan v) (in_namespace fostering self_closing tag v)
-      ∙ ap (λ e. on_end e (λ space. end_by (answer_of s) (in_namespace fostering self_closing tag v space))) (space_told s v)))
+    ∙ ap (λ e. on_end e (λ space. end_by (answer_of s) (in_namespace fostering self_closing tag v space))) (space_told s v)))
     (insert_in_faithful (current_namespace (state_over v s).stack) fostering self_closing tag s v st fit u)
 
 pub pop_to_point_faithful : Faithful pop_to_point_plan pop_to_point

@@ -8,7 +8,6 @@ use hp_elements::{
 };
 use std::alloc::Global;
 
-
 /// The spelling of which the name is the lower case, or the name.
 fn respelled(name: Name, table: Respelling) -> Name
     ensures { result ≡ respelled (spellings_of table) name }

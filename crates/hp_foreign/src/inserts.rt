@@ -73,7 +73,11 @@ fn pop_where<'p, B: Below>(
 ) -> Result<(), Refusal>
     ensures { Carries result (sight B.heard view.old) (sight B.heard view.new) (pop_where_plan self_closing) }
 {
-    if self_closing { view.pop(alloc) } else { Ok(()) }
+    if self_closing {
+        view.pop(alloc)
+    } else {
+        Ok(())
+    }
 }
 
 ghost use Rattle.hp_foreign.specs.Plans.{pop_where_plan};

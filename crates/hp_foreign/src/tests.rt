@@ -59,14 +59,26 @@ fn dispatched<'p>(
 fn built(alloc: Global) -> Result<[bool; 11], Refusal> {
     let mut view = View::whole(Control::start());
     let outside = dispatched(alloc, &mut view)?;
-    insert_foreign(alloc, &mut view, false, false, tag(Name::of_known(Known::Math)))?;
+    insert_foreign(
+        alloc,
+        &mut view,
+        false,
+        false,
+        tag(Name::of_known(Known::Math)),
+    )?;
     let inside = dispatched(alloc, &mut view)?;
     insert_as_current(alloc, &mut view, false, false, annotation(alloc)?)?;
     let at_point = dispatched(alloc, &mut view)?;
     let is_point = view.change.stack.at(0).point == Point::Html;
     pop_to_point(alloc, &mut view)?;
     let stays = view.change.stack.len() == 2;
-    insert_foreign(alloc, &mut view, false, true, tag(Name::of_known(Known::Svg)))?;
+    insert_foreign(
+        alloc,
+        &mut view,
+        false,
+        true,
+        tag(Name::of_known(Known::Svg)),
+    )?;
     let name = Name::from_text(alloc, "ANNOTATION-xml")?;
     let named = names_foreign(alloc, &mut view, name)?;
     put_replacements(alloc, &mut view, false, &Text::from_str(alloc, "\0\0")?)?;
