@@ -93,14 +93,14 @@ neither : (a b : Bool) → (a || b) ≡ false → (a ≡ false) × (b ≡ false)
 neither false b h = (refl, h)
 neither true b h = absurd (cc)
 
-said_first : (page : Option Page) (o p : Outcome) → IsSaid page (after o p) → IsSaid page o
+pub said_first : (page : Option Page) (o p : Outcome) → IsSaid page (after o p) → IsSaid page o
 said_first None o p h = (neither o.spared p.spared h).0
 said_first (Some page) o p h = tt
 
 none_made : (s : ControlState) → s ≡ nothing → 0 < s.next → ⊥
 none_made s e h = let none : s.next ≡ 0 = ap (λ (t : ControlState). t.next) e in omega (arith, h, none)
 
-said_second : (page next : Option Page) (c d : Change) (s : ControlState) (o p : Outcome) → IsBase page c s → IsBase next d s → IsSaid page (after o p) → IsSaid next p
+pub said_second : (page next : Option Page) (c d : Change) (s : ControlState) (o p : Outcome) → IsBase page c s → IsBase next d s → IsSaid page (after o p) → IsSaid next p
 said_second None None c d s o p h k m = (neither o.spared p.spared m).1
 said_second None (Some there) c d s o p h k m = absurd (none_made s k h.made)
 said_second (Some there) None c d s o p h k m = absurd (none_made s h k.made)
@@ -119,7 +119,7 @@ then_done s v w o p (Ok x) d m = record {
 abbrev pub Follows : ControlState → Split → (Split → Plan Split) → Outcome → Act → Type 0
 Follows s v q o g = (w : Split) → IsDone s v w o → IsSaid w.page (g (state_over w s)) → Matches s w (end_by (answer_of s) (q w)) (g (state_over w s))
 
-then_matches : (s : ControlState) (v : Split) (q : Split → Plan Split) (f g : Act) (c : ControlState) (e : Result Split Crossing) → StandsOn s v → IsSaid v.page (and_then f g c) → Follows s v q (f c) g → Matches s v e (f c) → Matches s v (on_end e (λ w. end_by (answer_of s) (q w))) (and_then f g c)
+pub then_matches : (s : ControlState) (v : Split) (q : Split → Plan Split) (f g : Act) (c : ControlState) (e : Result Split Crossing) → StandsOn s v → IsSaid v.page (and_then f g c) → Follows s v q (f c) g → Matches s v e (f c) → Matches s v (on_end e (λ w. end_by (answer_of s) (q w))) (and_then f g c)
 then_matches s v q f g c (Err crossing) st u k m = touches_after s crossing (f c) (g (f c).control) ∙ ap (λ t. t || touches s crossing (g (f c).control)) m
 then_matches s v q f g c (Ok w) st u k m =
     let P : ControlState → Type 0 = λ d. IsSaid w.page (g d) → Matches s w (end_by (answer_of s) (q w)) (g d) in
@@ -138,7 +138,7 @@ faithful_then_where fits next p q f g h k leads = λ s v st fit u.
 pub faithful_then : (p q : Split → Plan Split) (f g : Act) → Faithful p f → Faithful q g → Faithful (λ v. followed_by (p v) q) (and_then f g)
 faithful_then p q f g h k = faithful_then_where any_view any_view p q f g h k (λ s v w st fit d. refl)
 
-chosen : (s : ControlState) (v : Split) (next : Bool → Split → Plan Split) (f g : Act) (c : ControlState) (b : Bool) → (IsSaid v.page (f c) → Matches s v (end_by (answer_of s) (next true v)) (f c)) → (IsSaid v.page (g c) → Matches s v (end_by (answer_of s) (next false v)) (g c)) → IsSaid v.page (if b then f c else g c) → Matches s v (end_by (answer_of s) (next b v)) (if b then f c else g c)
+pub chosen : (s : ControlState) (v : Split) (next : Bool → Split → Plan Split) (f g : Act) (c : ControlState) (b : Bool) → (IsSaid v.page (f c) → Matches s v (end_by (answer_of s) (next true v)) (f c)) → (IsSaid v.page (g c) → Matches s v (end_by (answer_of s) (next false v)) (g c)) → IsSaid v.page (if b then f c else g c) → Matches s v (end_by (answer_of s) (next b v)) (if b then f c else g c)
 chosen s v next f g c true h k u = h u
 chosen s v next f g c false h k u = k u
 
