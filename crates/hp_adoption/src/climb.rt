@@ -84,7 +84,7 @@ impl<'p> Climb<'p> {
     }
 
     /// Goes past the node of this id, the turn's `count`th.
-    #[tactic(auto, using(crate::proofs::Entries::passed_none, crate::proofs::Entries::passed_new, crate::proofs::Entries::passed_late))]
+    #[tactic(auto, using(crate::proofs::Spots::passed_none, crate::proofs::Spots::passed_new, crate::proofs::Spots::passed_late))]
     fn pass(
         &mut self,
         alloc: Global,
