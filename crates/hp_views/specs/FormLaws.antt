@@ -147,10 +147,10 @@ older_some : (s : ControlState) (v : Split) (i : ℕ) (r : Option ℕ) → scope
 older_some s v i None e l st u = then_matches s v (λ x. gives x) empty_form (form_left i) (state_over v s) (Ok (form_emptied v)) st u (away_follows s v i l (ap is_some e)) (emptied s v (form_left i) st u)
 older_some s v i (Some k) e l st u =
     let depth = v.change.popped + k in
-    let open : open_at i s.stack ≡ Some depth = open_drop 0 s.next i v.change.popped s.stack k st.older.stack_ids (scope_open i (drop v.change.popped s.stack) k e) in
+    let stands : open_at i s.stack ≡ Some depth = open_drop 0 s.next i v.change.popped s.stack k st.older.stack_ids (scope_open i (drop v.change.popped s.stack) k e) in
     let P : Option ℕ → Type 0 = λ o. Matches s v (end_by (answer_of s) (pointed_plan (form_emptied v) (pointed_at v.change.popped o))) (end_form_of (Some i) (state_over v s)) in
     subst P (sym (read_back s v i k st e))
-    (then_matches s v (λ x. leave_older_on depth x (walk_of kinds.Nothing scope_ends v.change.stack)) empty_form (form_left i) (state_over v s) (Ok (form_emptied v)) st u (here_follows s v i depth l open (ap is_some e)) (emptied s v (form_left i) st u))
+    (then_matches s v (λ x. leave_older_on depth x (walk_of kinds.Nothing scope_ends v.change.stack)) empty_form (form_left i) (state_over v s) (Ok (form_emptied v)) st u (here_follows s v i depth l stands (ap is_some e)) (emptied s v (form_left i) st u))
 
 older_way : (s : ControlState) (v : Split) (o : Option ℕ) → o ≡ s.form → IfSome o (IsId s.next) → form.Kept ≡ v.change.form → StandsOn s v → IsSaid v.page (end_form_of o (state_over v s)) → Matches s v (end_by (answer_of s) (pointed_plan (form_emptied v) (pointed_in v.change.popped (pointer_answer v.change.popped o (drop v.change.popped s.stack))))) (end_form_of o (state_over v s))
 older_way s v None e h f st u = quiet s v (form_cleared v.change) (λ c. c) st refl (λ p c. refl) (ap (λ o. record (applied v.change s) { form = o }) (e ∙ ap (λ g. form_after g s) f))
