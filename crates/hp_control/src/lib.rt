@@ -15,6 +15,7 @@ mod question;
 mod reset;
 mod sameness;
 mod spelled;
+mod splice;
 mod stack;
 mod tags;
 #[cfg(test)]
