@@ -118,3 +118,89 @@ fn entries_and_elements_are_taken_out_of_mid_list(rt: HostRuntime) -> Result<(),
     told(&rt, view.below_is(alloc, named(Known::Body)), true);
     Ok(())
 }
+
+/// Says what one stored state says.
+#[derive(Drop)]
+struct Stored {
+    control: Control,
+}
+
+impl Predictor for Stored {
+    ghost says = { λ stored. answer_of stored.control };
+
+    fn say(&self, alloc: Global, question: &Question) -> Result<Answer, NoMemory> {
+        answer(alloc, &self.control, question)
+    }
+}
+
+/// The act was done, or crosses.
+fn crossed(rt: &impl Abort, act: Result<(), Refusal>) {
+    assert!(rt; matches!(act, Err(Refusal::Crossed(_))));
+}
+
+/// Asks what a chunk asks whose first token ends a form.
+fn ends_a_form(rt: &impl Abort, alloc: Global, view: &mut View<'_, Guess<Stored>>) {
+    done(rt, view.insert(alloc, false, tag(Known::P), Point::No));
+    done(rt, view.end_form(alloc));
+    told(rt, view.has_form(alloc), false);
+    told(rt, view.second_is_body(alloc), false);
+    told(rt, view.is_frameset_ok(alloc), true);
+    told(rt, view.is_quirks(alloc), false);
+    crossed(rt, view.push_head(alloc));
+}
+
+#[test]
+fn what_is_kept_is_true_of_the_stored_state(rt: HostRuntime) -> Result<(), Fail> {
+    let alloc = rt.alloc();
+    let stored = Control::start();
+    let guess = Guess::new(Stored {
+        control: Control::start(),
+    });
+    let (mut view, told) = View::guessed(alloc, guess)?;
+    assert!(rt; truth(&stored, &Question::Entry, &told));
+    ends_a_form(&rt, alloc, &mut view);
+    done(&rt, view.pop(alloc));
+    assert!(rt; !view.foreign_now(alloc)?);
+    assert_eq!(rt; view.last_tag(alloc)?.as_str(), "");
+    let lex = LexState::at_rest(Rest::Data, false);
+    let (change, kept, edits) = view.into_change(lex, false);
+    assert_eq!(rt; change.made, 1);
+    assert_eq!(rt; edits.len(), 2);
+    assert_eq!(rt; kept.len(), 9);
+    for pair in kept.iter() {
+        assert!(rt; truth(&stored, &pair.question, &pair.answer));
+    }
+    Ok(())
+}
+
+#[test]
+fn the_other_acts_are_done(rt: HostRuntime) -> Result<(), Fail> {
+    let alloc = rt.alloc();
+    let mut view = in_body(&rt, alloc);
+    done(&rt, view.insert(alloc, true, tag(Known::Table), Point::No));
+    done(&rt, view.put(alloc, true, Child::Text(Text::new())));
+    done(
+        &rt,
+        view.put_into_document(alloc, Child::Comment(Text::new())),
+    );
+    done(&rt, view.put_into_first(alloc, Child::Comment(Text::new())));
+    done(&rt, view.add_missing_to_first(alloc, Chain::new()));
+    done(&rt, view.add_missing_to_body(alloc, Chain::new()));
+    done(&rt, view.add_marker(alloc));
+    done(&rt, view.clear_to_marker(alloc));
+    done(&rt, view.push_template_mode(alloc, Mode::InTemplate));
+    done(&rt, view.replace_template_mode(alloc, Mode::InBody));
+    assert!(rt; view.has_template_modes());
+    done(&rt, view.append_pending(alloc, &Text::new()));
+    done(&rt, view.reset(alloc));
+    done(&rt, view.close_paragraph(alloc));
+    done(&rt, view.pop_to(alloc, Kinds::Set(SetName::TableSections)));
+    told(
+        &rt,
+        view.in_scope(alloc, Scope::Button, named(Known::P)),
+        false,
+    );
+    done(&rt, view.detach_body(alloc));
+    assert_eq!(rt; view.edits.len(), 14);
+    Ok(())
+}
