@@ -1,3 +1,4 @@
 pub mod Rows
 pub mod Spending
-pub mod Steps
+pub mod Plans
+pub mod Carrying
