@@ -2,3 +2,4 @@ pub mod Rows
 pub mod Spending
 pub mod Plans
 pub mod Carrying
+pub mod Handling
