@@ -4,6 +4,7 @@ ghost use Rattle.hp_elements.specs.Rules.{goes_later};
 ghost use Rattle.hp_acts.specs.Handling.{GoesLater};
 
 use crate::carry::{carry, carry_out};
+use crate::plain::{is_plain, put_plain};
 use crate::rows::{Row, foreign_row, row_in};
 use crate::token_parts::{Spending, after_line_feed, rename};
 use hp_control::{Below, Crossing, Refusal};
@@ -24,7 +25,8 @@ pub struct Handled {
     pub stopped: bool,
 }
 
-const NOTHING: Handled = Handled {
+/// Where nothing is asked of it.
+pub(crate) const NOTHING: Handled = Handled {
     switch: None,
     stopped: false,
 };
@@ -142,8 +144,19 @@ fn step<'p, B: Below>(
         Act::AsFostered(mode) => Ok(Next::Rules(mode, true)),
         Act::AsPresent => Ok(Next::Rules(view.change.mode, fostering)),
         Act::If { otherwise, .. } | Act::Unless { otherwise, .. } => {
-            let goes_on = carry(alloc, view, act, &mut turn.token, Spending::Copies, fostering)?;
-            Ok(Next::At(if goes_on { at + 1 } else { u32::from(otherwise) }))
+            let goes_on = carry(
+                alloc,
+                view,
+                act,
+                &mut turn.token,
+                Spending::Copies,
+                fostering,
+            )?;
+            Ok(Next::At(if goes_on {
+                at + 1
+            } else {
+                u32::from(otherwise)
+            }))
         }
         Act::Stop => {
             turn.handled.stopped = true;
@@ -225,7 +238,11 @@ pub fn handle<'p, B: Below>(
     token: Token<'p>,
 ) -> Result<Handled, Refusal> {
     if !view.change.skip_lf {
-        return take_turns(alloc, view, token);
+        return if is_plain(view, &token) {
+            put_plain(alloc, view, token)
+        } else {
+            take_turns(alloc, view, token)
+        };
     }
     view.change.skip_lf = false;
     match after_line_feed(alloc, token)? {
