@@ -1,3 +1,5 @@
 pub mod Rows
 pub mod Spending
-pub mod Steps
+pub mod Plans
+pub mod Carrying
+pub mod Handling

@@ -5,6 +5,7 @@ mod carry;
 mod characters;
 mod handle;
 mod inserts;
+mod plain;
 mod questions;
 mod rows;
 mod stack_acts;
