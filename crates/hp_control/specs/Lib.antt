@@ -19,6 +19,7 @@ pub mod Steps
 pub mod Acts
 pub mod Adoption
 pub mod Composed
+pub mod Foreign
 pub mod Laws
 pub mod Examples
 pub mod Sequence

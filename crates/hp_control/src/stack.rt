@@ -9,7 +9,7 @@ use std::marker::Model;
 /// its items with the top first. One of none or one item takes no heap.
 #[derive(Drop)]
 pub struct Stack<T> {
-    items: List<T>,
+    pub(crate) items: List<T>,
 }
 
 impl<T> Model for Stack<T> {

@@ -1,8 +1,6 @@
 //! What no contract says: that calls which may want memory succeed where there is some.
 use crate::View;
-use hp_control::{
-    Answer, Below, Control, Guess, Nothing, Predictor, Question, Refusal, truth,
-};
+use hp_control::{Answer, Below, Control, Guess, Nothing, Predictor, Question, Refusal, truth};
 use hp_elements::{Chain, Kinds, Known, Mode, Name, Namespace, NoMemory, Point, Rest, Scope, Tag};
 use hp_tokens::LexState;
 use std::alloc::Global;
