@@ -119,13 +119,13 @@ pub record ClosingMeans : Type 0 where
   pub item : Faithful close_item_plan close_item
   pub description : Faithful close_description_plan close_description
   pub end_form : Faithful end_form_in_template_plan end_form_in_template
-  pub end_form_outside : Faithful outside_plan end_form_outside
-  pub end_form_anywhere : Faithful end_form_plan end_form
 
--- the head element, and own elements and entries out of mid-list
+-- the head element, the end of a form, and own elements and entries out of mid-list
 pub record RemovesMean : Type 0 where
   pub push_head : Faithful push_head_plan push_head
   pub take_head_off : Faithful take_head_plan take_head_off
+  pub forms_outside : Faithful outside_plan end_form_outside
+  pub forms : Faithful end_form_plan end_form
   pub take_off : (number : ℕ) → FaithfulToOwn (take_off_plan number) take_off number
   pub remove_entry : (number : ℕ) → FaithfulToOwn (remove_entry_plan number) remove_entry number
 

@@ -49,7 +49,7 @@ pub fn closing_means()
     ensures { ClosingMeans }
 {}
 
-/// The head element, and own elements and entries out of mid-list.
+/// The head element, the end of a form, and own elements and entries out of mid-list.
 pub fn removes_mean()
     ensures { RemovesMean }
 {}
