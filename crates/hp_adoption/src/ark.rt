@@ -1,43 +1,58 @@
 //! An element put into the list of active formatting elements (13.2.4.3).
+ghost use Rattle.std.specs.Prelude.{◌≡◌, ◌<◌, ◌^◌, IfOk};
+ghost use Rattle.hp_views.specs.View.{sight, Carries, Knows};
+ghost use Rattle.hp_adoption.specs.ArkPlans.{tally as spec_tally, older_equals as spec_older_equals, room_with, room_plan, append_to_list_plan};
+
 use hp_control::{Below, Crossing, FormattingEntry, Refusal, Stack, same_tag};
-use hp_elements::{List, NoMemory, Tag};
+use hp_elements::{NoMemory, Tag};
 use hp_views::{View, older_same};
 use std::alloc::Global;
+use std::marker::Model;
 
 /// How many equal entries there may be.
 const MOST: u64 = 3;
 
 /// The own entries after the last marker that are equal to a tag.
-#[derive(Clone, Copy)]
-struct EqualEntries {
-    count: u64,
-    /// The depth of the earliest.
-    earliest: usize,
+#[derive(Clone, Copy, Drop)]
+pub struct Equal {
+    pub count: u64,
+    /// The id of the earliest.
+    pub earliest: u64,
     /// Whether an own marker ends them.
-    ended: bool,
+    pub ended: bool,
 }
 
-fn equal_entries(list: &Stack<FormattingEntry>, tag: &Tag) -> EqualEntries {
+impl Model for Equal {
+    ghost use Rattle.hp_adoption.specs.ArkPlans.{Tally};
+
+    ghost Value = { Tally };
+
+    ghost view = { λ e. record { count = e.count; earliest = e.earliest; ended = e.ended } };
+}
+
+fn equal_entries(list: &Stack<FormattingEntry>, tag: &Tag) -> Equal
+    ensures { result ≡ spec_tally tag.now list.now 0 0 }
+{
     let mut count = 0;
     let mut earliest = 0;
     for depth in 0..list.len() {
         match list.at(depth) {
             FormattingEntry::Marker => {
-                return EqualEntries {
+                return Equal {
                     count,
                     earliest,
                     ended: true,
                 };
             }
-            FormattingEntry::Element { tag: other, .. } => {
+            FormattingEntry::Element { id, tag: other } => {
                 if same_tag(tag, other) {
                     count += 1;
-                    earliest = depth;
+                    earliest = *id;
                 }
             }
         }
     }
-    EqualEntries {
+    Equal {
         count,
         earliest,
         ended: false,
@@ -49,7 +64,9 @@ fn older_equals<'p, B: Below>(
     alloc: Global,
     view: &mut View<'p, B>,
     tag: &Tag,
-) -> Result<u64, NoMemory> {
+) -> Result<u64, NoMemory>
+    ensures { Knows result (sight B.heard view.old) (sight B.heard view.new) (λ v. spec_older_equals v.page v.change.cuts tag.now) }
+{
     match view.page {
         Some(_) => Ok(0),
         None => {
@@ -59,27 +76,39 @@ fn older_equals<'p, B: Below>(
     }
 }
 
+/// Of three entries that are equal, so many of them older, the earliest goes.
+fn make_room_by<'p, B: Below>(
+    alloc: Global,
+    view: &mut View<'p, B>,
+    own: Equal,
+    older: u64,
+) -> Result<(), Refusal>
+    ensures { Carries result (sight B.heard view.old) (sight B.heard view.new) (λ v. room_with own v older) }
+{
+    if older < MOST.saturating_sub(own.count) {
+        return Ok(());
+    }
+    if 0 < older {
+        return Err(Refusal::Crossed(Crossing::X1));
+    }
+    view.remove_entry(alloc, own.earliest)
+}
+
 /// Of three entries that are equal to the tag the earliest goes.
 fn make_room<'p, B: Below>(
     alloc: Global,
     view: &mut View<'p, B>,
     tag: &Tag,
-) -> Result<(), Refusal> {
+) -> Result<(), Refusal>
+    ensures { Carries result (sight B.heard view.old) (sight B.heard view.new) (room_plan tag.now) }
+{
     let own = equal_entries(&view.change.formatting, tag);
-    let mut older = 0;
-    if !own.ended {
-        older = older_equals(alloc, view, tag)?;
+    if own.ended {
+        make_room_by(alloc, view, own, 0)
+    } else {
+        let older = older_equals(alloc, view, tag)?;
+        make_room_by(alloc, view, own, older)
     }
-    if own.count + older < MOST {
-        return Ok(());
-    }
-    if older > 0 {
-        return Err(Refusal::Crossed(Crossing::X1));
-    }
-    view.change
-        .formatting
-        .splice(alloc, own.earliest, 1, List::new())?;
-    Ok(())
 }
 
 /// An entry for the current node, which was made for the tag; of three equal entries after the last marker the earliest goes first.
@@ -88,7 +117,9 @@ pub fn append_to_list<'p, B: Below>(
     alloc: Global,
     view: &mut View<'p, B>,
     tag: Tag,
-) -> Result<(), Refusal> {
+) -> Result<(), Refusal>
+    ensures { Carries result (sight B.heard view.old) (sight B.heard view.new) (append_to_list_plan tag) }
+{
     make_room(alloc, view, &tag)?;
     view.append_entry(alloc, tag)
 }

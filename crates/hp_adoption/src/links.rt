@@ -1,10 +1,21 @@
 //! The start of a link closes one that is open (13.2.6.4.7).
-use crate::entries::strike;
+ghost use Rattle.std.specs.Prelude.{◌≡◌, ◌<◌, length, slice_get};
+ghost use Rattle.hp_views.specs.View.{sight, Carries};
+ghost use Rattle.hp_adoption.specs.LinkPlans.{gone_plan, close_own_plan, close_older_plan, close_link_plan};
+
 use crate::plain::adopt;
 use hp_control::{Below, Crossing, EntryKind, FormattingEntry, Refusal};
-use hp_elements::{Known, List, Name};
-use hp_views::{View, Walk, name_walk, older_listed, open_walk};
+use hp_elements::{Known, Name};
+use hp_views::{View, Walk, name_walk, older_listed};
 use std::alloc::Global;
+
+/// Takes the own element off list and stack, where it stands there.
+fn leave<'p, B: Below>(alloc: Global, view: &mut View<'p, B>, id: u64) -> Result<(), Refusal>
+    ensures { Carries result (sight B.heard view.old) (sight B.heard view.new) (gone_plan id) }
+{
+    view.remove_entry(alloc, id)?;
+    view.take_off(alloc, id)
+}
 
 /// Adopts the link of the own entry at that depth, and then takes its element off list and stack.
 fn close_own<'p, B: Below>(
@@ -12,36 +23,33 @@ fn close_own<'p, B: Below>(
     view: &mut View<'p, B>,
     fostering: bool,
     at: usize,
-) -> Result<(), Refusal> {
-    let FormattingEntry::Element { id, .. } = view.change.formatting.at(at) else {
-        return Ok(());
-    };
-    let id = *id;
-    adopt(alloc, view, fostering, Name::of_known(Known::A))?;
-    strike(alloc, &mut view.change.formatting, id)?;
-    take_off(alloc, view, id)
-}
-
-/// Takes the own element off the stack, where it stands there.
-fn take_off<'p, B: Below>(alloc: Global, view: &mut View<'p, B>, id: u64) -> Result<(), Refusal> {
-    match open_walk(&view.change.stack, id) {
-        Walk::Found(0) => view.pop(alloc),
-        Walk::Found(depth) => {
-            view.change.stack.splice(alloc, depth, 1, List::new())?;
-            Ok(())
+) -> Result<(), Refusal>
+    requires { at < length view.old.change.formatting }
+    ensures { Carries result (sight B.heard view.old) (sight B.heard view.new) (λ v. close_own_plan fostering v (slice_get v.change.formatting at)) }
+{
+    match view.change.formatting.at(at) {
+        FormattingEntry::Marker => Ok(()),
+        FormattingEntry::Element { id, .. } => {
+            let id = *id;
+            adopt(alloc, view, fostering, Name::of_known(Known::A))?;
+            leave(alloc, view, id)
         }
-        _ => Ok(()),
     }
 }
 
 /// Where the older list has a link, it would go.
-fn close_older<'p, B: Below>(alloc: Global, view: &mut View<'p, B>) -> Result<(), Refusal> {
+fn close_older<'p, B: Below>(alloc: Global, view: &mut View<'p, B>) -> Result<(), Refusal>
+    ensures { Carries result (sight B.heard view.old) (sight B.heard view.new) close_older_plan }
+{
     let depth = view.change.popped;
     let cuts = view.change.cuts;
     let name = Name::of_known(Known::A);
-    match older_listed(&mut view.below, alloc, depth, cuts, name)?.kind {
+    let standing = older_listed(&mut view.below, alloc, depth, cuts, name)?;
+    match standing.kind {
         EntryKind::Absent => Ok(()),
-        _ => Err(Refusal::Crossed(Crossing::X1)),
+        EntryKind::Closed | EntryKind::Hidden | EntryKind::InScope => {
+            Err(Refusal::Crossed(Crossing::X1))
+        }
     }
 }
 
@@ -51,7 +59,9 @@ pub fn close_link<'p, B: Below>(
     alloc: Global,
     view: &mut View<'p, B>,
     fostering: bool,
-) -> Result<(), Refusal> {
+) -> Result<(), Refusal>
+    ensures { Carries result (sight B.heard view.old) (sight B.heard view.new) (close_link_plan fostering) }
+{
     match name_walk(&view.change.formatting, &Name::of_known(Known::A)) {
         Walk::Found(at) => close_own(alloc, view, fostering, at),
         Walk::Stopped => Ok(()),

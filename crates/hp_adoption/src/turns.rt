@@ -1,15 +1,24 @@
 //! The turns of the adoption agency algorithm (13.2.6.4.7).
+ghost use Rattle.std.specs.Prelude.{◌≡◌, ◌<◌, ◌≤◌, length, take, IfSome};
+ghost use Rattle.hp_control.specs.Adoption.{hides as spec_hides, furthest as spec_furthest};
+ghost use Rattle.hp_views.specs.View.{sight, Carries};
+ghost use Rattle.hp_adoption.specs.AdoptPlans.{own_turn, entry_turn, walk_turn, older_turn, kind_turn, turn_plan, turns_plan};
+ghost use Rattle.hp_adoption.specs.Turning.{Turns, seat_depth};
+
 use crate::adopting::{Tangle, untangle};
 use crate::entries::strike;
 use hp_control::{
     Below, Crossing, EntryKind, FormattingEntry, OpenElement, Refusal, Stack, is_within,
 };
-use hp_elements::{Kinds, Name, SetName};
+use hp_elements::{Kinds, Name, SetName, Tag};
 use hp_views::{View, Walk, name_walk, older_listed, open_walk};
 use std::alloc::Global;
 
 /// Whether an end of a scope stands above that depth.
-fn hides(stack: &Stack<OpenElement>, depth: usize) -> bool {
+fn hides(stack: &Stack<OpenElement>, depth: usize) -> bool
+    requires { depth ≤ length stack.now }
+    ensures { result ≡ spec_hides (take depth stack.now) }
+{
     let ends = Kinds::Set(SetName::DefaultScopeEnds);
     for above in 0..depth {
         if is_within(&ends, stack.at(above)) {
@@ -20,7 +29,11 @@ fn hides(stack: &Stack<OpenElement>, depth: usize) -> bool {
 }
 
 /// The depth of the special element above that depth that is nearest to it.
-fn furthest(stack: &Stack<OpenElement>, depth: usize) -> Option<usize> {
+fn furthest(stack: &Stack<OpenElement>, depth: usize) -> Option<usize>
+    requires { depth ≤ length stack.now }
+    ensures found { result ≡ seat_depth (spec_furthest (take depth stack.now)) }
+    ensures above { IfSome result (λ block. block < depth) }
+{
     let special = Kinds::Set(SetName::Special);
     for turn in 0..depth {
         let above = depth - 1 - turn;
@@ -31,44 +44,75 @@ fn furthest(stack: &Stack<OpenElement>, depth: usize) -> Option<usize> {
     None
 }
 
-/// Pops the own elements above a depth and the one there; without an older state the first element stays.
-fn pop_through<'p, B: Below>(view: &mut View<'p, B>, depth: usize) {
-    let count = depth + 1;
-    match view.page {
-        Some(_) => {
-            let most = view.change.stack.len().saturating_sub(1);
-            view.change.stack.drop_top(count.min(most));
-        }
-        None => view.change.stack.drop_top(count),
-    }
-}
-
-/// A turn whose entry is an own one, at that depth of the own list. It answers whether there may be another.
+/// A turn whose formatting element is an own one.
 fn turn_own<'p, B: Below>(
     alloc: Global,
     view: &mut View<'p, B>,
     fostering: bool,
-    at: usize,
-) -> Result<bool, Refusal> {
-    let FormattingEntry::Element { id, tag } = view.change.formatting.at(at) else {
-        return Ok(false);
-    };
-    let id = *id;
-    let Walk::Found(depth) = open_walk(&view.change.stack, id) else {
-        strike(alloc, &mut view.change.formatting, id)?;
-        return Ok(false);
-    };
+    id: u64,
+    tag: Tag,
+) -> Result<bool, Refusal>
+    ensures { Turns result (sight B.heard view.old) (sight B.heard view.new) (λ v. own_turn fostering id tag v (id_walk id v.change.stack)) }
+{
+    match open_walk(&view.change.stack, id) {
+        Walk::Found(depth) => turn_open(alloc, view, fostering, id, tag, depth),
+        Walk::Stopped => {
+            strike(&mut view.change.formatting, id);
+            Ok(false)
+        }
+        Walk::PastAll => {
+            strike(&mut view.change.formatting, id);
+            Ok(false)
+        }
+    }
+}
+
+/// The same where that element is open, at that depth.
+fn turn_open<'p, B: Below>(
+    alloc: Global,
+    view: &mut View<'p, B>,
+    fostering: bool,
+    id: u64,
+    tag: Tag,
+    depth: usize,
+) -> Result<bool, Refusal>
+    requires { depth < length view.old.change.stack }
+    ensures { Turns result (sight B.heard view.old) (sight B.heard view.new) (λ v. own_turn fostering id tag v (Found depth)) }
+{
     if hides(&view.change.stack, depth) {
         return Ok(false);
     }
-    let Some(block) = furthest(&view.change.stack, depth) else {
-        pop_through(view, depth);
-        strike(alloc, &mut view.change.formatting, id)?;
-        return Ok(false);
-    };
-    let tag = tag.copy(alloc)?;
-    untangle(alloc, view, fostering, Tangle { id, depth, block }, tag)?;
-    Ok(true)
+    match furthest(&view.change.stack, depth) {
+        None => {
+            view.pop_own(depth + 1);
+            strike(&mut view.change.formatting, id);
+            Ok(false)
+        }
+        Some(block) => {
+            untangle(alloc, view, fostering, Tangle { id, depth, block }, tag)?;
+            Ok(true)
+        }
+    }
+}
+
+/// A turn whose entry is an own one, at that depth of the own list.
+fn turn_entry<'p, B: Below>(
+    alloc: Global,
+    view: &mut View<'p, B>,
+    fostering: bool,
+    at: usize,
+) -> Result<bool, Refusal>
+    requires { at < length view.old.change.formatting }
+    ensures { Turns result (sight B.heard view.old) (sight B.heard view.new) (λ v. entry_turn fostering v (slice_get v.change.formatting at)) }
+{
+    match view.change.formatting.at(at) {
+        FormattingEntry::Marker => Ok(false),
+        FormattingEntry::Element { id, tag } => {
+            let id = *id;
+            let tag = tag.copy(alloc)?;
+            turn_own(alloc, view, fostering, id, tag)
+        }
+    }
 }
 
 /// A turn whose entry, where there is one, is older.
@@ -76,11 +120,25 @@ fn turn_older<'p, B: Below>(
     alloc: Global,
     view: &mut View<'p, B>,
     name: &Name,
-) -> Result<bool, Refusal> {
+) -> Result<bool, Refusal>
+    ensures { Turns result (sight B.heard view.old) (sight B.heard view.new) (older_turn name.now) }
+{
     let depth = view.change.popped;
     let cuts = view.change.cuts;
     let standing = older_listed(&mut view.below, alloc, depth, cuts, name.copy(alloc)?)?;
-    match standing.kind {
+    turn_by(alloc, view, name, standing.kind)
+}
+
+/// The same, by how the older entry stands.
+fn turn_by<'p, B: Below>(
+    alloc: Global,
+    view: &mut View<'p, B>,
+    name: &Name,
+    kind: EntryKind,
+) -> Result<bool, Refusal>
+    ensures { Turns result (sight B.heard view.old) (sight B.heard view.new) (λ v. kind_turn name.now v kind) }
+{
+    match kind {
         EntryKind::Absent => walk(alloc, view, name),
         EntryKind::Closed => Err(Refusal::Crossed(Crossing::X1)),
         EntryKind::Hidden => Ok(false),
@@ -95,7 +153,13 @@ fn turn_older<'p, B: Below>(
 }
 
 /// What an end tag does that no row names.
-fn walk<'p, B: Below>(alloc: Global, view: &mut View<'p, B>, name: &Name) -> Result<bool, Refusal> {
+fn walk<'p, B: Below>(
+    alloc: Global,
+    view: &mut View<'p, B>,
+    name: &Name,
+) -> Result<bool, Refusal>
+    ensures { Turns result (sight B.heard view.old) (sight B.heard view.new) (walk_turn name.now) }
+{
     view.walk(alloc, name.copy(alloc)?)?;
     Ok(false)
 }
@@ -106,9 +170,11 @@ fn turn<'p, B: Below>(
     view: &mut View<'p, B>,
     fostering: bool,
     name: &Name,
-) -> Result<bool, Refusal> {
+) -> Result<bool, Refusal>
+    ensures { Turns result (sight B.heard view.old) (sight B.heard view.new) (turn_plan fostering name.now) }
+{
     match name_walk(&view.change.formatting, name) {
-        Walk::Found(at) => turn_own(alloc, view, fostering, at),
+        Walk::Found(at) => turn_entry(alloc, view, fostering, at),
         Walk::Stopped => walk(alloc, view, name),
         Walk::PastAll => turn_older(alloc, view, name),
     }
@@ -120,7 +186,9 @@ pub fn turns<'p, B: Below>(
     view: &mut View<'p, B>,
     fostering: bool,
     name: &Name,
-) -> Result<(), Refusal> {
+) -> Result<(), Refusal>
+    ensures { Carries result (sight B.heard view.old) (sight B.heard view.new) (turns_plan 8 fostering name.now) }
+{
     for _turn in 0..8usize {
         if !turn(alloc, view, fostering, name)? {
             return Ok(());
@@ -128,3 +196,7 @@ pub fn turns<'p, B: Below>(
     }
     Ok(())
 }
+
+ghost use Rattle.std.specs.Prelude.{slice_get};
+ghost use Rattle.hp_views.specs.Walks.{id_walk};
+ghost use Rattle.hp_views.specs.declared.walks.Walk.TheVariants.{Found};
