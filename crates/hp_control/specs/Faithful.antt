@@ -106,7 +106,7 @@ said_second None (Some there) c d s o p h k m = absurd (none_made s k h.made)
 said_second (Some there) None c d s o p h k m = absurd (none_made s h k.made)
 said_second (Some there) (Some page) c d s o p h k m = tt
 
-then_done : (s : ControlState) (v w : Split) (o p : Outcome) (e : Result Split Crossing) → IsDone s v w o → Matches s w e p → Matches s v e (after o p)
+pub then_done : (s : ControlState) (v w : Split) (o p : Outcome) (e : Result Split Crossing) → IsDone s v w o → Matches s w e p → Matches s v e (after o p)
 then_done s v w o p (Err crossing) d m = touches_after s crossing o p ∙ (ap (λ t. touches s crossing o || t) m ∙ or-true (touches s crossing o))
 then_done s v w o p (Ok x) d m = record {
   control = m.control;
@@ -125,6 +125,14 @@ then_matches s v q f g c (Ok w) st u k m =
     let P : ControlState → Type 0 = λ d. IsSaid w.page (g d) → Matches s w (end_by (answer_of s) (q w)) (g d) in
     then_done s v w (f c) (g (f c).control) (end_by (answer_of s) (q w)) m
     (subst P m.control (k w m) (said_second v.page w.page v.change w.change s (f c) (g (f c).control) st.base m.stands.base u))
+
+-- one act after the other in one state, where the second means its own wherever the first leads
+pub matches_then : (s : ControlState) (v : Split) (p q : Split → Plan Split) (f g : Act) → StandsOn s v → IsSaid v.page (and_then f g (state_over v s)) → (IsSaid v.page (f (state_over v s)) → Matches s v (end_by (answer_of s) (p v)) (f (state_over v s))) → Follows s v q (f (state_over v s)) g → Matches s v (end_by (answer_of s) (followed_by (p v) q)) (and_then f g (state_over v s))
+matches_then s v p q f g st u h k =
+    let P : Result Split Crossing → Type 0 = λ e. Matches s v e (and_then f g (state_over v s)) in
+    subst P (sym (end_then (answer_of s) (p v) q))
+    (then_matches s v q f g (state_over v s) (end_by (answer_of s) (p v)) st u k
+    (h (said_first v.page (f (state_over v s)) (g (f (state_over v s)).control) u)))
 
 -- one act after the other, where the first leads to what the second reads
 pub faithful_then_where : (fits next : Split → Bool) (p q : Split → Plan Split) (f g : Act) → FaithfulWhere fits p f → FaithfulWhere next q g → ((s : ControlState) (v w : Split) → StandsOn s v → fits v ≡ true → IsDone s v w (f (state_over v s)) → next w ≡ true) → FaithfulWhere fits (λ v. followed_by (p v) q) (and_then f g)

@@ -40,6 +40,13 @@ between-inside n m i h k = go (nat_le n i) (nat_lt i m) refl refl
     go true false e f = let g : m ≤ i = ltb-false i m f in absurd (omega arith)
     go false b e f = let g : i < n = leb-false n i e in absurd (omega arith)
 
+pub between-none : (n i : ℕ) → between n n i ≡ 0
+between-none n i = go (nat_lt i n) refl
+  where
+    go : (b : Bool) → nat_lt i n ≡ b → between n n i ≡ 0
+    go true e = between-below n n i (ltb-true i n e)
+    go false e = between-above n n i (ltb-false i n e)
+
 pub data Place (n m i : ℕ) : Type 0 where
   below : i < n → Place n m i
   inside : n ≤ i → i < m → Place n m i
@@ -77,7 +84,7 @@ between-then n m l i h k = go (place n m i) (place m l i)
 abbrev pub is_id : ℕ → ℕ → Bool
 is_id i x = x == i
 
-new-none : (x : ℕ) (xs : List ℕ) → IsNew x xs → tally (is_id x) xs ≡ 0
+pub new-none : (x : ℕ) (xs : List ℕ) → IsNew x xs → tally (is_id x) xs ≡ 0
 new-none x [] h = tally-nil (is_id x)
 new-none x (y ∷ ys) h =
     tally-no (is_id x) y ys (ne_eqb y x (λ e. h.0 (sym e))) ∙ new-none x ys h.1

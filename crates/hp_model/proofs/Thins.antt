@@ -128,7 +128,7 @@ thins_list c list h a = record {
 pub thins_all : (c : ControlState) → Ready c → Thins c c
 thins_all c r = record { next = omega arith; stack = keeps_all c.next c.next c.stack; list = λ i. omega arith; formatting = r.formatting; form = same_form c.form; alike = alike_all c }
 
-id_later : (n m : ℕ) (o : Option ℕ) → n ≤ m → IfSome o (IsId n) → IfSome o (IsId m)
+pub id_later : (n m : ℕ) (o : Option ℕ) → n ≤ m → IfSome o (IsId n) → IfSome o (IsId m)
 id_later n m None h k = tt
 id_later n m (Some id) h k = let e : id < n = k.1 in (k.0, omega arith)
 

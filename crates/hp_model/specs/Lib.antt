@@ -5,3 +5,4 @@ pub mod Rows
 pub mod Handling
 pub mod Examples
 pub mod Laws
+pub mod Whole

@@ -4,6 +4,7 @@
 
 ghost use Rattle.hp_model.specs.Examples.{Examples};
 ghost use Rattle.hp_model.specs.Laws.{ForeignByActs, ModeByActs};
+ghost use Rattle.hp_model.specs.Whole.{HandedOn, StaysValid, TurnsEnd};
 
 /// Short pages lead to the trees of the standard.
 pub fn pages_by_example()
@@ -14,4 +15,12 @@ pub fn pages_by_example()
 pub fn rules_by_acts()
     ensures mode { ModeByActs }
     ensures foreign { ForeignByActs }
+{}
+
+/// From a valid state, for a token as the lexer reads it: its turns end, a valid state is left, and a token that is handed
+/// on is handled from the state that the turn left.
+pub fn handling()
+    ensures ends { TurnsEnd }
+    ensures valid { StaysValid }
+    ensures handed_on { HandedOn }
 {}

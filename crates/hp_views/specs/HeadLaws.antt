@@ -32,7 +32,7 @@ same_id : (s : ControlState) (id : ℕ) → s ≡ nothing → s.next + id ≡ id
 same_id s id e = ap (λ (t : ControlState). t.next + id) e ∙ omega arith
 
 abbrev pushed_if : ℕ → Bool → ControlState → Outcome
-pushed_if id open c = if open then becomes c else with_stack (head_element id ∷ c.stack) c
+pushed_if id there c = if there then becomes c else with_stack (head_element id ∷ c.stack) c
 
 shifted_head : (s : ControlState) (id : ℕ) → s ≡ nothing → shifted s.next (head_element id) ≡ head_element id
 shifted_head s id e = ap head_element (same_id s id e)

@@ -25,4 +25,11 @@ pub mod Steps
 pub mod ClosingPlans
 pub mod FormPlans
 pub mod ClosingLaws
+pub mod OwnIds
+pub mod OlderIds
+pub mod RemoveLaws
+pub mod HeadLaws
+pub mod SecondLaws
+pub mod FormLaws
+pub mod BeginLaws
 pub mod Tests

@@ -1,10 +1,10 @@
 -- Own elements and entries by their ids: those of an older state are below its next one, so that none is found among them.
 use Rattle.std.specs.Prelude.{◌≡◌, ℕ, zero, suc, ◌+◌, ◌<◌, ◌≤◌, ◌==◌, Bool, true, false, if◌then◌else◌, List, [], ◌∷◌, ◌++◌, Option, Some, None, map, take, drop, length, refl}
 use Rattle.std.specs.Option.{option_map}
-use Rattle.std.specs.List.{drop-map, take-map}
-use Rattle.std.proofs.Common.{sym, ap, ◌∙◌, arith}
+use Rattle.std.specs.List.{take-map}
+use Rattle.std.proofs.Common.{sym, ap, ◌∙◌, append_assoc, arith}
 use Rattle.std.proofs.lemmas.Bool.{eq-eqb, eqb-true, ne_eqb}
-use Rattle.std.proofs.lemmas.List.{length-map, take-append-le, drop-append-le}
+use Rattle.std.proofs.lemmas.List.{length-map, map-append, take-append-le}
 use Rattle.hp_elements.specs.declared.tag.Tag.{Tag}
 use Rattle.hp_control.specs.declared.element.OpenElement.{OpenElement}
 use Rattle.hp_control.specs.declared.element.FormattingEntry.{FormattingEntry}
@@ -15,6 +15,7 @@ use Rattle.hp_control.specs.Acts.{without, without_entry}
 use Rattle.hp_control.specs.Apply.{shifted, shifted_entry}
 use Rattle.hp_views.specs.declared.walks.Walk.{Walk}
 use Rattle.hp_views.specs.declared.walks.Walk.TheVariants.{Found, Stopped, PastAll}
+use Rattle.hp_views.specs.OwnWalks.{drop_own}
 use Rattle.hp_views.specs.Walks.{deeper, id_walk, id_entry_walk}
 
 abbrev pub ids : List OpenElement → List ℕ
@@ -62,10 +63,13 @@ open_own n id (x ∷ xs) ys h =
 
 -- an own element out of mid-list
 pub without_own : (n k : ℕ) (xs ys : List OpenElement) → k < length xs → without k (map (shifted n) xs ++ ys) ≡ map (shifted n) (without k xs) ++ ys
-without_own n zero [] ys h = absurd (omega (arith, h))
-without_own n zero (x ∷ xs) ys h = refl
-without_own n (suc k) [] ys h = absurd (omega (arith, h))
-without_own n (suc k) (x ∷ xs) ys h = ap (λ l. shifted n x ∷ l) (without_own n k xs ys (omega (arith, h)))
+without_own n k xs ys h =
+    let f : OpenElement → OpenElement = shifted n in
+    let fits : k ≤ length (map f xs) = (let e : length (map f xs) ≡ length xs = length-map xs f in omega (arith, h, e)) in
+    ap (λ l. l ++ drop (k + 1) (map f xs ++ ys)) (take-append-le k (map f xs) ys fits ∙ take-map f k xs)
+    ∙ (ap (λ l. map f (take k xs) ++ l) (drop_own f (k + 1) xs ys (omega (arith, h)))
+    ∙ (sym (append_assoc (map f (take k xs)) (map f (drop (k + 1) xs)) ys)
+    ∙ ap (λ l. l ++ ys) (sym (map-append f (take k xs) (drop (k + 1) xs)))))
 
 id_deeper : (w : Walk) (n k : ℕ) → ((j : ℕ) → w ≡ Found j → j < n) → deeper 1 w ≡ Found k → k < suc n
 id_deeper (Found j) n k h e = let z : 1 + j ≡ k = cc in let l : j < n = h j refl in omega arith
@@ -105,7 +109,10 @@ without_found Stopped es = es
 without_found PastAll es = es
 
 found_later : (w : Walk) (e : FormattingEntry) (es : List FormattingEntry) → e ∷ without_found w es ≡ without_found (deeper 1 w) (e ∷ es)
-found_later (Found k) e es = refl
+found_later (Found k) e es =
+    let one : 1 + k ≡ suc k = omega arith in
+    let two : suc k + 1 ≡ suc (k + 1) = omega arith in
+    sym (ap (λ n. take n (e ∷ es) ++ drop (n + 1) (e ∷ es)) one ∙ ap (λ n. e ∷ (take k es ++ drop n (e ∷ es))) two)
 found_later Stopped e es = refl
 found_later PastAll e es = refl
 

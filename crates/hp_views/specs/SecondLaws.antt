@@ -2,7 +2,8 @@
 use Rattle.std.specs.Prelude.{◌≡◌, ℕ, zero, suc, ◌+◌, ◌<◌, ◌==◌, Bool, true, false, not, ◌||◌, if◌then◌else◌, List, [], ◌∷◌, ◌++◌, Option, Some, None, Result, Ok, map, drop, length, refl, slice_get}
 use Rattle.std.specs.Option.{is_some, unwrap_or}
 use Rattle.std.proofs.Common.{sym, subst, ap, ◌∙◌, arith}
-use Rattle.std.proofs.lemmas.List.{drop-drop, length-drop}
+use Rattle.std.proofs.lemmas.Bool.{ne_eqb}
+use Rattle.std.proofs.lemmas.List.{length-drop}
 use Rattle.hp_elements.specs.declared.kinds.Kinds.TheVariants as kinds
 use Rattle.hp_elements.specs.declared.token.Mode.{Mode}
 use Rattle.hp_control.specs.declared.change.Change.{Change}
@@ -46,7 +47,7 @@ second_shifted n (x ∷ y ∷ z ∷ xs) = second_shifted n (y ∷ z ∷ xs)
 get_below : (es : List OpenElement) (popped : ℕ) → slice_get es (popped + 1) ≡ slice_get (drop popped es) 1
 get_below es zero = refl
 get_below [] (suc n) = refl
-get_below (e ∷ es) (suc n) = get_below es n
+get_below (e ∷ es) (suc n) = ap (slice_get (e ∷ es)) (let z : suc n + 1 ≡ suc (n + 1) = omega arith in z) ∙ get_below es n
 
 get_top : (es : List OpenElement) (popped : ℕ) → slice_get es popped ≡ slice_get (drop popped es) 0
 get_top [] zero = refl
@@ -104,7 +105,7 @@ abbrev pub sees_modes : Split → Bool
 sees_modes v = own_modes v.change.templates || is_some v.page
 
 modes_way : (s : ControlState) (page : Option Page) (own : List Mode) (c : Change) → (own_modes own || is_some page) ≡ true → IsBase page c s → own_modes own ≡ is_some (slice_get (own ++ s.templates) 0)
-modes_way s page (m ∷ ms) c h base = refl
+modes_way s page (m ∷ ms) c h base = ap not (ne_eqb (suc (length ms)) 0 (λ q. omega (arith, q)))
 modes_way s (Some p) [] c h base = sym (ap (λ (t : ControlState). is_some (slice_get t.templates 0)) base)
 modes_way s None [] c h base = absurd (cc)
 

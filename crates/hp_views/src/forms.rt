@@ -1,7 +1,8 @@
 //! The end of a form (13.2.6.4.7).
 ghost use Rattle.std.specs.Prelude.{◌≡◌, ◌<◌, ◌^◌};
-ghost use Rattle.hp_views.specs.FormPlans.{end_form_plan, outside_plan, own_form_plan, older_form_plan, leave_older_plan, older_off_plan};
-ghost use Rattle.hp_views.specs.View.{sight, Carries};
+ghost use Rattle.hp_views.specs.FormPlans.{outside_plan, own_form_plan, older_form_plan, leave_older_plan, older_off_plan};
+ghost use Rattle.hp_views.specs.Steps.{end_form_step};
+ghost use Rattle.hp_views.specs.View.{sight, Carries, Meets};
 
 use crate::asking::{Pointed, older_pointer};
 use crate::view::View;
@@ -13,7 +14,7 @@ use std::alloc::Global;
 impl<'p, B: Below> View<'p, B> {
     /// The end of a form.
     pub fn end_form(&mut self, alloc: Global) -> Result<(), Refusal>
-        ensures { Carries result (sight B.heard self.old) (sight B.heard self.new) end_form_plan }
+        ensures { Meets result (sight B.heard self.old) (sight B.heard self.new) end_form_step }
     {
         if self.template_in_stack(alloc)? {
             self.end_form_in_template(alloc)

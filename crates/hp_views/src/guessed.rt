@@ -1,7 +1,7 @@
 //! A view over a guessed state: how it begins and ends.
 ghost use Rattle.std.specs.Prelude.{◌≡◌, IfOk};
 ghost use Rattle.hp_control.specs.declared.change.Change.{Change};
-ghost use Rattle.hp_views.specs.Begins.{begun_by, text_by, Begins, ended};
+ghost use Rattle.hp_views.specs.Begins.{begun_by, Begins, ended};
 ghost use Rattle.hp_views.specs.View.{split_of};
 
 use crate::view::View;
@@ -71,6 +71,23 @@ fn is_table_text(mode: Mode) -> bool
 
 ghost use Rattle.hp_control.specs.Outcome.{is_table_text};
 
+/// What was kept of a guess.
+fn kept_of<P: Drop>(guess: Guess<P>) -> Assumptions
+    ensures { result ≡ guess.kept }
+{
+    let Guess { kept, .. } = guess;
+    kept
+}
+
+/// The change at its end.
+fn end_of(mut change: Change, lex: LexState, last_tag_set: bool) -> Change
+    ensures { result ≡ ended lex last_tag_set change.entry }
+{
+    change.lex = lex;
+    change.last_tag_set = last_tag_set;
+    change
+}
+
 impl<'p, P: Predictor + Drop> View<'p, Guess<P>> {
     /// Asks what is told at the chunk's start, and answers the view that begins there, and what was told. Where that isn't that
     /// the lexer is at rest, the view can only be ended.
@@ -100,14 +117,11 @@ impl<'p, P: Predictor + Drop> View<'p, Guess<P>> {
     {
         let View {
             below,
-            mut change,
+            change,
             edits,
-            older_text: _,
-            page: _,
+            ..
         } = self;
-        let Guess { predictor: _, kept } = below;
-        change.lex = lex;
-        change.last_tag_set = last_tag_set;
-        (change, kept, edits)
+        let change = end_of(change, lex, last_tag_set);
+        (change, kept_of(below), edits)
     }
 }

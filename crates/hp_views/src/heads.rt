@@ -1,8 +1,9 @@
 //! The head element, on the stack again and off it.
 ghost use Rattle.std.specs.Prelude.{◌≡◌, IfOk};
 ghost use Rattle.hp_control.specs.Acts.{head_element as spec_head_element};
-ghost use Rattle.hp_views.specs.HeadPlans.{push_plan_of, push_head_plan, take_head_plan};
-ghost use Rattle.hp_views.specs.View.{sight, Carries};
+ghost use Rattle.hp_views.specs.HeadPlans.{push_plan_of};
+ghost use Rattle.hp_views.specs.Steps.{push_head_step, take_head_off_step};
+ghost use Rattle.hp_views.specs.View.{sight, Carries, Meets};
 
 use crate::view::View;
 use crate::walks::{Walk, open_walk};
@@ -38,7 +39,7 @@ impl<'p, B: Below> View<'p, B> {
 
     /// Pushes the head element onto the stack again, where there is one and it isn't there.
     pub fn push_head(&mut self, alloc: Global) -> Result<(), Refusal>
-        ensures { Carries result (sight B.heard self.old) (sight B.heard self.new) push_head_plan }
+        ensures { Meets result (sight B.heard self.old) (sight B.heard self.new) push_head_step }
     {
         match self.page {
             Some(facts) => match facts.head {
@@ -51,7 +52,7 @@ impl<'p, B: Below> View<'p, B> {
 
     /// Takes the head element off the stack, where there is one and it is there.
     pub fn take_head_off(&mut self, alloc: Global) -> Result<(), Refusal>
-        ensures { Carries result (sight B.heard self.old) (sight B.heard self.new) take_head_plan }
+        ensures { Meets result (sight B.heard self.old) (sight B.heard self.new) take_head_off_step }
     {
         match self.page {
             Some(facts) => match facts.head {

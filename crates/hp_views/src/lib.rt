@@ -27,8 +27,8 @@ pub use asking::{
     older_seen, older_template, older_there,
 };
 pub use laws::{
-    closing_means, fields_mean, inserts_mean, lists_mean, places_mean, pops_mean, reset_means,
-    steps_mean, tests_tell,
+    begins_mean, closing_means, fields_mean, inserts_mean, lists_mean, places_mean, pops_mean,
+    removes_mean, reset_means, steps_mean, tests_tell,
 };
 pub use place::{a_table, a_template, first_id, second_id};
 pub use view::{PageFacts, View};

@@ -6,7 +6,7 @@ ghost use Rattle.hp_views.specs.View.{sight, split_of, Carries};
 
 use crate::view::View;
 use crate::walks::{Walk, listed_walk, open_walk};
-use hp_control::{Below, FormattingEntry, Refusal};
+use hp_control::{Below, FormattingEntry, Refusal, Stack};
 use std::alloc::Global;
 
 impl<'p, B: Below> View<'p, B> {
@@ -47,13 +47,20 @@ impl<'p, B: Below> View<'p, B> {
     pub fn has_entry(&self, id: u64) -> bool
         ensures { result ≡ has_entry id self.now.change.formatting }
     {
-        for depth in 0..self.change.formatting.len() {
-            if is_entry(self.change.formatting.at(depth), id) {
-                return true;
-            }
-        }
-        false
+        is_listed(&self.change.formatting, id)
     }
+}
+
+/// Whether an entry of the list has this id.
+fn is_listed(list: &Stack<FormattingEntry>, id: u64) -> bool
+    ensures { result ≡ has_entry id list.now }
+{
+    for depth in 0..list.len() {
+        if is_entry(list.at(depth), id) {
+            return true;
+        }
+    }
+    false
 }
 
 /// Whether the entry has this id.
