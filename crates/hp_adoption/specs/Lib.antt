@@ -4,6 +4,3 @@ pub mod ArkPlans
 pub mod AdoptPlans
 pub mod Turning
 pub mod LinkPlans
-pub mod Following
-pub mod ReconLaws
-pub mod ArkLaws
