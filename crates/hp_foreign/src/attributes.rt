@@ -75,7 +75,7 @@ pub(crate) fn attributes_in(
     Ok(made)
 }
 
-fn is_called(name: &Name, known: Known) -> bool
+pub(crate) fn is_called(name: &Name, known: Known) -> bool
     ensures { result ≡ bytes_eq name.now (text_of known) }
 {
     name.is(known)

@@ -1,30 +1,52 @@
 //! The elements of foreign content (13.2.6.1, 13.2.6.4.7, 13.2.6.5).
 ghost use Rattle.std.specs.Prelude.{◌≡◌, IfOk};
+ghost use Rattle.std.specs.List.{list_any};
+ghost use Rattle.std.specs.Str.{bytes_eq};
+ghost use Rattle.hp_elements.specs.Names.{lowered};
+ghost use Rattle.hp_foreign.specs.Encodings.{encodes_as};
 ghost use Rattle.hp_control.specs.Acts.{point_in, encodes_html, mathml_point, svg_point};
 ghost use Rattle.hp_control.specs.Foreign.{opened_namespace, tag_in};
 ghost use Rattle.hp_views.specs.View.{sight, Answers, Meets, Carries};
 ghost use Rattle.hp_foreign.specs.Plans.{namespace_plan, insert_in_plan};
 ghost use Rattle.hp_foreign.specs.Steps.{insert_as_current_step, insert_foreign_step};
 
-use crate::attributes::{attributes_in, element_name};
+use crate::attributes::{attributes_in, element_name, is_called};
 use crate::dispatch::older_element;
 use hp_control::{Below, Refusal};
-use hp_elements::{Attribute, Known, Name, Namespace, NoMemory, Point, SetName, Tag};
+use hp_elements::{Attribute, Chain, Known, Name, Namespace, NoMemory, Point, SetName, Tag, Text};
 use hp_views::View;
 use std::alloc::Global;
 
-/// Whether the attribute makes an annotation an integration point of HTML.
-fn encodes_html(alloc: Global, attribute: &Attribute) -> Result<bool, NoMemory>
-    ensures { IfOk result (λ encodes. encodes ≡ encodes_html attribute.now) }
+/// Whether two texts are the same without ASCII case.
+fn is_alike(text: &Text<'_>, other: &Text<'_>) -> bool
+    ensures { result ≡ bytes_eq (lowered text.now) (lowered other.now) }
 {
-    let encoding = Name::from_text(alloc, "encoding")?;
-    if !attribute.name.same(&encoding) {
-        return Ok(false);
-    }
-    let value = Name::from_lowered(alloc, attribute.value.as_str())?;
-    let text = Name::from_text(alloc, "text/html")?;
-    let xhtml = Name::from_text(alloc, "application/xhtml+xml")?;
-    Ok(value.same(&text) || value.same(&xhtml))
+    text.as_str().eq_ignore_ascii_case(other.as_str())
+}
+
+/// Whether the attribute is an `encoding` of one of these values.
+fn encodes(attribute: &Attribute, html: &Text<'_>, xhtml: &Text<'_>) -> bool
+    ensures { result ≡ encodes_as html.now xhtml.now attribute.now }
+{
+    is_called(&attribute.name, Known::Encoding)
+        && (is_alike(&attribute.value, html) || is_alike(&attribute.value, xhtml))
+}
+
+fn any_encodes(attributes: &Chain<Attribute>, html: &Text<'_>, xhtml: &Text<'_>) -> bool
+    ensures { result ≡ list_any (encodes_as html.now xhtml.now) attributes.now }
+{
+    attributes
+        .iter()
+        .any(|attribute| encodes(attribute, html, xhtml))
+}
+
+/// Whether an attribute makes an annotation an integration point of HTML.
+fn encodes_html(alloc: Global, attributes: &Chain<Attribute>) -> Result<bool, NoMemory>
+    ensures { IfOk result (λ encodes. encodes ≡ list_any encodes_html attributes.now) }
+{
+    let html = Text::from_str(alloc, "text/html")?;
+    let xhtml = Text::from_str(alloc, "application/xhtml+xml")?;
+    Ok(any_encodes(attributes, &html, &xhtml))
 }
 
 fn mathml_point(alloc: Global, tag: &Tag) -> Result<Point, NoMemory>
@@ -33,15 +55,14 @@ fn mathml_point(alloc: Global, tag: &Tag) -> Result<Point, NoMemory>
     if SetName::MathMlTextPoints.has(Namespace::MathMl, &tag.name) {
         return Ok(Point::MathText);
     }
-    if !tag.name.is(Known::AnnotationXml) {
+    if !is_called(&tag.name, Known::AnnotationXml) {
         return Ok(Point::No);
     }
-    for attribute in tag.attributes.iter() {
-        if encodes_html(alloc, attribute)? {
-            return Ok(Point::Html);
-        }
+    if encodes_html(alloc, &tag.attributes)? {
+        Ok(Point::Html)
+    } else {
+        Ok(Point::No)
     }
-    Ok(Point::No)
 }
 
 fn svg_point(tag: &Tag) -> Point
