@@ -19,6 +19,7 @@ either true false true = refl
 either true false false = refl
 
 one_alike : (a : Attribute) → encodes_as (chars (codes "text/html")) (chars (codes "application/xhtml+xml")) a ≡ encodes_html a
+unfolding chars
 one_alike a = either (bytes_eq a.name (codes "encoding")) (bytes_eq (lowered a.value) (codes "text/html")) (bytes_eq (lowered a.value) (codes "application/xhtml+xml"))
 
 pub encodings_alike : (attributes : List Attribute) → list_any (encodes_as (chars (codes "text/html")) (chars (codes "application/xhtml+xml"))) attributes ≡ list_any encodes_html attributes
