@@ -81,7 +81,7 @@ fn kept_of<P: Drop>(guess: Guess<P>) -> Assumptions
 
 /// The change at its end.
 fn end_of(mut change: Change, lex: LexState, last_tag_set: bool) -> Change
-    ensures { result ≡ ended lex last_tag_set change.entry }
+    ensures { result ≡ ended lex last_tag_set change }
 {
     change.lex = lex;
     change.last_tag_set = last_tag_set;
