@@ -1,4 +1,5 @@
 pub mod Edits
+pub mod Held
 pub mod Tree
 pub mod States
 pub mod KindTests
@@ -18,6 +19,7 @@ pub mod Steps
 pub mod Acts
 pub mod Adoption
 pub mod Composed
+pub mod Foreign
 pub mod Laws
 pub mod Examples
 pub mod Sequence

@@ -17,11 +17,10 @@ fn make<'p>(rt: &impl Abort, tree: &mut Tree<'p>, edit: Edit<'p>) {
 
 /// Makes room for so many edits without attributes.
 fn make_room(alloc: Global, tree: &mut Tree<'_>, count: usize) -> Result<(), AllocError> {
-    let mut edits = Edits::new(alloc);
+    let mut edits = Edits::new();
     for _ in 0..count {
-        edits.push(Edit::Detach {
-            node: Ref::Fixed(0),
-        })?;
+        let node = Ref::Fixed(0);
+        edits.push(alloc, Edit::Detach { node })?;
     }
     tree.reserve(alloc, &edits)
 }

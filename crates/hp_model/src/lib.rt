@@ -1,0 +1,26 @@
+//! What the sequential parser is: the handling of one token as a function of the whole state (13.2.6). Nothing here parses
+//! at run time: specs/ has the definitions, and each contract is a law of them; the bodies do nothing.
+#![tactic(auto)]
+
+ghost use Rattle.hp_model.specs.Examples.{Examples};
+ghost use Rattle.hp_model.specs.Laws.{ForeignByActs, ModeByActs};
+ghost use Rattle.hp_model.specs.Whole.{HandedOn, StaysValid, TurnsEnd};
+
+/// Short pages lead to the trees of the standard.
+pub fn pages_by_example()
+    ensures { Examples }
+{}
+
+/// The rules of a mode, and those of foreign content, are the acts of the rows, one by one.
+pub fn rules_by_acts()
+    ensures mode { ModeByActs }
+    ensures foreign { ForeignByActs }
+{}
+
+/// From a valid state, for a token as the lexer reads it: its turns end, a valid state is left, and a token that is handed
+/// on is handled from the state that the turn left.
+pub fn handling()
+    ensures ends { TurnsEnd }
+    ensures valid { StaysValid }
+    ensures handed_on { HandedOn }
+{}
