@@ -1,7 +1,7 @@
 //! One token, handled whole (13.2.6).
 ghost use Rattle.std.specs.Prelude.{◌≡◌, ◌<◌, true, IfOk};
 ghost use Rattle.hp_elements.specs.Rules.{goes_later};
-ghost use Rattle.hp_acts.specs.Handling.{GoesLater};
+ghost use Rattle.hp_acts.specs.Handling.{GoesBy, GoesLater};
 
 use crate::carry::{carry, carry_out};
 use crate::plain::{is_plain, put_plain};
@@ -132,6 +132,7 @@ fn step<'p, B: Below>(
     requires later { goes_later at act ≡ true }
     requires short { at < 8 }
     ensures later { IfOk result (λ next. GoesLater at next) }
+    ensures goes { IfOk result (λ next. GoesBy act at view.old.change.mode fostering next) }
 {
     match act {
         Act::Done => Ok(Next::Done),
