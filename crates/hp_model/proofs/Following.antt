@@ -56,16 +56,16 @@ use Rattle.hp_model.proofs.Courses.{standing-rooted, ready, thin, push, push_htm
 template-told : (id : ℕ) (tag : Tag) → is_html_space tag.namespace ≡ true → is_template (element_for id tag) ≡ kind_is_template (Start (known_of tag.name))
 template-told id tag h = rw h (go (known_of tag.name) refl)
   where
-    go : (o : Option Known) → known_of tag.name ≡ o → bytes_eq tag.name (text_of known.Template) ≡ kind_is_template (Start o)
-    go (Some k) e = ap (λ t. bytes_eq t (text_of known.Template)) (sym (found_text tag.name k e))
-    go None e = unknown_name e (bytes_eq tag.name (text_of known.Template)) refl
-
     none_some : None ≡ Some known.Template → ⊥
     none_some k = cc
 
     unknown_name : known_of tag.name ≡ None → (b : Bool) → bytes_eq tag.name (text_of known.Template) ≡ b → b ≡ false
     unknown_name e false f = refl
     unknown_name e true f = absurd (none_some (sym e ∙ (ap known_of (equal_bytes true tag.name (text_of known.Template) (sym f) refl) ∙ known_of_text known.Template)))
+
+    go : (o : Option Known) → known_of tag.name ≡ o → bytes_eq tag.name (text_of known.Template) ≡ kind_is_template (Start o)
+    go (Some k) e = ap (λ t. bytes_eq t (text_of known.Template)) (sym (found_text tag.name k e))
+    go None e = unknown_name e (bytes_eq tag.name (text_of known.Template)) refl
 
 formatting-told : (name : List ℕ) → is_formatting_start (Start (known_of name)) ≡ true → in_set sets.Formatting Html name ≡ true
 formatting-told name h = go (known_of name) refl h
@@ -107,7 +107,7 @@ insert_along fostering (token.Start self_closing tag) read v n s g h =
     let parts = and_parts (is_standing v.base) _ h in
     let inner = and_parts (is_start (Start (known_of tag.name))) _ parts.1 in
     push true (kind_is_template (Start (known_of tag.name))) tag v n s g parts.0 (ap is_html_space read) (λ e. absurd (true≢false e)) (template-told s.next tag (ap is_html_space read)) inner.1
-insert_along fostering t read v n s g h = absurd (true≢false (sym (and_parts (is_start (kind_of t)) _ (and_parts (is_standing v.base) _ h).1).0))
+insert_along fostering t read v n s g h = absurd (true≢false (sym (and_parts (is_start (kind_of t)) (not (kind_is_template (kind_of t)) || has_room v.room) (and_parts (is_standing v.base) (is_start (kind_of t) && (not (kind_is_template (kind_of t)) || has_room v.room)) h).1).0))
 
 insert_html_along : (t : Token) → IsRead t → (v : Course) (n : ℕ) (s : ControlState) → Along v n s → fits (kind_of t) act.InsertHtml v ≡ true → Along (after (kind_of t) act.InsertHtml v) n (record s { stack = element_for s.next (tag_of t) ∷ s.stack; next = s.next + 1 })
 insert_html_along (token.Start self_closing tag) read v n s g h =
