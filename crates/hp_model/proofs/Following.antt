@@ -262,6 +262,10 @@ made_made : (b : Bool) (st : List OpenElement) (list : List FormattingEntry) (hd
 made_made true st list hd next h m = m
 made_made false st list hd next h m = absurd (true≢false (sym h))
 
+made_marked : (b : Bool) (st : List OpenElement) (list : List FormattingEntry) (hd : Option ℕ) (next : ℕ) → MadeIs b st list hd next → MadeIs b st (Marker ∷ list) hd next
+made_marked true st list hd next m = record { above = m.above; below = m.below; unlisted = m.unlisted; not_head = m.not_head }
+made_marked false st list hd next m = tt
+
 formatting_entry : (t : Token) (id : ℕ) → IsRead t → is_formatting_start (kind_of t) ≡ true → IsFormatting (Element id (tag_of t))
 formatting_entry (token.Start self_closing tag) id read h = (read, subst (λ space. in_set sets.Formatting space tag.name ≡ true) (sym read) (formatting-told tag.name h))
 formatting_entry t id read h = absurd (true≢false (sym h))
@@ -350,7 +354,7 @@ act_along fostering t read act.EndForm v n s g h = thin_by v n s _ h g thinning_
 act_along fostering t read act.CloseLink v n s g h = thin_by v n s _ h g (thinning_close_link fostering)
 act_along fostering t read (act.Adopt which) v n s g h = thin_by v n s _ h g (thinning_adopt fostering _)
 act_along fostering t read act.AppendToList v n s g h = let parts = and_parts (is_formatting_start (kind_of t)) (is_above v.base && v.made) h in let inner = and_parts (is_above v.base) v.made parts.1 in append_along v n s (tag_of t) g (above-standing v.base inner.0) (made_made v.made s.stack s.formatting s.head s.next inner.1 g.made) (formatting_entry t (current_id s.stack) read parts.0)
-act_along fostering t read act.Marker v n s g h = record { base = g.base; count = g.count; place = g.place; original = g.original; pending = g.pending; room = g.room; there = g.there; made = g.made; template_modes = g.template_modes; formatting = All-cons IsFormatting Marker s.formatting tt g.formatting; stack_ids = g.stack_ids; list_ids = g.list_ids; head = g.head; form = g.form; lex = g.lex }
+act_along fostering t read act.Marker v n s g h = record { base = g.base; count = g.count; place = g.place; original = g.original; pending = g.pending; room = g.room; there = g.there; made = made_marked v.made s.stack s.formatting s.head s.next g.made; template_modes = g.template_modes; formatting = All-cons IsFormatting Marker s.formatting tt g.formatting; stack_ids = g.stack_ids; list_ids = g.list_ids; head = g.head; form = g.form; lex = g.lex }
 act_along fostering t read act.ClearToMarker v n s g h = clear_along v n s _ h g (λ i. cleared-few i s.formatting) (cleared-formatting s.formatting g.formatting)
 act_along fostering t read act.HeadPointer v n s g h = let m = made_made v.made s.stack s.formatting s.head s.next (and_parts (is_above v.base) v.made h).1 g.made in record { base = g.base; count = g.count; place = g.place; original = g.original; pending = g.pending; room = g.room; there = g.there; made = tt; template_modes = g.template_modes; formatting = g.formatting; stack_ids = g.stack_ids; list_ids = g.list_ids; head = (m.above, m.below); form = g.form; lex = g.lex }
 act_along fostering t read act.FormPointer v n s g h = let m = made_made v.made s.stack s.formatting s.head s.next (and_parts (is_above v.base) v.made h).1 g.made in record { base = g.base; count = g.count; place = g.place; original = g.original; pending = g.pending; room = g.room; there = g.there; made = g.made; template_modes = g.template_modes; formatting = g.formatting; stack_ids = g.stack_ids; list_ids = g.list_ids; head = g.head; form = (m.above, m.below); lex = g.lex }
