@@ -7,3 +7,4 @@ pub mod TextTests
 pub mod StartLemmas
 pub mod OlderLemmas
 pub mod PartLemmas
+mod Setting

@@ -41,5 +41,6 @@ valid_older s v f =
       entries = f.entries;
       stack_ids = v.stack_ids;
       list_ids = v.list_ids;
+      form = v.form;
       pending = v.pending;
     }

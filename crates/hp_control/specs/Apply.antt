@@ -1,5 +1,5 @@
 -- What a change makes of an older state, and where its edits point.
-use Rattle.std.specs.Prelude.{ℕ, ◌+◌, ◌<◌, ◌≤◌, ◌^◌, Bool, not, ◌&&◌, if◌then◌else◌, ◌++◌, Option, Some, None, map, drop, length, slice_get}
+use Rattle.std.specs.Prelude.{ℕ, ◌+◌, ◌<◌, ◌≤◌, ◌^◌, Bool, not, ◌&&◌, if◌then◌else◌, ◌++◌, Option, Some, None, IfSome, map, drop, length, slice_get}
 use Rattle.hp_tokens.specs.declared.lexing.LexState.{LexState}
 use Rattle.hp_control.specs.declared.change.Change.{Change}
 use Rattle.hp_control.specs.declared.change.FormChange.{FormChange}
@@ -15,7 +15,7 @@ use Rattle.hp_control.specs.declared.edit.Ref.TheVariants.{Fixed, Older, Own}
 use Rattle.hp_control.specs.declared.element.OpenElement.{OpenElement}
 use Rattle.hp_control.specs.declared.element.FormattingEntry.{FormattingEntry}
 use Rattle.hp_control.specs.declared.element.FormattingEntry.TheVariants.{Marker, Element}
-use Rattle.hp_control.specs.States.{ControlState, AreIds, PendingFits, entry_ids}
+use Rattle.hp_control.specs.States.{ControlState, AreIds, IsId, PendingFits, entry_ids}
 use Rattle.hp_control.specs.Walks.{cleared_by}
 
 -- own ids count from this one on
@@ -89,4 +89,5 @@ pub record IsOlder (s : ControlState) : Type 0 where
   pub entries : length s.formatting ≤ 2 ^ 26
   pub stack_ids : AreIds 0 s.next (map (λ e. e.id) s.stack)
   pub list_ids : AreIds 1 s.next (entry_ids s.formatting)
+  pub form : IfSome s.form (IsId s.next)
   pub pending : PendingFits s.mode s.pending

@@ -1,5 +1,5 @@
 -- What the rules test in a full state, and the acts that are made of others (13.2.4.2, 13.2.6.4.7).
-use Rattle.std.specs.Prelude.{ℕ, Bool, true, false, if◌then◌else◌, List, [], ◌∷◌, Option, Some, None, slice_get}
+use Rattle.std.specs.Prelude.{ℕ, Bool, true, false, not, if◌then◌else◌, List, [], ◌∷◌, Option, Some, None, slice_get}
 use Rattle.std.specs.Option.{is_some}
 use Rattle.std.specs.List.{list_any, list_all}
 use Rattle.hp_elements.specs.Names.{text_of}
@@ -20,7 +20,7 @@ use Rattle.hp_control.specs.Acts.{pop_run, through_named, take_off, empty_form, 
 use Rattle.hp_control.specs.Adoption.{Spot, find_name, adopt, reconstruct}
 use Rattle.hp_control.specs.KindTests.{within}
 use Rattle.hp_control.specs.Outcome.{Act, and_then, choose, nothing_done}
-use Rattle.hp_control.specs.States.{ControlState, is_template}
+use Rattle.hp_control.specs.States.{ControlState, is_html, is_template}
 use Rattle.hp_control.specs.Walks.{seen, scope_at, has_entry, last_named, second_is_body}
 
 abbrev pub ends_of : Scope → SetName
@@ -45,6 +45,14 @@ has_modes c = is_some (slice_get c.templates 0)
 
 abbrev pub is_second_body : ControlState → Bool
 is_second_body c = second_is_body c.stack
+
+abbrev pub first_is_foreign : List OpenElement → Bool
+first_is_foreign [] = false
+first_is_foreign (e ∷ es) = not (is_html e)
+
+-- the current node is not an HTML element
+abbrev pub is_foreign_now : ControlState → Bool
+is_foreign_now c = first_is_foreign c.stack
 
 abbrev pub is_frameset_ok : ControlState → Bool
 is_frameset_ok c = c.frameset_ok

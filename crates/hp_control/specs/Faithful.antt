@@ -93,20 +93,20 @@ neither : (a b : Bool) → (a || b) ≡ false → (a ≡ false) × (b ≡ false)
 neither false b h = (refl, h)
 neither true b h = absurd (cc)
 
-said_first : (page : Option Page) (o p : Outcome) → IsSaid page (after o p) → IsSaid page o
+pub said_first : (page : Option Page) (o p : Outcome) → IsSaid page (after o p) → IsSaid page o
 said_first None o p h = (neither o.spared p.spared h).0
 said_first (Some page) o p h = tt
 
 none_made : (s : ControlState) → s ≡ nothing → 0 < s.next → ⊥
 none_made s e h = let none : s.next ≡ 0 = ap (λ (t : ControlState). t.next) e in omega (arith, h, none)
 
-said_second : (page next : Option Page) (c d : Change) (s : ControlState) (o p : Outcome) → IsBase page c s → IsBase next d s → IsSaid page (after o p) → IsSaid next p
+pub said_second : (page next : Option Page) (c d : Change) (s : ControlState) (o p : Outcome) → IsBase page c s → IsBase next d s → IsSaid page (after o p) → IsSaid next p
 said_second None None c d s o p h k m = (neither o.spared p.spared m).1
 said_second None (Some there) c d s o p h k m = absurd (none_made s k h.made)
 said_second (Some there) None c d s o p h k m = absurd (none_made s h k.made)
 said_second (Some there) (Some page) c d s o p h k m = tt
 
-then_done : (s : ControlState) (v w : Split) (o p : Outcome) (e : Result Split Crossing) → IsDone s v w o → Matches s w e p → Matches s v e (after o p)
+pub then_done : (s : ControlState) (v w : Split) (o p : Outcome) (e : Result Split Crossing) → IsDone s v w o → Matches s w e p → Matches s v e (after o p)
 then_done s v w o p (Err crossing) d m = touches_after s crossing o p ∙ (ap (λ t. touches s crossing o || t) m ∙ or-true (touches s crossing o))
 then_done s v w o p (Ok x) d m = record {
   control = m.control;
@@ -119,12 +119,20 @@ then_done s v w o p (Ok x) d m = record {
 abbrev pub Follows : ControlState → Split → (Split → Plan Split) → Outcome → Act → Type 0
 Follows s v q o g = (w : Split) → IsDone s v w o → IsSaid w.page (g (state_over w s)) → Matches s w (end_by (answer_of s) (q w)) (g (state_over w s))
 
-then_matches : (s : ControlState) (v : Split) (q : Split → Plan Split) (f g : Act) (c : ControlState) (e : Result Split Crossing) → StandsOn s v → IsSaid v.page (and_then f g c) → Follows s v q (f c) g → Matches s v e (f c) → Matches s v (on_end e (λ w. end_by (answer_of s) (q w))) (and_then f g c)
+pub then_matches : (s : ControlState) (v : Split) (q : Split → Plan Split) (f g : Act) (c : ControlState) (e : Result Split Crossing) → StandsOn s v → IsSaid v.page (and_then f g c) → Follows s v q (f c) g → Matches s v e (f c) → Matches s v (on_end e (λ w. end_by (answer_of s) (q w))) (and_then f g c)
 then_matches s v q f g c (Err crossing) st u k m = touches_after s crossing (f c) (g (f c).control) ∙ ap (λ t. t || touches s crossing (g (f c).control)) m
 then_matches s v q f g c (Ok w) st u k m =
     let P : ControlState → Type 0 = λ d. IsSaid w.page (g d) → Matches s w (end_by (answer_of s) (q w)) (g d) in
     then_done s v w (f c) (g (f c).control) (end_by (answer_of s) (q w)) m
     (subst P m.control (k w m) (said_second v.page w.page v.change w.change s (f c) (g (f c).control) st.base m.stands.base u))
+
+-- one act after the other in one state, where the second means its own wherever the first leads
+pub matches_then : (s : ControlState) (v : Split) (p q : Split → Plan Split) (f g : Act) → StandsOn s v → IsSaid v.page (and_then f g (state_over v s)) → (IsSaid v.page (f (state_over v s)) → Matches s v (end_by (answer_of s) (p v)) (f (state_over v s))) → Follows s v q (f (state_over v s)) g → Matches s v (end_by (answer_of s) (followed_by (p v) q)) (and_then f g (state_over v s))
+matches_then s v p q f g st u h k =
+    let P : Result Split Crossing → Type 0 = λ e. Matches s v e (and_then f g (state_over v s)) in
+    subst P (sym (end_then (answer_of s) (p v) q))
+    (then_matches s v q f g (state_over v s) (end_by (answer_of s) (p v)) st u k
+    (h (said_first v.page (f (state_over v s)) (g (f (state_over v s)).control) u)))
 
 -- one act after the other, where the first leads to what the second reads
 pub faithful_then_where : (fits next : Split → Bool) (p q : Split → Plan Split) (f g : Act) → FaithfulWhere fits p f → FaithfulWhere next q g → ((s : ControlState) (v w : Split) → StandsOn s v → fits v ≡ true → IsDone s v w (f (state_over v s)) → next w ≡ true) → FaithfulWhere fits (λ v. followed_by (p v) q) (and_then f g)
@@ -138,7 +146,7 @@ faithful_then_where fits next p q f g h k leads = λ s v st fit u.
 pub faithful_then : (p q : Split → Plan Split) (f g : Act) → Faithful p f → Faithful q g → Faithful (λ v. followed_by (p v) q) (and_then f g)
 faithful_then p q f g h k = faithful_then_where any_view any_view p q f g h k (λ s v w st fit d. refl)
 
-chosen : (s : ControlState) (v : Split) (next : Bool → Split → Plan Split) (f g : Act) (c : ControlState) (b : Bool) → (IsSaid v.page (f c) → Matches s v (end_by (answer_of s) (next true v)) (f c)) → (IsSaid v.page (g c) → Matches s v (end_by (answer_of s) (next false v)) (g c)) → IsSaid v.page (if b then f c else g c) → Matches s v (end_by (answer_of s) (next b v)) (if b then f c else g c)
+pub chosen : (s : ControlState) (v : Split) (next : Bool → Split → Plan Split) (f g : Act) (c : ControlState) (b : Bool) → (IsSaid v.page (f c) → Matches s v (end_by (answer_of s) (next true v)) (f c)) → (IsSaid v.page (g c) → Matches s v (end_by (answer_of s) (next false v)) (g c)) → IsSaid v.page (if b then f c else g c) → Matches s v (end_by (answer_of s) (next b v)) (if b then f c else g c)
 chosen s v next f g c true h k u = h u
 chosen s v next f g c false h k u = k u
 

@@ -1,4 +1,5 @@
 pub mod Edits
+pub mod Held
 pub mod Tree
 pub mod States
 pub mod KindTests

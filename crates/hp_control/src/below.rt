@@ -90,6 +90,15 @@ pub trait Predictor {
         ensures { IfOk result (λ answer. answer ≡ says self.now question.now) };
 }
 
+/// A predictor says the same where it is lent.
+impl<P: Predictor> Predictor for &P {
+    ghost says = { λ p. P.says p.now };
+
+    fn say(&self, alloc: Global, question: &Question) -> Result<Answer, NoMemory> {
+        (**self).say(alloc, question)
+    }
+}
+
 /// An older state that is guessed: it answers as the predictor, and keeps each pair.
 #[derive(Drop)]
 pub struct Guess<P: Drop> {

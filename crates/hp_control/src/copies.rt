@@ -3,11 +3,11 @@ ghost use Rattle.std.specs.Prelude.{◌≡◌, IfOk};
 
 use crate::element::{FormattingEntry, OpenElement};
 use crate::stack::Stack;
-use hp_elements::{Attribute, Chain, Mode, NoMemory, Tag};
+use hp_elements::{Mode, NoMemory};
 use std::alloc::Global;
 
 /// The same element once more.
-pub(crate) fn copy_element(alloc: Global, element: &OpenElement) -> Result<OpenElement, NoMemory>
+fn copy_element(alloc: Global, element: &OpenElement) -> Result<OpenElement, NoMemory>
     ensures { IfOk result (λ copy. copy ≡ element.now) }
 {
     let name = element.name.copy(alloc)?;
@@ -19,54 +19,13 @@ pub(crate) fn copy_element(alloc: Global, element: &OpenElement) -> Result<OpenE
     })
 }
 
-/// The same attribute once more.
-fn copy_attribute(alloc: Global, attribute: &Attribute) -> Result<Attribute, NoMemory>
-    ensures { IfOk result (λ copy. copy ≡ attribute.now) }
-{
-    let name = attribute.name.copy(alloc)?;
-    let value = attribute.value.copy(alloc)?;
-    Ok(Attribute {
-        space: attribute.space,
-        name,
-        value,
-    })
-}
-
-/// The same attributes once more.
-fn copy_attributes(
-    alloc: Global,
-    attributes: &Chain<Attribute>,
-) -> Result<Chain<Attribute>, NoMemory>
-    ensures { IfOk result (λ copy. copy ≡ attributes.now) }
-{
-    let mut copies = Chain::new();
-    for attribute in attributes.iter() {
-        let copy = copy_attribute(alloc, attribute)?;
-        copies.push(alloc, copy)?;
-    }
-    Ok(copies)
-}
-
-/// The same tag once more.
-pub(crate) fn copy_tag(alloc: Global, tag: &Tag) -> Result<Tag, NoMemory>
-    ensures { IfOk result (λ copy. copy ≡ tag.now) }
-{
-    let name = tag.name.copy(alloc)?;
-    let attributes = copy_attributes(alloc, &tag.attributes)?;
-    Ok(Tag {
-        namespace: tag.namespace,
-        name,
-        attributes,
-    })
-}
-
 fn copy_entry(alloc: Global, entry: &FormattingEntry) -> Result<FormattingEntry, NoMemory>
     ensures { IfOk result (λ copy. copy ≡ entry.now) }
 {
     match entry {
         FormattingEntry::Marker => Ok(FormattingEntry::Marker),
         FormattingEntry::Element { id, tag } => {
-            let tag = copy_tag(alloc, tag)?;
+            let tag = tag.copy(alloc)?;
             Ok(FormattingEntry::Element { id: *id, tag })
         }
     }

@@ -1,11 +1,12 @@
 //! The edits of a document tree. What they do to a tree stands in specs/Tree.antt.
 
-ghost use Rattle.std.specs.Prelude.{◌≡◌, ◌+◌, ◌∷◌, ◌++◌, [], length, IsTrue, ◌↔◌, OnOk, OnErr};
+ghost use Rattle.std.specs.Prelude.{◌≡◌, ◌+◌, ◌∷◌, ◌++◌, [], length, IsTrue, ◌↔◌, IfOk, OnOk, OnErr};
 ghost use Rattle.hp_control.specs.Edits.{room_of, room_of_all};
 
 use hp_elements::{Attribute, Chain, Tag, Text};
 use std::alloc::{AllocError, Global};
 use std::marker::Model;
+use std::mem;
 
 /// Which element an edit means.
 #[derive(Clone, Copy, PartialEq, Eq, Debug)]
@@ -84,7 +85,7 @@ impl<'p> Edit<'p> {
 /// Edits in the order in which they are made.
 #[derive(Drop)]
 pub struct Edits<'p> {
-    items: Vec<Edit<'p>>,
+    items: Option<Vec<Edit<'p>>>,
     /// The room that they need together.
     room: u64,
 }
@@ -96,30 +97,31 @@ impl<'p> Model for Edits<'p> {
     ghost Value = { List Edit };
 
     ghost use Rattle.hp_control.specs.Edits.{room_of_all};
+    ghost use Rattle.hp_control.specs.Held.{held};
 
-    ghost view = { λ e. e.items.items };
+    ghost view = { λ e. held e.items };
 
-    ghost invariant = { λ e. e.room ≡ room_of_all e.items.items };
+    ghost invariant = { λ e. e.room ≡ room_of_all (held e.items) };
 }
 
 impl<'p> Edits<'p> {
-    /// No edits.
-    pub fn new(alloc: Global) -> Edits<'p>
+    /// No edits. It takes no memory.
+    pub fn new() -> Edits<'p>
         ensures { result ≡ [] }
     {
         Edits {
-            items: Vec::new(alloc),
+            items: None,
             room: 0,
         }
     }
 
     /// One more edit, made after the others.
-    pub fn push(&mut self, edit: Edit<'p>) -> Result<(), AllocError>
+    pub fn push(&mut self, alloc: Global, edit: Edit<'p>) -> Result<(), AllocError>
         ensures ok { OnOk result (self.new ≡ self.old ++ edit.entry ∷ []) }
         ensures err { OnErr result (self.new ≡ self.old) }
     {
         let room = self.room.checked_add(edit.room()).ok_or(AllocError)?;
-        self.items.push(edit)?;
+        add(alloc, &mut self.items, edit)?;
         self.room = room;
         Ok(())
     }
@@ -127,13 +129,13 @@ impl<'p> Edits<'p> {
     pub fn len(&self) -> usize
         ensures { result ≡ length self.now }
     {
-        self.items.len()
+        self.as_slice().len()
     }
 
     pub fn is_empty(&self) -> bool
         ensures { IsTrue result ↔ (self.now ≡ []) }
     {
-        self.items.is_empty()
+        self.as_slice().is_empty()
     }
 
     /// How much room the edits need together in a tree: one each, and one for each of their attributes.
@@ -146,15 +148,65 @@ impl<'p> Edits<'p> {
     pub fn as_slice(&self) -> &[Edit<'p>]
         ensures { result.now ≡ self.now }
     {
-        &self.items
+        match &self.items {
+            Some(items) => items.as_slice(),
+            None => &[],
+        }
     }
 
     /// The edits as a `Vec`. It takes no memory.
-    pub fn into_vec(self) -> Vec<Edit<'p>>
+    pub fn into_vec(self, alloc: Global) -> Vec<Edit<'p>>
         ensures { result.items ≡ self.entry }
     {
-        self.items
+        match self.items {
+            Some(items) => items,
+            None => Vec::new(alloc),
+        }
     }
+
+    /// Moves all edits, in order, into a `Vec` without items, whose memory is kept for the edits to come. It takes no memory.
+    pub fn take_into(&mut self, taken: &mut Vec<Edit<'p>>)
+        requires { taken.old.items ≡ [] }
+        ensures taken { taken.new.items ≡ self.old }
+        ensures left { self.new ≡ [] }
+    {
+        if let Some(items) = &mut self.items {
+            mem::swap(items, taken);
+        }
+        self.room = 0;
+    }
+}
+
+/// One more edit. At an `Err` the edits are as before.
+fn add<'p>(
+    alloc: Global,
+    edits: &mut Option<Vec<Edit<'p>>>,
+    edit: Edit<'p>,
+) -> Result<(), AllocError>
+    ensures ok { OnOk result (held edits.new ≡ held edits.old ++ edit.entry ∷ []) }
+    ensures err { OnErr result (held edits.new ≡ held edits.old) }
+{
+    match edits {
+        Some(items) => {
+            items.push(edit)?;
+            Ok(())
+        }
+        None => {
+            *edits = Some(one_edit(alloc, edit)?);
+            Ok(())
+        }
+    }
+}
+
+ghost use Rattle.hp_control.specs.Held.{held};
+
+/// A `Vec` of one edit.
+fn one_edit<'p>(alloc: Global, edit: Edit<'p>) -> Result<Vec<Edit<'p>>, AllocError>
+    ensures { IfOk result (λ items. items.items ≡ edit.entry ∷ []) }
+{
+    let mut items = Vec::new(alloc);
+    items.push(edit)?;
+    Ok(items)
 }
 
 #[cfg(test)]
@@ -164,27 +216,26 @@ mod tests {
 
     #[test]
     fn edits_are_kept_in_order(rt: HostRuntime) -> Result<(), Fail> {
-        let mut edits = Edits::new(rt.alloc());
+        let mut edits = Edits::new();
         assert!(rt; edits.is_empty());
-        edits.push(Edit::Detach {
-            node: Ref::Fixed(7),
-        })?;
-        edits.push(Edit::Put {
-            child: Child::Element(Ref::Own(1)),
-            place: Place::Into(Ref::Older(2)),
-        })?;
+        edits.push(
+            rt.alloc(),
+            Edit::Detach {
+                node: Ref::Fixed(7),
+            },
+        )?;
+        edits.push(
+            rt.alloc(),
+            Edit::Put {
+                child: Child::Element(Ref::Own(1)),
+                place: Place::Into(Ref::Older(2)),
+            },
+        )?;
         assert_eq!(rt; edits.len(), 2);
         assert_eq!(rt; edits.room(), 2);
-        let first = edits.as_slice().first();
-        assert!(rt;
-            matches!(
-                first,
-                Some(Edit::Detach {
-                    node: Ref::Fixed(7)
-                })
-            )
-        );
-        let all = edits.into_vec();
+        let mut all = Vec::new(rt.alloc());
+        edits.take_into(&mut all);
+        assert!(rt; edits.is_empty());
         assert!(rt;
             matches!(
                 all.last(),

@@ -2,6 +2,7 @@
 //! older one, and what it changes of it.
 #![tactic(auto)]
 
+mod answers;
 mod below;
 mod change;
 mod control;
@@ -14,6 +15,7 @@ mod question;
 mod reset;
 mod sameness;
 mod spelled;
+mod splice;
 mod stack;
 mod tags;
 #[cfg(test)]
@@ -21,6 +23,7 @@ mod tests;
 mod truths;
 mod walks;
 
+pub use answers::answer;
 pub use below::{Below, Guess, Nothing, Predictor};
 pub use change::{Change, FormChange, Refusal};
 pub use control::Control;
@@ -28,6 +31,7 @@ pub use edit::{Child, Edit, Edits, Place, Ref};
 pub use element::{FormattingEntry, OpenElement};
 pub use kinds::{is_html, is_named, is_within};
 pub use question::{Answer, Assumptions, Crossing, EntryKind, FactKind, Kept, Question};
+pub use reset::reset_from;
 pub use stack::Stack;
 pub use tags::same_tag;
 pub use truths::truth;

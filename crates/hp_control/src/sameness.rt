@@ -3,7 +3,7 @@ ghost use Rattle.std.specs.Prelude.{◌≡◌, ◌↔◌, ◌<◌, IsTrue, lengt
 
 use crate::element::{FormattingEntry, OpenElement};
 use crate::stack::Stack;
-use hp_elements::{Attribute, Chain, Mode, Tag};
+use hp_elements::Mode;
 
 fn same_element(element: &OpenElement, other: &OpenElement) -> bool
     ensures { IsTrue result ↔ (element.now ≡ other.now) }
@@ -29,40 +29,6 @@ pub(crate) fn same_elements(stack: &Stack<OpenElement>, other: &Stack<OpenElemen
     true
 }
 
-fn equal_attribute(attribute: &Attribute, other: &Attribute) -> bool
-    ensures { IsTrue result ↔ (attribute.now ≡ other.now) }
-{
-    attribute.space == other.space
-        && attribute.name.same(&other.name)
-        && attribute.value.same(&other.value)
-}
-
-/// Whether the attributes are the same, in the same order.
-fn equal_attributes(attributes: &Chain<Attribute>, other: &Chain<Attribute>) -> bool
-    ensures { IsTrue result ↔ (attributes.now ≡ other.now) }
-{
-    let mut rest = other.iter();
-    for attribute in attributes.iter() {
-        match rest.next() {
-            Some(that) => {
-                if !equal_attribute(attribute, that) {
-                    return false;
-                }
-            }
-            None => return false,
-        }
-    }
-    rest.next().is_none()
-}
-
-fn equal_tag(tag: &Tag, other: &Tag) -> bool
-    ensures { IsTrue result ↔ (tag.now ≡ other.now) }
-{
-    tag.namespace == other.namespace
-        && tag.name.same(&other.name)
-        && equal_attributes(&tag.attributes, &other.attributes)
-}
-
 fn same_entry(entry: &FormattingEntry, other: &FormattingEntry) -> bool
     ensures { IsTrue result ↔ (entry.now ≡ other.now) }
 {
@@ -74,7 +40,7 @@ fn same_entry(entry: &FormattingEntry, other: &FormattingEntry) -> bool
                 id: other_id,
                 tag: other_tag,
             },
-        ) => *id == *other_id && equal_tag(tag, other_tag),
+        ) => *id == *other_id && tag.same(other_tag),
         (FormattingEntry::Marker, FormattingEntry::Element { .. }) => false,
         (FormattingEntry::Element { .. }, FormattingEntry::Marker) => false,
     }

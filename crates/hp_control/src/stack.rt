@@ -1,5 +1,5 @@
 //! Stacks, which contracts see as lists with their top first.
-ghost use Rattle.std.specs.Prelude.{◌≡◌, ◌+◌, ◌-◌, ◌<◌, ◌≤◌, ◌==◌, [], ◌∷◌, ◌++◌, length, drop, OnOk, OnErr, IfErr, slice_index_or};
+ghost use Rattle.std.specs.Prelude.{◌≡◌, ◌+◌, ◌-◌, ◌<◌, ◌≤◌, ◌==◌, [], ◌∷◌, ◌++◌, length, take, drop, OnOk, OnErr, IfErr, slice_index_or};
 
 use hp_elements::List;
 use std::alloc::{AllocFailed, Global};
@@ -9,7 +9,7 @@ use std::marker::Model;
 /// its items with the top first. One of none or one item takes no heap.
 #[derive(Drop)]
 pub struct Stack<T> {
-    items: List<T>,
+    pub(crate) items: List<T>,
 }
 
 impl<T> Model for Stack<T> {
@@ -69,5 +69,14 @@ impl<T: Drop> Stack<T> {
     {
         let rest = self.items.len() - count;
         self.items.truncate(rest);
+    }
+
+    /// Takes the item at a depth out; the top is at 0.
+    pub fn take_out(&mut self, depth: usize)
+        requires { depth < length self.old }
+        ensures { self.new ≡ take depth self.old ++ drop (depth + 1) self.old }
+    {
+        let at = self.items.len() - 1 - depth;
+        let _ = self.items.remove(at);
     }
 }

@@ -133,7 +133,7 @@ fn kind_at(stack: &Stack<OpenElement>, depth: usize, id: u64) -> EntryKind
 }
 
 /// How the last entry of the name stands.
-fn kind_of(
+pub(crate) fn kind_of(
     stack: &Stack<OpenElement>,
     depth: usize,
     list: &Stack<FormattingEntry>,
@@ -149,7 +149,7 @@ fn kind_of(
 }
 
 /// Whether the element at the depth has an entry.
-fn top_has_entry(
+pub(crate) fn top_has_entry(
     stack: &Stack<OpenElement>,
     depth: usize,
     list: &Stack<FormattingEntry>,
@@ -174,7 +174,7 @@ fn is_listed(kind: EntryKind, top: bool, answer: &Answer) -> bool
 }
 
 /// Whether nothing below is to be reconstructed.
-fn is_quiet(
+pub(crate) fn is_quiet(
     stack: &Stack<OpenElement>,
     depth: usize,
     list: &Stack<FormattingEntry>,
@@ -192,7 +192,7 @@ fn is_quiet(
 }
 
 /// Whether the second element is an HTML `body` that stands at the depth or below.
-fn second_is_body(stack: &Stack<OpenElement>, depth: usize) -> bool
+pub(crate) fn second_is_body(stack: &Stack<OpenElement>, depth: usize) -> bool
     ensures { result ≡ second_is_body (drop depth stack.now) }
 {
     match second_place(stack.len(), depth) {
@@ -282,7 +282,7 @@ fn is_resting(
 }
 
 /// The text of the last start tag's name; empty where there was none.
-fn last_tag(lex: &LexState) -> &str
+pub(crate) fn last_tag(lex: &LexState) -> &str
     ensures { chars result.now ≡ unwrap_or lex.now.machine.last_tag [] }
 {
     match &lex.machine.last_tag {

@@ -46,10 +46,12 @@ pub record AsksCdata (l f h : Lexing) : Type 0 where
   pub long : 7 ≤ length l.unread
   pub away : is_resting l.machine.state ≡ false
 
--- If it is a move, the weight falls, and no more bytes are unread. If it asks for CDATA, that is unread.
+-- If it is a move, the weight falls, and no more bytes are unread. If it asks for CDATA, that is unread. If it asks for the last
+-- start tag's name, that isn't told.
 abbrev pub FallsTo : Lexing → Move → Type 0
 FallsTo l (makes m es) = (weight m < weight l) × (bytes m.unread ≤ bytes l.unread)
 FallsTo l (asks_cdata f h) = AsksCdata l f h
+FallsTo l asks_last_tag = l.machine.last_tag ≡ None
 FallsTo l _ = Unit {0}
 
 falls_if : (l : Lexing) (b : Bool) (x y : Move) → FallsTo l x → FallsTo l y → FallsTo l (cond b x y)
@@ -153,9 +155,22 @@ tags_fall_at_end s names l text e u =
     let P : State → Type 0 = λ x. IsTrue (tag_rows.has_row x) in
     tag_end (tag_rows.has_row s) l text (λ h. subst P (sym e) h) u
 
+untold : (o : Option (List ℕ)) → raw.is_untold o ≡ true → o ≡ None
+untold None h = refl
+untold (Some name) h = cc
+
+ask_falls : (l : Lexing) (b : Bool) (x : Move) → (b ≡ true → l.machine.last_tag ≡ None) → FallsTo l x → FallsTo l (cond b asks_last_tag x)
+ask_falls l true x h k = h refl
+ask_falls l false x h k = k
+
+asks_untold : (m : Machine) (c : ℕ) → raw.asks m c ≡ true → m.last_tag ≡ None
+asks_untold m c h =
+    let both = and_parts (raw.names_end_tag m.state && raw.is_untold m.last_tag) (raw_rows.ends_name (read_as c)) h in
+    untold m.last_tag (and_parts (raw.names_end_tag m.state) (raw.is_untold m.last_tag) both.0).1
+
 raw_falls : (l : Lexing) (c : ℕ) (cs : List ℕ) (b : Bool) → b ≡ raw_rows.has_row l.machine.state → l.unread ≡ c ∷ cs
     → FallsTo l (cond b (cond (raw.asks l.machine c) asks_last_tag (row_move raw_rows.row l c cs)) needs_more)
-raw_falls l c cs true e u = falls_if l (raw.asks l.machine c) asks_last_tag (row_move raw_rows.row l c cs) tt (raw_row true l c cs (λ h. sym e) u)
+raw_falls l c cs true e u = ask_falls l (raw.asks l.machine c) (row_move raw_rows.row l c cs) (asks_untold l.machine c) (raw_row true l c cs (λ h. sym e) u)
 raw_falls l c cs false e u = tt
 
 -- words

@@ -4,3 +4,4 @@ pub mod Runs
 pub mod Ending
 pub mod Steady
 pub mod Opening
+pub mod Loads

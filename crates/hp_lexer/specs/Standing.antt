@@ -1,11 +1,15 @@
 -- Where a lexer stands in a text, and what its calls promise.
-use Rattle.std.specs.Prelude.{◌≡◌, ℕ, ◌-◌, ◌≤◌, ◌^◌, Bool, true, false, List, []}
+use Rattle.std.specs.Prelude.{◌≡◌, ℕ, ◌+◌, ◌*◌, ◌-◌, ◌<◌, ◌≤◌, ◌^◌, Bool, true, false, List, [], if◌then◌else◌}
 use Rattle.hp_elements.specs.declared.token.Token.{Token}
 use Rattle.hp_tokens.specs.declared.state.State.{State}
 use Rattle.hp_tokens.specs.declared.machine.Machine.{Machine}
 use Rattle.hp_tokens.specs.Reading.{Unread}
 use Rattle.hp_tokens.specs.Moves.{Lexing, needs_more, asks_cdata, asks_last_tag, move}
 use Rattle.hp_tokens.specs.Advancing.{held, lexing, Advances, Stops}
+use Rattle.hp_tokens.specs.Ranks.{weight}
+use Rattle.hp_tokens.specs.States.{enter, state_of_rest}
+use Rattle.hp_elements.specs.declared.token.Rest.{Rest}
+use Rattle.hp_lex_raw.specs.Raw.{is_untold}
 use Rattle.hp_lex_markup.specs.declared.words.Word.TheVariants.{Cdata as CdataWord}
 use Rattle.hp_lex_markup.specs.Markup.{in_section, after_word}
 use Rattle.hp_lexer.specs.declared.lexer.Asked.{Asked}
@@ -72,3 +76,26 @@ Stepped old old_input new new_input steps.AskLastTag =
     Reaches old old_input new new_input [] false
     × (move (table old.names) (stands new new_input) ≡ asks_last_tag) × (new.asked ≡ asked.LastTag)
 Stepped old old_input new new_input steps.AtCut = ReachesCut old old_input new new_input
+
+-- What falls with each step of a run over a text: twice the weight of what is unread and of the state, and one where the last
+-- start tag's name isn't told.
+abbrev pub load : Lexer → Unread → ℕ
+load l input = let s = stands l input in 2 * weight s + (if is_untold s.machine.last_tag then 1 else 0)
+
+-- It falls before the next step, whatever a question is answered, and also where the tree builder switches the lexer.
+abbrev pub Falls : Lexer → Unread → Lexer → Unread → Step → Type 0
+Falls old old_input new new_input (steps.Tokens began tokens) = 2 * weight (stands new new_input) + 1 < load old old_input
+Falls old old_input new new_input steps.AskCdata = (foreign : Bool) → 2 * weight (stands_answered foreign new new_input) + 1 < load old old_input
+Falls old old_input new new_input steps.AskLastTag = 2 * weight (stands new new_input) < load old old_input
+Falls old old_input new new_input steps.AtCut = Unit {0}
+
+abbrev pub StepsFall : Type 0
+StepsFall = (old new : Lexer) (old_input new_input : Unread) (step : Step) → Stepped old old_input new new_input step → Falls old old_input new new_input step
+
+-- the lexer behind the tree builder's switch
+abbrev pub switched : Rest → Lexer → Lexer
+switched to l = record l { lex = record l.lex { machine = enter (state_of_rest to) l.lex.machine } }
+
+-- a switch makes the weight no larger
+abbrev pub SwitchesFall : Type 0
+SwitchesFall = (to : Rest) (l : Lexer) (input : Unread) → l.asked ≡ asked.Nothing → weight (stands (switched to l) input) ≤ weight (stands l input)

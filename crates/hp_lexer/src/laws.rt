@@ -1,8 +1,9 @@
-// The law of any pieces, for the whole table.
+// Laws of the whole table: any pieces of a text, and the end of a run.
 ghost use Rattle.std.specs.Prelude.{List};
 ghost use Rattle.hp_names.specs.References.{Reference};
 ghost use Rattle.hp_tokens.specs.Runs.{IsSteady, AnyPieces};
 ghost use Rattle.hp_lexer.specs.Table.{table};
+ghost use Rattle.hp_lexer.specs.Standing.{StepsFall, SwitchesFall};
 
 /// A move that is made stays made when more text follows; and so, however a text is cut into pieces, the lexer gives the same
 /// tokens, the places where they began and the last state, over any table of reference names. It does nothing; its contract is
@@ -13,3 +14,10 @@ pub fn any_pieces()
 {
     hp_tokens::any_pieces();
 }
+
+/// A run over a text ends: with each step of the lexer its load falls, whatever is answered to a question and wherever the lexer is
+/// switched. It does nothing; its contract is the law.
+pub fn steps_fall()
+    ensures steps { StepsFall }
+    ensures switches { SwitchesFall }
+{}

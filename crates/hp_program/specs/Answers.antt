@@ -1,8 +1,9 @@
 -- What a run answers, and why.
-use Rattle.std.specs.Prelude.{◌≡◌, ◌⊎◌, ℕ, ◌<◌, ◌≤◌, true, false, List, length, take, IsUtf8, Option}
+use Rattle.std.specs.Prelude.{◌≡◌, ◌⊎◌, ℕ, ◌<◌, ◌≤◌, List, length, take, IsUtf8, Option}
 use Rattle.std.specs.Io.KnownBytes.{append_known}
 use Rattle.hp_text.specs.declared.reading.TheConstants.{PAGE_LIMIT}
-use Rattle.hp_program.specs.Page.{page_text, has_markup}
+use Rattle.hp_control.specs.Tree.{Tree}
+use Rattle.hp_print.specs.Print.{print}
 use Rattle.hp_program.specs.declared.status.Status.{Status}
 use Rattle.hp_program.specs.declared.status.Status.TheVariants.{ReadFault, NoMemory}
 
@@ -15,17 +16,14 @@ pub record IsNotText (bytes : List ℕ) : Type 0 where
   pub within : length bytes ≤ PAGE_LIMIT
   pub broken : ¬ (IsUtf8 bytes)
 
--- a page with markup
-pub record IsMarked (bytes : List ℕ) : Type 0 where
+-- the bytes are a page's text
+pub record IsText (bytes : List ℕ) : Type 0 where
   pub within : length bytes ≤ PAGE_LIMIT
   pub utf8 : IsUtf8 bytes
-  pub marked : has_markup (page_text bytes) ≡ true
 
--- a page without markup
-pub record IsPlain (bytes : List ℕ) : Type 0 where
-  pub within : length bytes ≤ PAGE_LIMIT
-  pub utf8 : IsUtf8 bytes
-  pub unmarked : has_markup (page_text bytes) ≡ false
+-- the printed text of a tree
+abbrev pub IsTreeText : List ℕ → Type 0
+IsTreeText text = (tree : Tree) × (text ≡ print tree)
 
 -- the result is this answer exactly under this cause. Under the cause it yields to want of memory, and to a
 -- fault of reading where the count of faults rose
@@ -36,3 +34,11 @@ pub record ComesExactly (answer : Status) (cause : Type 0) (result : Status) (re
 -- the text's first bytes were taken, and not all of them
 abbrev pub TakesPart : List ℕ → Option (List ℕ) → Option (List ℕ) → Type 0
 TakesPart text old new = (n : ℕ) × (n < length text) × (new ≡ append_known old (take n text))
+
+-- the printed text of a tree was taken, and nothing else
+abbrev pub TakesTree : Option (List ℕ) → Option (List ℕ) → Type 0
+TakesTree old new = (tree : Tree) × (new ≡ append_known old (print tree))
+
+-- the first bytes of the printed text of a tree were taken, and not all of them
+abbrev pub TakesTreePart : Option (List ℕ) → Option (List ℕ) → Type 0
+TakesTreePart old new = (tree : Tree) × TakesPart (print tree) old new

@@ -53,13 +53,13 @@ fn put_into<'p>(child: Child<'p>, parent: u64) -> Edit<'p>
 fn skeleton<'p>(alloc: Global) -> Result<Edits<'p>, NoMemory>
     ensures { IfOk result (λ edits. applied_all document edits ≡ plain []) }
 {
-    let mut edits = Edits::new(alloc);
-    edits.push(new_element(Known::Html))?;
-    edits.push(put_into(Child::Element(Ref::Fixed(HTML)), DOCUMENT))?;
-    edits.push(new_element(Known::Head))?;
-    edits.push(put_into(Child::Element(Ref::Fixed(HEAD)), HTML))?;
-    edits.push(new_element(Known::Body))?;
-    edits.push(put_into(Child::Element(Ref::Fixed(BODY)), HTML))?;
+    let mut edits = Edits::new();
+    edits.push(alloc, new_element(Known::Html))?;
+    edits.push(alloc, put_into(Child::Element(Ref::Fixed(HTML)), DOCUMENT))?;
+    edits.push(alloc, new_element(Known::Head))?;
+    edits.push(alloc, put_into(Child::Element(Ref::Fixed(HEAD)), HTML))?;
+    edits.push(alloc, new_element(Known::Body))?;
+    edits.push(alloc, put_into(Child::Element(Ref::Fixed(BODY)), HTML))?;
     Ok(edits)
 }
 
@@ -80,7 +80,7 @@ fn plain_edits<'p>(alloc: Global, page: Page<'p>) -> Result<Edits<'p>, NoMemory>
     if text.is_empty() {
         return Ok(edits);
     }
-    edits.push(put_into(Child::Text(text), BODY))?;
+    edits.push(alloc, put_into(Child::Text(text), BODY))?;
     Ok(edits)
 }
 
@@ -90,7 +90,7 @@ fn grown<'p>(alloc: Global, edits: Edits<'p>) -> Result<Tree<'p>, NoMemory>
 {
     let mut tree = Tree::start(alloc)?;
     tree.reserve(alloc, &edits)?;
-    for edit in edits.into_vec() {
+    for edit in edits.into_vec(alloc) {
         tree.apply(edit);
     }
     Ok(tree)

@@ -19,8 +19,6 @@ pub enum Status {
     WriteFault,
     /// Memory ran out.
     NoMemory,
-    /// The page has markup, which isn't parsed yet.
-    NotYet,
 }
 
 impl Status {
@@ -36,7 +34,6 @@ impl Status {
             Status::ReadFault => 5,
             Status::WriteFault => 6,
             Status::NoMemory => 7,
-            Status::NotYet => 9,
         }
     }
 }

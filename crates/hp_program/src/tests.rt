@@ -39,7 +39,7 @@ fn assert_run<R: Threads + Wait + Sync + AllocGlobal + Abort>(
 
 #[test]
 fn pages_are_judged_and_printed(rt: HostRuntime) -> Result<(), Fail> {
-    let cases: [(&[u8], Status, &[u8]); 13] = [
+    let cases: [(&[u8], Status, &[u8]); 9] = [
         (b"", Status::Done, EMPTY_PAGE),
         (b" \n\t\x0C", Status::Done, EMPTY_PAGE),
         (
@@ -69,13 +69,36 @@ fn pages_are_judged_and_printed(rt: HostRuntime) -> Result<(), Fail> {
         ),
         (b"a\xFF", Status::NotUtf8, b""),
         (b"<\xFF", Status::NotUtf8, b""),
-        (b"a<", Status::NotYet, b""),
-        (b"a&", Status::NotYet, b""),
-        (b"a\r\n", Status::NotYet, b""),
-        (b"a\0", Status::NotYet, b""),
     ];
     for (bytes, status, written) in cases {
         assert_run(&rt, bytes, status, written)?;
+    }
+    Ok(())
+}
+
+#[test]
+fn markup_is_parsed(rt: HostRuntime) -> Result<(), Fail> {
+    let cases: [(&[u8], &[u8]); 8] = [
+        (b"a<", b"| <html>\n|   <head>\n|   <body>\n|     \"a<\"\n"),
+        (b"a&", b"| <html>\n|   <head>\n|   <body>\n|     \"a&\"\n"),
+        (b"a\r\n\r", b"| <html>\n|   <head>\n|   <body>\n|     \"a\n\n\"\n"),
+        (b"a\0", b"| <html>\n|   <head>\n|   <body>\n|     \"a\"\n"),
+        (b"\xEF\xBB\xBF<p>", b"| <html>\n|   <head>\n|   <body>\n|     <p>\n"),
+        (
+            b"<table>x<td>y",
+            b"| <html>\n|   <head>\n|   <body>\n|     \"x\"\n|     <table>\n|       <tbody>\n|         <tr>\n|           <td>\n|             \"y\"\n",
+        ),
+        (
+            b"<b><p>x</b>y",
+            b"| <html>\n|   <head>\n|   <body>\n|     <b>\n|     <p>\n|       <b>\n|         \"x\"\n|       \"y\"\n",
+        ),
+        (
+            b"<svg><![CDATA[x]]><p>y<![CDATA[z]]>",
+            b"| <html>\n|   <head>\n|   <body>\n|     <svg svg>\n|       \"x\"\n|     <p>\n|       \"y\"\n|       <!-- [CDATA[z]] -->\n",
+        ),
+    ];
+    for (bytes, written) in cases {
+        assert_run(&rt, bytes, Status::Done, written)?;
     }
     Ok(())
 }

@@ -1,8 +1,9 @@
 //! The top call.
-ghost use Rattle.std.specs.Prelude.{◌≡◌, ◌≢◌, ◌⊎◌, ◌↔◌, ◌+◌, ◌≤◌, Some, Ok, Err, [], length, IfOk, OnOk, IfErr, IfSome, IsUtf8};
+ghost use Rattle.std.specs.Prelude.{◌≡◌, ◌≢◌, ◌⊎◌, ◌↔◌, ◌+◌, ◌≤◌, Some, Ok, Err, [], false, length, IfOk, OnOk, IfErr, IfSome, IsUtf8};
 ghost use Rattle.std.specs.Io.KnownBytes.{append_known};
 ghost use Rattle.hp_text.specs.Device.{Rose, Gives};
-ghost use Rattle.hp_program.specs.Answers.{IsTooLarge, IsNotText, IsMarked, IsPlain, ComesExactly, TakesPart};
+ghost use Rattle.hp_program.specs.Answers.{IsTooLarge, IsNotText, IsText, IsTreeText, ComesExactly, TakesPart, TakesTree, TakesTreePart};
+ghost use Rattle.hp_program.specs.Page.{page_text, has_markup as is_marked};
 ghost use Rattle.hp_program.specs.Plain.{printed_page};
 
 use crate::gate::Gate;
@@ -10,7 +11,11 @@ use crate::page_text::has_markup;
 use crate::plain::print_plain;
 use crate::status::Status;
 use crate::words::Words;
-use hp_text::{PAGE_LIMIT, ReadRefusal, Sink, Source, check_page, read_page, write_whole};
+use hp_fragment::parse_whole;
+use hp_print::print_tree;
+use hp_text::{
+    NoMemory, PAGE_LIMIT, Page, ReadRefusal, Sink, Source, check_page, read_page, write_whole,
+};
 use std::alloc::Global;
 use std::sync::Wait;
 use std::thread::Threads;
@@ -28,29 +33,39 @@ fn refused(refusal: ReadRefusal) -> Status
     }
 }
 
+/// The printed tree of a page that has markup.
+fn print_parsed(alloc: Global, page: Page<'_>) -> Result<Vec<u8>, NoMemory>
+    ensures { IfOk result (λ text. IsTreeText text.items) }
+{
+    let tree = parse_whole(alloc, page)?;
+    print_tree(alloc, &tree)
+}
+
 /// What is written for the bytes of a page.
 fn answer(alloc: Global, bytes: &[u8]) -> Result<Vec<u8>, Status>
     requires { length bytes.now ≤ PAGE_LIMIT }
-    ensures text { IfOk result (λ text. text.items ≡ printed_page bytes.now) }
-    ensures plain { OnOk result (IsPlain bytes.now) }
+    ensures plain { IfOk result (λ text. is_marked (page_text bytes.now) ≡ false → text.items ≡ printed_page bytes.now) }
+    ensures tree { IfOk result (λ text. IsTreeText text.items) }
+    ensures text { OnOk result (IsText bytes.now) }
     ensures not_utf8 { result ≡ Err Status.NotUtf8 → IsNotText bytes.now }
-    ensures not_yet { result ≡ Err Status.NotYet → IsMarked bytes.now }
-    ensures refusals { IfErr result (λ status. (status ≡ Status.NotUtf8) ⊎ (status ≡ Status.NotYet) ⊎ (status ≡ Status.NoMemory)) }
+    ensures refusals { IfErr result (λ status. (status ≡ Status.NotUtf8) ⊎ (status ≡ Status.NoMemory)) }
 {
     let Ok(page) = check_page(bytes) else {
         return Err(Status::NotUtf8);
     };
-    if has_markup(page.text()) {
-        return Err(Status::NotYet);
-    }
-    match print_plain(alloc, page) {
+    let printed = if has_markup(page.text()) {
+        print_parsed(alloc, page)
+    } else {
+        print_plain(alloc, page)
+    };
+    match printed {
         Ok(text) => Ok(text),
         Err(_) => Err(Status::NoMemory),
     }
 }
 
 /// Reads the page, and writes its printed tree to `out`. The first refusal decides, in the order words, reading,
-/// UTF-8, markup, writing; want of memory may come at any of them. `left` and `taken` tell what was read and
+/// UTF-8, writing; want of memory may come at any of them. `left` and `taken` tell what was read and
 /// written, where the page and the output tell it.
 pub fn hpar<R: Threads + Wait + Sync, S: Source, K: Sink, N: Sink, G: Gate + Sync>(
     rt: &R,
@@ -71,18 +86,19 @@ pub fn hpar<R: Threads + Wait + Sync, S: Source, K: Sink, N: Sink, G: Gate + Syn
     ensures too_large_gives { result ≡ Status.TooLarge → Gives (λ n. n ≡ PAGE_LIMIT + 1) (S.left page.old) (S.left page.new) }
     ensures not_utf8 { IfSome (S.left page.old) (λ bytes. ComesExactly Status.NotUtf8
         ((words.now ≡ []) × IsNotText bytes) result (Rose (S.faults page.old) (S.faults page.new))) }
-    ensures not_yet { IfSome (S.left page.old) (λ bytes. ComesExactly Status.NotYet
-        ((words.now ≡ []) × IsMarked bytes) result (Rose (S.faults page.old) (S.faults page.new))) }
 
     // A fault comes only where the count of faults rose.
     ensures read_fault { result ≡ Status.ReadFault → Rose (S.faults page.old) (S.faults page.new) }
     ensures write_fault { result ≡ Status.WriteFault → Rose (K.faults out.old) (K.faults out.new) }
 
-    // What was read, and what was written of which text.
+    // What was read, and what was written: the printed text of a tree, or its first part. Of a page without markup it is
+    // told which tree that is.
     ensures done_read { result ≡ Status.Done → IfSome (S.left page.old) (λ _. S.left page.new ≡ Some []) }
-    ensures done { result ≡ Status.Done → IfSome (S.left page.old) (λ bytes.
+    ensures done_tree { result ≡ Status.Done → TakesTree (K.taken out.old) (K.taken out.new) }
+    ensures done { result ≡ Status.Done → IfSome (S.left page.old) (λ bytes. is_marked (page_text bytes) ≡ false →
         K.taken out.new ≡ append_known (K.taken out.old) (printed_page bytes)) }
-    ensures part { result ≡ Status.WriteFault → IfSome (S.left page.old) (λ bytes.
+    ensures part_tree { result ≡ Status.WriteFault → TakesTreePart (K.taken out.old) (K.taken out.new) }
+    ensures part { result ≡ Status.WriteFault → IfSome (S.left page.old) (λ bytes. is_marked (page_text bytes) ≡ false →
         TakesPart (printed_page bytes) (K.taken out.old) (K.taken out.new)) }
     ensures nothing { result ≢ Status.Done → result ≢ Status.WriteFault → out.new ≡ out.old }
     ensures silent { notes.new ≡ notes.old }
@@ -90,7 +106,7 @@ pub fn hpar<R: Threads + Wait + Sync, S: Source, K: Sink, N: Sink, G: Gate + Syn
     // Where nothing stands against the page and no device failed, only memory can be wanting.
     ensures complete { words.now ≡ [] → ¬ (Rose (S.faults page.old) (S.faults page.new)) →
         ¬ (Rose (K.faults out.old) (K.faults out.new)) → IfSome (S.left page.old) (λ bytes.
-        IsPlain bytes → (result ≡ Status.Done) ⊎ (result ≡ Status.NoMemory)) }
+        IsText bytes → (result ≡ Status.Done) ⊎ (result ≡ Status.NoMemory)) }
 {
     if !words.is_empty() {
         return Status::Usage;

@@ -1,5 +1,6 @@
 -- The questions, and how each answer is read: one of another kind is read as if nothing were there.
-use Rattle.std.specs.Prelude.{ℕ, ◌-◌, ◌^◌, Bool, true, false, ◌&&◌, if◌then◌else◌, nat_lt, nat_le, List, [], Option, Some, None}
+use Rattle.std.specs.Prelude.{ℕ, ◌+◌, ◌-◌, ◌<◌, ◌^◌, Bool, true, false, not, ◌&&◌, if◌then◌else◌, nat_lt, nat_le, List, [], Option, Some, None}
+use Rattle.hp_elements.specs.Kinds.{is_html}
 use Rattle.hp_elements.specs.declared.kinds.Kinds.{Kinds}
 use Rattle.hp_elements.specs.declared.tag.Tag.{Tag}
 use Rattle.hp_elements.specs.declared.token.Mode.{Mode}
@@ -55,6 +56,21 @@ abbrev pub is_ok_in : Answer → Bool
 is_ok_in (answer.Whole body ok) = ok
 is_ok_in _ = false
 
+-- an element, and one that isn't an HTML element
+abbrev pub is_there : Answer → Bool
+is_there (answer.Element space name point) = true
+is_there _ = false
+
+abbrev pub is_foreign : Answer → Bool
+is_foreign (answer.Element space name point) = not (is_html space)
+is_foreign _ = false
+
+-- what is found is at a depth that an older stack may have
+abbrev pub IsShort : ℕ → Pointed → Type 0
+IsShort depth Nowhere = Unit {0}
+IsShort depth Away = Unit {0}
+IsShort depth (Here k) = depth + k < 2 ^ 60
+
 abbrev pub ask_seen : ℕ → Kinds → Kinds → Plan Bool
 ask_seen depth goals stops = asks (ask.Seen depth goals stops) (λ a. gives (is_yes a))
 
@@ -93,3 +109,9 @@ ask_body depth = asks (ask.Whole depth) (λ a. gives (is_body_in a))
 
 abbrev pub ask_frameset : ℕ → Plan Bool
 ask_frameset depth = asks (ask.Whole depth) (λ a. gives (is_ok_in a))
+
+abbrev pub ask_there : ℕ → Plan Bool
+ask_there depth = asks (ask.Elem depth) (λ a. gives (is_there a))
+
+abbrev pub ask_foreign : ℕ → Plan Bool
+ask_foreign depth = asks (ask.Elem depth) (λ a. gives (is_foreign a))

@@ -1,4 +1,23 @@
 -- That each plan means its act.
+use Rattle.std.specs.Prelude.{◌≡◌, true, [], Ok}
+use Rattle.std.specs.Option.{unwrap_or}
+use Rattle.hp_control.specs.Acts.{push_head, take_head_off, take_off, remove_entry}
+use Rattle.hp_control.specs.Apply.{IsOlder}
+use Rattle.hp_control.specs.Composed.{end_form, is_second_body, is_foreign_now, has_modes}
+use Rattle.hp_control.specs.Plan.{end_by}
+use Rattle.hp_control.specs.States.{IsValid, is_rooted}
+use Rattle.hp_control.specs.Truth.{answer_of}
+use Rattle.hp_control.specs.declared.question.Question.TheVariants as ask
+use Rattle.hp_views.specs.Asking.{ask_last_tag}
+use Rattle.hp_views.specs.Begins.{begins}
+use Rattle.hp_views.specs.BeginLaws.{IsResting, StartsOver}
+use Rattle.hp_views.specs.FormLaws.{end_form_outside}
+use Rattle.hp_views.specs.FormPlans.{outside_plan, end_form_plan}
+use Rattle.hp_views.specs.HeadPlans.{push_head_plan, take_head_plan}
+use Rattle.hp_views.specs.RemoveLaws.{FaithfulToOwn}
+use Rattle.hp_views.specs.RemovePlans.{take_off_plan, remove_entry_plan}
+use Rattle.hp_views.specs.SecondLaws.{sees_modes}
+use Rattle.hp_views.specs.SecondPlans.{second_plan, own_modes, foreign_now_plan}
 use Rattle.hp_elements.specs.declared.known.Known.{Known}
 use Rattle.hp_views.specs.ClosingPlans.{implied_plan, implied_except_plan, implied_thoroughly_plan, through_named_plan, walk_plan, close_plan, close_paragraph_plan, close_item_plan, close_description_plan, end_form_in_template_plan}
 use Rattle.hp_control.specs.Composed.{implied, implied_except, implied_thoroughly, close, close_paragraph, close_item, close_description, end_form_in_template}
@@ -60,6 +79,10 @@ pub record TestsTell : Type 0 where
   pub frameset_ok : FaithfulTest frameset_ok_plan is_frameset_ok
   pub quirks : FaithfulTest is_quirks_plan is_quirks
   pub form : FaithfulTest has_form_plan has_form
+  pub second : FaithfulTest second_plan is_second_body
+  pub foreign : FaithfulTest foreign_now_plan is_foreign_now
+  pub last_tag : (s : ControlState) → end_by (answer_of s) ask_last_tag ≡ Ok (unwrap_or s.lex.machine.last_tag [])
+  pub modes : (s : ControlState) (v : Split) → StandsOn s v → sees_modes v ≡ true → own_modes v.change.templates ≡ has_modes (state_over v s)
 
 pub record PopsMean : Type 0 where
   pub pop : Faithful pop_plan pop
@@ -96,3 +119,16 @@ pub record ClosingMeans : Type 0 where
   pub item : Faithful close_item_plan close_item
   pub description : Faithful close_description_plan close_description
   pub end_form : Faithful end_form_in_template_plan end_form_in_template
+
+-- the head element, the end of a form, and own elements and entries out of mid-list
+pub record RemovesMean : Type 0 where
+  pub push_head : Faithful push_head_plan push_head
+  pub take_head_off : Faithful take_head_plan take_head_off
+  pub forms_outside : Faithful outside_plan end_form_outside
+  pub forms : Faithful end_form_plan end_form
+  pub take_off : (number : ℕ) → FaithfulToOwn (take_off_plan number) take_off number
+  pub remove_entry : (number : ℕ) → FaithfulToOwn (remove_entry_plan number) remove_entry number
+
+-- a view begins where its state is
+pub record BeginsMean : Type 0 where
+  pub over : (s : ControlState) → IsValid s → IsOlder s → is_rooted s.stack ≡ true → IsResting (answer_of s ask.Entry) → StartsOver s (begins (answer_of s ask.Entry))

@@ -6,6 +6,10 @@ pub mod StackPlans
 pub mod ListPlans
 pub mod PlacePlans
 pub mod ResetPlans
+pub mod RemovePlans
+pub mod HeadPlans
+pub mod SecondPlans
+pub mod Begins
 pub mod Quiet
 pub mod Reading
 pub mod OwnWalks
@@ -19,5 +23,13 @@ pub mod ResetLaws
 pub mod Laws
 pub mod Steps
 pub mod ClosingPlans
+pub mod FormPlans
 pub mod ClosingLaws
+pub mod OwnIds
+pub mod OlderIds
+pub mod RemoveLaws
+pub mod HeadLaws
+pub mod SecondLaws
+pub mod FormLaws
+pub mod BeginLaws
 pub mod Tests

@@ -109,13 +109,13 @@ past_pop s c edits text (Some p) n count st h u = record {
 }
 
 -- the same of a view as a whole
-own_pops : (s : ControlState) (v : Split) (k : ℕ) → StandsOn s v → k ≤ length v.change.stack → IsSaid v.page (pop_by k (state_over v s)) → IsDone s v (own_popped k v) (pop_by k (state_over v s))
+pub own_pops : (s : ControlState) (v : Split) (k : ℕ) → StandsOn s v → k ≤ length v.change.stack → IsSaid v.page (pop_by k (state_over v s)) → IsDone s v (own_popped k v) (pop_by k (state_over v s))
 own_pops s v k st h u = own_pop s v.change v.edits v.older_text v.page k st h u
 
-past_pops : (s : ControlState) (v : Split) (n count : ℕ) → StandsOn s v → count ≡ length v.change.stack + n → IsSaid v.page (pop_by count (state_over v s)) → IsDone s v (all_popped n v) (pop_by count (state_over v s))
+pub past_pops : (s : ControlState) (v : Split) (n count : ℕ) → StandsOn s v → count ≡ length v.change.stack + n → IsSaid v.page (pop_by count (state_over v s)) → IsDone s v (all_popped n v) (pop_by count (state_over v s))
 past_pops s v n count st h u = past_pop s v.change v.edits v.older_text v.page n count st h u
 
-nothing_popped : (s : ControlState) (v : Split) → StandsOn s v → IsDone s v v (becomes (state_over v s))
+pub nothing_popped : (s : ControlState) (v : Split) → StandsOn s v → IsDone s v v (becomes (state_over v s))
 nothing_popped s v st = quiet s v v.change (λ c. c) st refl (λ p c. refl) refl
 
 -- the current node

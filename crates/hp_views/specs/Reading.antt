@@ -41,7 +41,7 @@ pub reach_within : (goals stops : Kinds) (xs : List OpenElement) (k : ℕ) → r
 reach_within goals stops [] k e = cc
 reach_within goals stops (x ∷ xs) k e = one_more (within goals x) (within stops x) (reach goals stops xs) (length xs) k (λ j. reach_within goals stops xs j) e
 
-depth_back : (depth n : ℕ) (o : Option ℕ) → ((k : ℕ) → o ≡ Some k → k < n - depth) → n < 2 ^ 60 → depth_from depth (depth_answer depth o) ≡ o
+pub depth_back : (depth n : ℕ) (o : Option ℕ) → ((k : ℕ) → o ≡ Some k → k < n - depth) → n < 2 ^ 60 → depth_from depth (depth_answer depth o) ≡ o
 depth_back depth n None short l = refl
 depth_back depth n (Some k) short l =
     let h : k < n - depth = short k refl in

@@ -60,7 +60,7 @@ seen_first : (b : Bool) (o : Option ℕ) → is_some o ≡ false → is_some (if
 seen_first true o h = refl
 seen_first false o h = h
 
-first_seen : (goals : Kinds) (es : List OpenElement) → seen goals kinds.All es ≡ is_one goals (slice_get es 0)
+pub first_seen : (goals : Kinds) (es : List OpenElement) → seen goals kinds.All es ≡ is_one goals (slice_get es 0)
 first_seen goals [] = refl
 first_seen goals (e ∷ es) = seen_first (within goals e) None refl
 

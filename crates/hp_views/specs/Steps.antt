@@ -10,8 +10,12 @@ use Rattle.hp_control.specs.declared.edit.Place.TheVariants.{Into}
 use Rattle.hp_control.specs.declared.edit.Ref.{Ref}
 use Rattle.hp_control.specs.declared.edit.Ref.TheVariants.{Fixed, Older, Own}
 use Rattle.hp_control.specs.Edits.{IsFixed, IsFixedChild}
-use Rattle.hp_control.specs.Acts.{frameset_not_ok, skip_line_feed, switch_to, keep_original, to_original, push_template_mode, pop_template_mode, replace_template_mode, empty_form, point_form, set_quirks, point_head, empty_pending, append_pending, add_marker, append_entry, clear, pop, pop_run, pop_to, through, pop_to_first, put_here, put_at, put_into_first, insert, insert_into_document, add_missing_to_first, add_missing_to_body, detach_body, reset, through_named, walk}
-use Rattle.hp_control.specs.Composed.{implied, implied_except, implied_thoroughly, close, close_paragraph, close_item, close_description, end_form_in_template}
+use Rattle.hp_control.specs.Acts.{frameset_not_ok, skip_line_feed, switch_to, keep_original, to_original, push_template_mode, pop_template_mode, replace_template_mode, empty_form, point_form, set_quirks, point_head, empty_pending, append_pending, add_marker, append_entry, clear, pop, pop_run, pop_to, through, pop_to_first, put_here, put_at, put_into_first, insert, insert_into_document, add_missing_to_first, add_missing_to_body, detach_body, reset, through_named, walk, push_head, take_head_off}
+use Rattle.hp_control.specs.Composed.{implied, implied_except, implied_thoroughly, close, close_paragraph, close_item, close_description, end_form_in_template, end_form}
+use Rattle.hp_views.specs.FormPlans.{end_form_plan}
+use Rattle.hp_views.specs.FormLaws.{end_form_faithful}
+use Rattle.hp_views.specs.HeadPlans.{push_head_plan, take_head_plan}
+use Rattle.hp_views.specs.HeadLaws.{push_head_faithful, take_head_off_faithful}
 use Rattle.hp_elements.specs.declared.known.Known.{Known}
 use Rattle.hp_views.specs.ClosingPlans.{implied_plan, implied_except_plan, implied_thoroughly_plan, through_named_plan, walk_plan, close_plan, close_paragraph_plan, close_item_plan, close_description_plan, end_form_in_template_plan}
 use Rattle.hp_views.specs.ClosingLaws.{implied_faithful, implied_except_faithful, implied_thoroughly_faithful, through_named_faithful, walk_faithful, close_faithful, close_paragraph_faithful, close_item_faithful, close_description_faithful, end_form_in_template_faithful}
@@ -185,6 +189,15 @@ close_description_step = record { plan = close_description_plan; act = close_des
 abbrev pub end_form_in_template_step : Step
 end_form_in_template_step = record { plan = end_form_in_template_plan; act = end_form_in_template; fits = any_view; law = end_form_in_template_faithful }
 
+abbrev pub end_form_step : Step
+end_form_step = record { plan = end_form_plan; act = end_form; fits = any_view; law = end_form_faithful }
+
+abbrev pub push_head_step : Step
+push_head_step = record { plan = push_head_plan; act = push_head; fits = any_view; law = push_head_faithful }
+
+abbrev pub take_head_off_step : Step
+take_head_off_step = record { plan = take_head_plan; act = take_head_off; fits = any_view; law = take_head_off_faithful }
+
 -- what a step carries out, and what it means
 abbrev pub IsOf : Step → (Split → Plan Split) → Act → Type 0
 IsOf step plan act = (step.plan ≡ plan) × (step.act ≡ act)
@@ -231,3 +244,6 @@ pub record StepsAre : Type 0 where
   pub close_item : IsOf close_item_step close_item_plan close_item
   pub close_description : IsOf close_description_step close_description_plan close_description
   pub end_form_in_template : IsOf end_form_in_template_step end_form_in_template_plan end_form_in_template
+  pub end_form : IsOf end_form_step end_form_plan end_form
+  pub push_head : IsOf push_head_step push_head_plan push_head
+  pub take_head_off : IsOf take_head_off_step take_head_plan take_head_off

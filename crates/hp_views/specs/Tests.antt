@@ -2,7 +2,9 @@
 use Rattle.std.specs.Prelude.{◌≡◌, ℕ, Bool, List}
 use Rattle.hp_elements.specs.declared.act.Scope.{Scope}
 use Rattle.hp_elements.specs.declared.kinds.Kinds.{Kinds}
-use Rattle.hp_control.specs.Composed.{in_scope, current_is, below_is, template_in_stack, is_frameset_ok, is_quirks, has_form, is_listed}
+use Rattle.hp_control.specs.Composed.{in_scope, current_is, below_is, template_in_stack, is_frameset_ok, is_quirks, has_form, is_listed, is_second_body, is_foreign_now}
+use Rattle.hp_views.specs.SecondLaws.{second_faithful, foreign_now_faithful}
+use Rattle.hp_views.specs.SecondPlans.{second_plan, foreign_now_plan}
 use Rattle.hp_control.specs.Faithful.{Split, FaithfulTest}
 use Rattle.hp_control.specs.Plan.{Plan}
 use Rattle.hp_control.specs.States.{ControlState}
@@ -43,6 +45,12 @@ form_test = record { plan = has_form_plan; tells = has_form; law = form_faithful
 abbrev pub listed_test : List ℕ → Test
 listed_test name = record { plan = listed_plan name; tells = is_listed name; law = listed_faithful name }
 
+abbrev pub second_test : Test
+second_test = record { plan = second_plan; tells = is_second_body; law = second_faithful }
+
+abbrev pub foreign_test : Test
+foreign_test = record { plan = foreign_now_plan; tells = is_foreign_now; law = foreign_now_faithful }
+
 -- what a test asks, and what it tells
 abbrev pub Asks : Test → (Split → Plan Bool) → (ControlState → Bool) → Type 0
 Asks test plan tells = (test.plan ≡ plan) × (test.tells ≡ tells)
@@ -57,3 +65,5 @@ pub record TestsAre : Type 0 where
   pub quirks : Asks quirks_test is_quirks_plan is_quirks
   pub form : Asks form_test has_form_plan has_form
   pub listed : (name : List ℕ) → Asks (listed_test name) (listed_plan name) (is_listed name)
+  pub second : Asks second_test second_plan is_second_body
+  pub foreign : Asks foreign_test foreign_now_plan is_foreign_now

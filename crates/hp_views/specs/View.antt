@@ -44,6 +44,11 @@ Answers (Ok x) old new plan = Finds old new plan x
 Answers (Err (Crossed crossing)) old new plan = ⊥
 Answers (Err NoMemory) old new plan = Unit {0}
 
+-- the same of a call that is no act: memory alone may be wanting
+abbrev pub Knows : {X E : Type 0} → Result X E → Sight → Sight → (Split → Plan X) → Type 0
+Knows (Ok x) old new plan = Finds old new plan x
+Knows (Err e) old new plan = Unit {0}
+
 -- one question was asked, and the answer read
 abbrev pub Learns : {X E : Type 0} → Result X E → Heard → Heard → Plan X → Type 0
 Learns (Ok x) old new plan = Runs old new plan (Ok x)

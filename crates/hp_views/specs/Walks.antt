@@ -6,6 +6,7 @@ use Rattle.hp_control.specs.declared.element.OpenElement.{OpenElement}
 use Rattle.hp_control.specs.declared.element.FormattingEntry.{FormattingEntry}
 use Rattle.hp_control.specs.declared.element.FormattingEntry.TheVariants.{Marker, Element}
 use Rattle.hp_control.specs.KindTests.{within}
+use Rattle.hp_control.specs.Walks.{scope_ends}
 use Rattle.hp_views.specs.declared.walks.Walk.{Walk}
 use Rattle.hp_views.specs.declared.walks.Walk.TheVariants.{Found, Stopped, PastAll}
 
@@ -29,6 +30,17 @@ run_walk names (e ∷ es) = if within names e then deeper 1 (run_walk names es) 
 abbrev pub id_walk : ℕ → List OpenElement → Walk
 id_walk id [] = PastAll
 id_walk id (e ∷ es) = if e.id == id then Found 0 else deeper 1 (id_walk id es)
+
+-- down to the element of this id, or to the first that ends a scope
+abbrev pub id_scope_walk : ℕ → List OpenElement → Walk
+id_scope_walk id [] = PastAll
+id_scope_walk id (e ∷ es) = if e.id == id then Found 0 else (if within scope_ends e then Stopped else deeper 1 (id_scope_walk id es))
+
+-- down to the entry of this id
+abbrev pub id_entry_walk : ℕ → List FormattingEntry → Walk
+id_entry_walk id [] = PastAll
+id_entry_walk id (Marker ∷ es) = deeper 1 (id_entry_walk id es)
+id_entry_walk id (Element other tag ∷ es) = if other == id then Found 0 else deeper 1 (id_entry_walk id es)
 
 -- down to the last marker
 abbrev pub marker_of : List FormattingEntry → Walk

@@ -1,10 +1,11 @@
 //! One call for each kind of question: it asks, and reads the answer.
 ghost use Rattle.std.specs.Prelude.{◌≡◌, ◌+◌, ◌<◌, ◌^◌, [], IfOk, IfSome};
 ghost use Rattle.hp_views.specs.Asking.{ask_seen, ask_reach, ask_run, ask_template, ask_reset, ask_quiet, ask_listed, ask_same, ask_pointer, ask_quirks, ask_last_tag, ask_body, ask_frameset, depth_from as spec_depth_from};
+ghost use Rattle.hp_views.specs.Asking.{IsShort, ask_foreign, ask_there};
 ghost use Rattle.hp_views.specs.View.{Learns};
 
 use hp_control::{Answer, Below, EntryKind, FactKind, Question};
-use hp_elements::{Kinds, Mode, Name, NoMemory, Tag};
+use hp_elements::{Kinds, Mode, Name, Namespace, NoMemory, Tag};
 use std::alloc::Global;
 
 /// An older stack is shorter.
@@ -193,7 +194,8 @@ pub fn older_pointer<B: Below>(
     alloc: Global,
     depth: u64,
 ) -> Result<Pointed, NoMemory>
-    ensures { Learns result (B.heard below.old) (B.heard below.new) (ask_pointer depth) }
+    ensures learns { Learns result (B.heard below.old) (B.heard below.new) (ask_pointer depth) }
+    ensures short { IfOk result (IsShort depth) }
 {
     match below.ask(alloc, Question::Pointer { depth })? {
         Answer::Null => Ok(Pointed::Nowhere),
@@ -245,6 +247,41 @@ pub fn older_body<B: Below>(below: &mut B, alloc: Global, depth: u64) -> Result<
         _ => Ok(false),
     }
 }
+
+/// Whether an element stands at this depth that isn't an HTML one.
+pub fn older_foreign<B: Below>(below: &mut B, alloc: Global, depth: u64) -> Result<bool, NoMemory>
+    ensures { Learns result (B.heard below.old) (B.heard below.new) (ask_foreign depth) }
+{
+    let answer = below.ask(alloc, Question::Elem { depth })?;
+    Ok(is_foreign(&answer))
+}
+
+/// Whether an element stands at this depth.
+pub fn older_there<B: Below>(below: &mut B, alloc: Global, depth: u64) -> Result<bool, NoMemory>
+    ensures { Learns result (B.heard below.old) (B.heard below.new) (ask_there depth) }
+{
+    let answer = below.ask(alloc, Question::Elem { depth })?;
+    Ok(is_there(&answer))
+}
+
+/// Whether the answer is an element that isn't an HTML one.
+fn is_foreign(answer: &Answer) -> bool
+    ensures { result ≡ spec_is_foreign answer.now }
+{
+    match answer {
+        Answer::Element { namespace, .. } => *namespace != Namespace::Html,
+        _ => false,
+    }
+}
+
+/// Whether the answer is an element.
+fn is_there(answer: &Answer) -> bool
+    ensures { result ≡ spec_is_there answer.now }
+{
+    matches!(answer, Answer::Element { .. })
+}
+
+ghost use Rattle.hp_views.specs.Asking.{is_foreign as spec_is_foreign, is_there as spec_is_there};
 
 /// Whether a frameset may still replace the body.
 pub fn older_frameset<B: Below>(below: &mut B, alloc: Global, depth: u64) -> Result<bool, NoMemory>

@@ -144,7 +144,7 @@ impl<'p, B: Below> View<'p, B> {
     }
 
     /// The id of the current node among the own elements.
-    pub(crate) fn own_current(&self) -> u64
+    pub fn own_current(&self) -> u64
         ensures { result ≡ own_id self.now.change.stack }
     {
         if self.change.stack.is_empty() {

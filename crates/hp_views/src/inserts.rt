@@ -27,10 +27,10 @@ fn element_for(alloc: Global, id: u64, tag: &Tag, point: Point) -> Result<OpenEl
 
 impl<'p, B: Below> View<'p, B> {
     /// A child at a place.
-    fn put_at(&mut self, child: Child<'p>, place: Place) -> Result<(), Refusal>
+    fn put_at(&mut self, alloc: Global, child: Child<'p>, place: Place) -> Result<(), Refusal>
         ensures { Carries result (sight B.heard self.old) (sight B.heard self.new) (λ v. gives (put_at child.entry v place)) }
     {
-        self.edits.push(Edit::Put { child, place })?;
+        self.edits.push(alloc, Edit::Put { child, place })?;
         Ok(())
     }
 
@@ -39,23 +39,23 @@ impl<'p, B: Below> View<'p, B> {
         ensures { Meets result (sight B.heard self.old) (sight B.heard self.new) (put_step fostering child.entry) }
     {
         let place = self.place(alloc, fostering)?;
-        self.edits.push(Edit::Put { child, place })?;
+        self.edits.push(alloc, Edit::Put { child, place })?;
         Ok(())
     }
 
     /// A child of the document.
-    pub fn put_into_document(&mut self, _alloc: Global, child: Child<'p>) -> Result<(), Refusal>
+    pub fn put_into_document(&mut self, alloc: Global, child: Child<'p>) -> Result<(), Refusal>
         ensures { Meets result (sight B.heard self.old) (sight B.heard self.new) (put_document_step child.entry) }
     {
-        self.put_at(child, Place::Into(Ref::Fixed(0)))
+        self.put_at(alloc, child, Place::Into(Ref::Fixed(0)))
     }
 
     /// A child of the first element.
-    pub fn put_into_first(&mut self, _alloc: Global, child: Child<'p>) -> Result<(), Refusal>
+    pub fn put_into_first(&mut self, alloc: Global, child: Child<'p>) -> Result<(), Refusal>
         ensures { Meets result (sight B.heard self.old) (sight B.heard self.new) (put_first_step child.entry) }
     {
         let first = self.first_ref();
-        self.put_at(child, Place::Into(first))
+        self.put_at(alloc, child, Place::Into(first))
     }
 
     /// Makes an element for the tag, puts it into a place and pushes it.
@@ -75,8 +75,8 @@ impl<'p, B: Below> View<'p, B> {
         };
         let element = element_for(alloc, id, &tag, point)?;
         let child = Child::Element(self.own_ref(id));
-        self.edits.push(Edit::NewElement { tag })?;
-        self.edits.push(Edit::Put { child, place })?;
+        self.edits.push(alloc, Edit::NewElement { tag })?;
+        self.edits.push(alloc, Edit::Put { child, place })?;
         self.change.stack.push(alloc, element)?;
         self.change.made = made;
         Ok(())
@@ -109,47 +109,53 @@ impl<'p, B: Below> View<'p, B> {
     /// Adds missing attributes to the first element.
     pub fn add_missing_to_first(
         &mut self,
-        _alloc: Global,
+        alloc: Global,
         attributes: Chain<Attribute>,
     ) -> Result<(), Refusal>
         ensures { Meets result (sight B.heard self.old) (sight B.heard self.new) (add_first_step attributes) }
     {
         let id = first_id(&self.change.stack);
-        self.add_missing_to(id, attributes)
+        self.add_missing_to(alloc, id, attributes)
     }
 
     /// Adds missing attributes to the second element.
     pub fn add_missing_to_body(
         &mut self,
-        _alloc: Global,
+        alloc: Global,
         attributes: Chain<Attribute>,
     ) -> Result<(), Refusal>
         ensures { Meets result (sight B.heard self.old) (sight B.heard self.new) (add_body_step attributes) }
     {
         let id = second_id(&self.change.stack);
-        self.add_missing_to(id, attributes)
+        self.add_missing_to(alloc, id, attributes)
     }
 
-    fn add_missing_to(&mut self, id: u64, attributes: Chain<Attribute>) -> Result<(), Refusal>
+    fn add_missing_to(
+        &mut self,
+        alloc: Global,
+        id: u64,
+        attributes: Chain<Attribute>,
+    ) -> Result<(), Refusal>
         ensures { Carries result (sight B.heard self.old) (sight B.heard self.new) (λ v. add_to_on v.page id attributes v) }
     {
         if self.page.is_none() {
             return Err(Refusal::Crossed(Crossing::X5));
         }
         let node = Ref::Fixed(id);
-        self.edits.push(Edit::AddMissing { node, attributes })?;
+        self.edits
+            .push(alloc, Edit::AddMissing { node, attributes })?;
         Ok(())
     }
 
     /// Takes the body out of the tree.
-    pub fn detach_body(&mut self, _alloc: Global) -> Result<(), Refusal>
+    pub fn detach_body(&mut self, alloc: Global) -> Result<(), Refusal>
         ensures { Meets result (sight B.heard self.old) (sight B.heard self.new) detach_step }
     {
         if self.page.is_none() {
             return Err(Refusal::Crossed(Crossing::X5));
         }
         let node = Ref::Fixed(second_id(&self.change.stack));
-        self.edits.push(Edit::Detach { node })?;
+        self.edits.push(alloc, Edit::Detach { node })?;
         Ok(())
     }
 }

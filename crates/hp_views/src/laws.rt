@@ -1,7 +1,7 @@
 //! The laws of the plans, for the crates above. Each contract is one of them; the bodies do nothing.
 ghost use Rattle.hp_views.specs.Steps.{StepsAre};
 ghost use Rattle.hp_views.specs.Tests.{TestsAre};
-ghost use Rattle.hp_views.specs.Laws.{FieldsMean, ListMeans, TestsTell, PopsMean, PlacesMean, InsertsMean, ResetMeans, ClosingMeans};
+ghost use Rattle.hp_views.specs.Laws.{FieldsMean, ListMeans, TestsTell, PopsMean, PlacesMean, InsertsMean, ResetMeans, ClosingMeans, RemovesMean, BeginsMean};
 
 /// The acts that set one field.
 pub fn fields_mean()
@@ -47,4 +47,14 @@ pub fn reset_means()
 /// Closing elements with what their ends imply.
 pub fn closing_means()
     ensures { ClosingMeans }
+{}
+
+/// The head element, the end of a form, and own elements and entries out of mid-list.
+pub fn removes_mean()
+    ensures { RemovesMean }
+{}
+
+/// Where a view begins over an older state.
+pub fn begins_mean()
+    ensures { BeginsMean }
 {}

@@ -47,7 +47,7 @@ ghost use Rattle.hp_views.specs.PlacePlans.{a_template as spec_template, a_table
 
 impl<'p, B: Below> View<'p, B> {
     /// An own element.
-    pub(crate) fn own_ref(&self, id: u64) -> Ref
+    pub fn own_ref(&self, id: u64) -> Ref
         ensures { result ≡ own_ref (split_of self.now).page id }
     {
         match self.page {
@@ -57,7 +57,7 @@ impl<'p, B: Below> View<'p, B> {
     }
 
     /// The element at a depth of the own stack, or the one next below the last.
-    pub(crate) fn ref_at(&self, depth: usize) -> Ref
+    pub fn ref_at(&self, depth: usize) -> Ref
         requires { depth ≤ length self.now.change.stack }
         ensures { result ≡ top_ref (split_of self.now).page self.now.change.popped (drop depth self.now.change.stack) }
     {
@@ -71,7 +71,7 @@ impl<'p, B: Below> View<'p, B> {
     }
 
     /// The first element of all.
-    pub(crate) fn first_ref(&self) -> Ref
+    pub fn first_ref(&self) -> Ref
         ensures { result ≡ first_ref (split_of self.now).page self.now.change.stack }
     {
         match self.page {

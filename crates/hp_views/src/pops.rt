@@ -13,7 +13,7 @@ use std::alloc::Global;
 
 impl<'p, B: Below> View<'p, B> {
     /// Pops so many own elements; without an older state the last one stays.
-    fn pop_own(&mut self, count: usize)
+    pub fn pop_own(&mut self, count: usize)
         requires { count ≤ length self.old.change.stack }
         ensures split { split_of self.new ≡ own_popped count (split_of self.old) }
         ensures below { self.new.below ≡ self.old.below }

@@ -4,12 +4,13 @@ ghost use Rattle.hp_views.specs.View.{sight, Answers};
 ghost use Rattle.hp_views.specs.StackPlans.{seen_plan, in_scope_plan, current_is_plan, below_is_plan, template_plan, frameset_ok_plan, is_quirks_plan, has_form_plan, is_table_mode};
 
 use crate::asking::{
-    Pointed, older_frameset, older_pointer, older_quirks, older_seen, older_template,
+    Pointed, older_body, older_foreign, older_frameset, older_last_tag, older_pointer,
+    older_quirks, older_seen, older_template, older_there,
 };
 use crate::view::View;
 use crate::walks::{Walk, element_walk};
-use hp_control::{Below, FormChange, Refusal, is_within};
-use hp_elements::{Kinds, Known, Mode, Name, Scope, SetName};
+use hp_control::{Below, FormChange, OpenElement, Refusal, Stack, is_html, is_named, is_within};
+use hp_elements::{Kinds, Known, Mode, Name, NoMemory, Scope, SetName};
 use std::alloc::Global;
 
 /// The elements that end a scope.
@@ -27,14 +28,32 @@ fn ends_of(scope: Scope) -> SetName
 
 ghost use Rattle.hp_control.specs.Composed.{ends_of as spec_ends_of};
 
+/// Whether the second element is an HTML `body`.
+fn second_is_body(stack: &Stack<OpenElement>) -> bool
+    ensures { result ≡ spec_second_is_body stack.now }
+{
+    let count = stack.len();
+    count >= 2 && is_named(Known::Body, stack.at(count - 2))
+}
+
+/// Whether the first element of the stack is an HTML `body`.
+fn last_is_body(stack: &Stack<OpenElement>) -> bool
+    ensures { result ≡ spec_last_is_body stack.now }
+{
+    let count = stack.len();
+    count >= 1 && is_named(Known::Body, stack.at(count - 1))
+}
+
+ghost use Rattle.hp_control.specs.Walks.{second_is_body as spec_second_is_body};
+ghost use Rattle.hp_views.specs.SecondPlans.{last_is_body as spec_last_is_body, second_plan, second_older_plan, second_of_own_plan, own_modes, foreign_now_plan, foreign_below_plan};
+ghost use Rattle.hp_views.specs.View.{Knows};
+ghost use Rattle.std.specs.Prelude.{◌+◌};
+ghost use Rattle.hp_elements.specs.declared.kinds.Kinds.TheVariants as kinds;
+ghost use Rattle.hp_views.specs.Asking.{ask_last_tag, ask_seen};
+
 impl<'p, B: Below> View<'p, B> {
     /// Whether a goal stands above each stop.
-    pub(crate) fn is_seen(
-        &mut self,
-        alloc: Global,
-        goals: Kinds,
-        stops: Kinds,
-    ) -> Result<bool, Refusal>
+    pub fn is_seen(&mut self, alloc: Global, goals: Kinds, stops: Kinds) -> Result<bool, Refusal>
         ensures { Answers result (sight B.heard self.old) (sight B.heard self.new) (seen_plan goals stops) }
     {
         match element_walk(&self.change.stack, &goals, &stops) {
@@ -64,6 +83,102 @@ impl<'p, B: Below> View<'p, B> {
         } else {
             Ok(is_within(&goals, self.change.stack.at(0)))
         }
+    }
+
+    /// Whether the element next below the current node is of these kinds.
+    pub fn below_is(&mut self, alloc: Global, goals: Kinds) -> Result<bool, Refusal>
+        ensures { Answers result (sight B.heard self.old) (sight B.heard self.new) (below_is_plan goals) }
+    {
+        match self.change.stack.len() {
+            0 => self.older_below_is(alloc, goals),
+            1 => {
+                let depth = self.change.popped;
+                Ok(older_seen(&mut self.below, alloc, depth, goals, Kinds::All)?)
+            }
+            _ => Ok(is_within(&goals, self.change.stack.at(1))),
+        }
+    }
+
+    /// Whether the older element next below the top of what is left is of these kinds.
+    fn older_below_is(&mut self, alloc: Global, goals: Kinds) -> Result<bool, Refusal>
+        ensures { Answers result (sight B.heard self.old) (sight B.heard self.new) (λ v. ask_seen (v.change.popped + 1) goals kinds.All) }
+    {
+        let Some(depth) = self.change.popped.checked_add(1) else {
+            return Err(Refusal::NoMemory);
+        };
+        Ok(older_seen(&mut self.below, alloc, depth, goals, Kinds::All)?)
+    }
+
+    /// Whether the current node is not an HTML element: there CDATA sections are read (13.2.5.42).
+    pub fn foreign_now(&mut self, alloc: Global) -> Result<bool, NoMemory>
+        ensures { Knows result (sight B.heard self.old) (sight B.heard self.new) foreign_now_plan }
+    {
+        if self.change.stack.is_empty() {
+            self.foreign_below(alloc)
+        } else {
+            Ok(!is_html(self.change.stack.at(0)))
+        }
+    }
+
+    /// The same of the older stack.
+    fn foreign_below(&mut self, alloc: Global) -> Result<bool, NoMemory>
+        ensures { Knows result (sight B.heard self.old) (sight B.heard self.new) (λ v. foreign_below_plan v.change.popped) }
+    {
+        let depth = self.change.popped;
+        if older_seen(&mut self.below, alloc, depth, Kinds::AnyHtml, Kinds::All)? {
+            return Ok(false);
+        }
+        older_foreign(&mut self.below, alloc, depth)
+    }
+
+    /// The name of the last start tag before the chunk.
+    pub fn last_tag(&mut self, alloc: Global) -> Result<Name, NoMemory>
+        ensures { Knows result (sight B.heard self.old) (sight B.heard self.new) (λ v. ask_last_tag) }
+    {
+        older_last_tag(&mut self.below, alloc)
+    }
+
+    /// Whether the second element is an HTML `body`.
+    pub fn second_is_body(&mut self, alloc: Global) -> Result<bool, Refusal>
+        ensures { Answers result (sight B.heard self.old) (sight B.heard self.new) second_plan }
+    {
+        match self.page {
+            Some(_) => Ok(second_is_body(&self.change.stack)),
+            None => self.second_below(alloc),
+        }
+    }
+
+    /// The same over an older state. An own element is the second where only the first one is left below, which is asked
+    /// where that matters.
+    fn second_below(&mut self, alloc: Global) -> Result<bool, Refusal>
+        ensures { Answers result (sight B.heard self.old) (sight B.heard self.new) second_older_plan }
+    {
+        if last_is_body(&self.change.stack) {
+            return self.second_of_own(alloc);
+        }
+        let depth = self.change.popped;
+        Ok(older_body(&mut self.below, alloc, depth)?)
+    }
+
+    /// Whether the first own element, which is a body, is the second of all, or another body is.
+    fn second_of_own(&mut self, alloc: Global) -> Result<bool, Refusal>
+        ensures { Answers result (sight B.heard self.old) (sight B.heard self.new) (λ v. second_of_own_plan v.change.popped) }
+    {
+        let depth = self.change.popped;
+        let Some(next) = depth.checked_add(1) else {
+            return Err(Refusal::NoMemory);
+        };
+        if older_there(&mut self.below, alloc, next)? {
+            return Ok(older_body(&mut self.below, alloc, depth)?);
+        }
+        Ok(true)
+    }
+
+    /// Whether there is a template mode. Over an older state only those of the view's own are seen.
+    pub fn has_template_modes(&self) -> bool
+        ensures { result ≡ own_modes self.now.change.templates }
+    {
+        !self.change.templates.is_empty()
     }
 
     /// Whether a template is open.

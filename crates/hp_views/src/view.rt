@@ -11,11 +11,14 @@ pub struct PageFacts {
 /// A control state whose lower part is asked: what a chunk changed of it so far, and the edits that it makes.
 #[derive(Drop)]
 pub struct View<'p, B> {
-    pub(crate) below: B,
-    pub(crate) change: Change,
-    pub(crate) edits: Edits<'p>,
+    /// The state below, which is asked.
+    pub below: B,
+    /// What was changed of it. Where there is no older state, all of the state is the view's own.
+    pub change: Change,
+    /// The edits made so far.
+    pub edits: Edits<'p>,
     /// Whether the chunk began among pending table characters.
-    pub(crate) older_text: bool,
+    pub older_text: bool,
     /// The facts of the page, where there is no older state.
-    pub(crate) page: Option<PageFacts>,
+    pub page: Option<PageFacts>,
 }

@@ -1,9 +1,9 @@
 //! Walks over a view's own stack and its own list, the top first.
 ghost use Rattle.std.specs.Prelude.{◌≡◌, drop};
-ghost use Rattle.hp_views.specs.Walks.{walk_of, run_walk, id_walk, marker_of, entry_walk, IsWithin, EndsAs};
+ghost use Rattle.hp_views.specs.Walks.{walk_of, run_walk, id_walk, id_scope_walk, id_entry_walk, marker_of, entry_walk, IsWithin, EndsAs};
 
 use hp_control::{FormattingEntry, OpenElement, Stack, is_within};
-use hp_elements::{Kinds, Name};
+use hp_elements::{Kinds, Name, SetName};
 
 /// Where a walk ended: at a goal, at a stop, or below the last of its own.
 #[derive(Clone, Copy, Drop)]
@@ -71,6 +71,39 @@ pub fn open_walk(stack: &Stack<OpenElement>, id: u64) -> Walk
 {
     for depth in 0..stack.len() {
         if stack.at(depth).id == id {
+            return Walk::Found(depth);
+        }
+    }
+    Walk::PastAll
+}
+
+/// Walks down to the element of this id, or to the first that ends a scope.
+pub fn scope_walk(stack: &Stack<OpenElement>, id: u64) -> Walk
+    ensures walk { result ≡ id_scope_walk id stack.now }
+    ensures within { IsWithin result stack.now }
+{
+    let ends = Kinds::Set(SetName::DefaultScopeEnds);
+    for depth in 0..stack.len() {
+        let element = stack.at(depth);
+        if element.id == id {
+            return Walk::Found(depth);
+        }
+        if is_within(&ends, element) {
+            return Walk::Stopped;
+        }
+    }
+    Walk::PastAll
+}
+
+/// Walks down to the entry of this id.
+pub fn listed_walk(list: &Stack<FormattingEntry>, wanted: u64) -> Walk
+    ensures walk { result ≡ id_entry_walk wanted list.now }
+    ensures within { IsWithin result list.now }
+{
+    for depth in 0..list.len() {
+        if let FormattingEntry::Element { id, .. } = list.at(depth)
+            && *id == wanted
+        {
             return Walk::Found(depth);
         }
     }

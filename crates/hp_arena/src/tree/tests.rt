@@ -1,7 +1,7 @@
 //! Trees that edits make, read back.
 
 use crate::links::Node;
-use crate::{NodeView, Tree};
+use crate::{NodeView, Runs, Tree};
 use hp_control::{Child, Edit, Edits, Place, Ref};
 use hp_elements::{Attribute, AttributeSpace, Chain, Known, Name, Namespace, Tag, Text};
 use std::alloc::{AllocError, Global};
@@ -17,11 +17,10 @@ fn make<'p>(rt: &impl Abort, tree: &mut Tree<'p>, edit: Edit<'p>) {
 
 /// Makes room for so many edits without attributes.
 fn make_room(alloc: Global, tree: &mut Tree<'_>, count: usize) -> Result<(), AllocError> {
-    let mut edits = Edits::new(alloc);
+    let mut edits = Edits::new();
     for _ in 0..count {
-        edits.push(Edit::Detach {
-            node: Ref::Fixed(0),
-        })?;
+        let node = Ref::Fixed(0);
+        edits.push(alloc, Edit::Detach { node })?;
     }
     tree.reserve(alloc, &edits)
 }
@@ -64,6 +63,13 @@ struct Counts {
     doctypes: usize,
 }
 
+fn count_runs(runs: Runs<'_, '_>) -> usize {
+    match runs {
+        Runs::One(_) => 1,
+        Runs::Several(runs) => runs.len(),
+    }
+}
+
 /// Goes over what stands inside an element.
 fn count_inside(tree: &Tree<'_>, id: u32) -> Option<Counts> {
     let mut found = Counts {
@@ -87,7 +93,7 @@ fn count_inside(tree: &Tree<'_>, id: u32) -> Option<Counts> {
             }
             NodeView::Text { runs } => {
                 found.texts = found.texts.wrapping_add(1);
-                found.runs = found.runs.wrapping_add(runs.len());
+                found.runs = found.runs.wrapping_add(count_runs(runs));
             }
             NodeView::Comment { .. } => found.comments = found.comments.wrapping_add(1),
             NodeView::Document | NodeView::Contents => {}

@@ -45,6 +45,9 @@ returns c = record {
     close_item = (refl, refl);
     close_description = (refl, refl);
     end_form_in_template = (refl, refl);
+    end_form = (refl, refl);
+    push_head = (refl, refl);
+    take_head_off = (refl, refl);
   };
   tests = record {
     seen = λ goals stops. (refl, refl);
@@ -56,5 +59,7 @@ returns c = record {
     quirks = (refl, refl);
     form = (refl, refl);
     listed = λ name. (refl, refl);
+    second = (refl, refl);
+    foreign = (refl, refl);
   };
 }

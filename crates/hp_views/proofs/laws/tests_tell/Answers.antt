@@ -1,4 +1,5 @@
 use Rattle.hp_views.specs.StackLaws.{seen_faithful, in_scope_faithful, current_faithful, below_faithful, template_faithful, frameset_ok_faithful, is_quirks_faithful, form_faithful}
+use Rattle.hp_views.specs.SecondLaws.{second_faithful, foreign_now_faithful, last_tag_told, modes_told}
 use Rattle.hp_views.proofs.laws.tests_tell.Goals as goal
 
 pub returns : goal.returns
@@ -11,4 +12,8 @@ returns c = record {
   frameset_ok = frameset_ok_faithful;
   quirks = is_quirks_faithful;
   form = form_faithful;
+  second = second_faithful;
+  foreign = foreign_now_faithful;
+  last_tag = last_tag_told;
+  modes = modes_told;
 }

@@ -1,0 +1,182 @@
+//! The acts that put characters, comments and the doctype into the tree.
+ghost use Rattle.std.specs.Prelude.{◌≡◌, [], IfOk, OnOk, unwrap_or};
+ghost use Rattle.hp_elements.specs.Quirks.{gives_quirks as spec_gives_quirks};
+ghost use Rattle.hp_control.specs.declared.edit.Child.TheVariants as child;
+ghost use Rattle.hp_views.specs.FieldPlans.{append_pending_plan};
+ghost use Rattle.hp_views.specs.PlacePlans.{put_plan, put_document_plan, put_first_plan};
+ghost use Rattle.hp_views.specs.View.{sight, Carries};
+ghost use Rattle.hp_foreign.specs.Plans.{put_replacements_plan};
+ghost use Rattle.hp_model.specs.Tokens.{characters, comment, doctype_of, parts_of};
+ghost use Rattle.hp_acts.specs.Plans.{quirks_of_plan};
+ghost use Rattle.hp_acts.specs.Spending.{IsLeftOf};
+ghost use Rattle.hp_acts.specs.declared.token_parts.Spending.TheVariants.{Copies};
+
+use crate::token_parts::{Spending, take_characters, take_comment};
+use hp_control::{Below, Child, Refusal};
+use hp_elements::{Doctype, NoMemory, Text, Token};
+use hp_foreign::put_replacements;
+use hp_views::View;
+use std::alloc::Global;
+
+/// Inserts the token's characters.
+pub(crate) fn put_characters<'p, B: Below>(
+    alloc: Global,
+    view: &mut View<'p, B>,
+    token: &mut Token<'p>,
+    spending: Spending,
+    fostering: bool,
+) -> Result<(), Refusal>
+    ensures plan { Carries result (sight B.heard view.old) (sight B.heard view.new) (put_plan fostering (child.Text (characters token.old))) }
+    ensures left { OnOk result (IsLeftOf token.old token.new) }
+    ensures copies { spending ≡ Copies → token.new ≡ token.old }
+{
+    let text = take_characters(alloc, token, spending)?;
+    view.put(alloc, fostering, Child::Text(text))
+}
+
+/// Inserts the token's text as a comment.
+pub(crate) fn put_comment<'p, B: Below>(
+    alloc: Global,
+    view: &mut View<'p, B>,
+    token: &mut Token<'p>,
+    spending: Spending,
+    fostering: bool,
+) -> Result<(), Refusal>
+    ensures plan { Carries result (sight B.heard view.old) (sight B.heard view.new) (put_plan fostering (child.Comment (comment token.old))) }
+    ensures left { OnOk result (IsLeftOf token.old token.new) }
+    ensures copies { spending ≡ Copies → token.new ≡ token.old }
+{
+    let text = take_comment(alloc, token, spending)?;
+    view.put(alloc, fostering, Child::Comment(text))
+}
+
+/// Puts the token's text as a comment into the document.
+pub(crate) fn comment_into_document<'p, B: Below>(
+    alloc: Global,
+    view: &mut View<'p, B>,
+    token: &mut Token<'p>,
+    spending: Spending,
+) -> Result<(), Refusal>
+    ensures plan { Carries result (sight B.heard view.old) (sight B.heard view.new) (put_document_plan (child.Comment (comment token.old))) }
+    ensures left { OnOk result (IsLeftOf token.old token.new) }
+    ensures copies { spending ≡ Copies → token.new ≡ token.old }
+{
+    let text = take_comment(alloc, token, spending)?;
+    view.put_into_document(alloc, Child::Comment(text))
+}
+
+/// Puts the token's text as a comment into the first element.
+pub(crate) fn comment_into_first<'p, B: Below>(
+    alloc: Global,
+    view: &mut View<'p, B>,
+    token: &mut Token<'p>,
+    spending: Spending,
+) -> Result<(), Refusal>
+    ensures plan { Carries result (sight B.heard view.old) (sight B.heard view.new) (put_first_plan (child.Comment (comment token.old))) }
+    ensures left { OnOk result (IsLeftOf token.old token.new) }
+    ensures copies { spending ≡ Copies → token.new ≡ token.old }
+{
+    let text = take_comment(alloc, token, spending)?;
+    view.put_into_first(alloc, Child::Comment(text))
+}
+
+/// Inserts U+FFFD for each of the token's characters.
+pub(crate) fn put_replaced<'p, B: Below>(
+    alloc: Global,
+    view: &mut View<'p, B>,
+    token: &Token<'p>,
+    fostering: bool,
+) -> Result<(), Refusal>
+    ensures plan { Carries result (sight B.heard view.old) (sight B.heard view.new) (put_replacements_plan fostering (characters token.now)) }
+{
+    match token {
+        Token::Characters { text, .. } => put_replacements(alloc, view, fostering, text),
+        _ => put_replacements(alloc, view, fostering, &Text::new()),
+    }
+}
+
+/// Appends the token's characters to the pending ones.
+pub(crate) fn append_pending<'p, B: Below>(
+    alloc: Global,
+    view: &mut View<'p, B>,
+    token: &Token<'p>,
+) -> Result<(), Refusal>
+    ensures plan { Carries result (sight B.heard view.old) (sight B.heard view.new) (append_pending_plan (characters token.now)) }
+{
+    match token {
+        Token::Characters { text, .. } => view.append_pending(alloc, text),
+        _ => view.append_pending(alloc, &Text::new()),
+    }
+}
+
+/// A part of a doctype; the empty text where it is missing.
+fn part_or_empty(part: Option<Text<'_>>) -> Text<'_>
+    ensures { result ≡ unwrap_or part.entry [] }
+{
+    match part {
+        Some(text) => text,
+        None => Text::new(),
+    }
+}
+
+fn child_of<'p>(doctype: Doctype<'p>) -> Child<'p>
+    ensures { result ≡ doctype_of doctype.entry }
+{
+    let parts = doctype.into_parts();
+    Child::Doctype {
+        name: part_or_empty(parts.name),
+        public: parts.public,
+        system: parts.system,
+    }
+}
+
+/// The doctype that the token is, as a child; one without parts for another token.
+fn doctype_child(alloc: Global, token: &Token<'_>) -> Result<Child<'static>, NoMemory>
+    ensures { IfOk result (λ child. child ≡ doctype_of (parts_of token.now)) }
+{
+    match token {
+        Token::Doctype { doctype } => Ok(child_of(doctype.copy(alloc)?)),
+        _ => Ok(Child::Doctype {
+            name: Text::new(),
+            public: None,
+            system: None,
+        }),
+    }
+}
+
+/// Puts the doctype into the document. The token keeps it.
+pub(crate) fn put_doctype<'p, B: Below>(
+    alloc: Global,
+    view: &mut View<'p, B>,
+    token: &Token<'p>,
+) -> Result<(), Refusal>
+    ensures plan { Carries result (sight B.heard view.old) (sight B.heard view.new) (put_document_plan (doctype_of (parts_of token.now))) }
+{
+    let child = doctype_child(alloc, token)?;
+    view.put_into_document(alloc, child)
+}
+
+/// Whether the doctype puts the page into quirks mode; another token does.
+fn gives_quirks(token: &Token<'_>) -> bool
+    ensures { result ≡ spec_gives_quirks (parts_of token.now) }
+{
+    match token {
+        Token::Doctype { doctype } => doctype.parts().gives_quirks(),
+        _ => true,
+    }
+}
+
+/// Puts the page into quirks mode where the doctype asks for it.
+pub(crate) fn quirks_of_doctype<'p, B: Below>(
+    alloc: Global,
+    view: &mut View<'p, B>,
+    token: &Token<'p>,
+) -> Result<(), Refusal>
+    ensures plan { Carries result (sight B.heard view.old) (sight B.heard view.new) (quirks_of_plan (parts_of token.now)) }
+{
+    if gives_quirks(token) {
+        view.set_quirks(alloc)
+    } else {
+        Ok(())
+    }
+}

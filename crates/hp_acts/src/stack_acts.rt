@@ -1,0 +1,147 @@
+//! The acts on the stack and on the list of formatting elements that need the token's name.
+ghost use Rattle.std.specs.Prelude.{◌≡◌, OnOk};
+ghost use Rattle.hp_elements.specs.Names.{known_of};
+ghost use Rattle.hp_elements.specs.declared.kinds.Kinds.TheVariants as kinds;
+ghost use Rattle.hp_views.specs.ClosingPlans.{walk_plan};
+ghost use Rattle.hp_views.specs.StackPlans.{through_plan};
+ghost use Rattle.hp_views.specs.View.{sight, Carries};
+ghost use Rattle.hp_foreign.specs.Plans.{through_foreign_plan};
+ghost use Rattle.hp_model.specs.Tokens.{name_for, name_of as spec_name_of};
+ghost use Rattle.hp_acts.specs.Plans.{implied_but_plan};
+ghost use Rattle.hp_acts.specs.Spending.{IsLeftOf};
+ghost use Rattle.hp_acts.specs.declared.token_parts.Spending.TheVariants.{Copies};
+
+use crate::token_parts::{Spending, html_of, name_of, take_tag};
+use hp_adoption::{adopt, append_to_list};
+use hp_control::{Below, Crossing, FormattingEntry, Refusal};
+use hp_elements::{Kinds, Name, Token, Which};
+use hp_views::{View, Walk, name_walk};
+use std::alloc::Global;
+
+/// Pops up to and with the nearest HTML element of that name.
+pub(crate) fn through<'p, B: Below>(
+    alloc: Global,
+    view: &mut View<'p, B>,
+    token: &Token<'p>,
+    which: Which,
+) -> Result<(), Refusal>
+    ensures plan { Carries result (sight B.heard view.old) (sight B.heard view.new) (through_plan (kinds.Html (name_for token.now which)) kinds.Nothing) }
+{
+    let goals = html_of(alloc, token, which)?;
+    view.through(alloc, goals, Kinds::Nothing)
+}
+
+/// Pops up to and with the nearest foreign element of the token's name.
+pub(crate) fn through_foreign<'p, B: Below>(
+    alloc: Global,
+    view: &mut View<'p, B>,
+    token: &Token<'p>,
+) -> Result<(), Refusal>
+    ensures plan { Carries result (sight B.heard view.old) (sight B.heard view.new) (through_foreign_plan (spec_name_of token.now)) }
+{
+    let name = name_of(alloc, token, Which::Its)?;
+    hp_foreign::through_foreign(alloc, view, name)
+}
+
+/// Generates implied end tags, but not that of the name.
+pub(crate) fn implied_except<'p, B: Below>(
+    alloc: Global,
+    view: &mut View<'p, B>,
+    token: &Token<'p>,
+    which: Which,
+) -> Result<(), Refusal>
+    ensures plan { Carries result (sight B.heard view.old) (sight B.heard view.new) (implied_but_plan (known_of (name_for token.now which))) }
+{
+    match name_of(alloc, token, which)?.known() {
+        Some(known) => view.implied_except(alloc, known),
+        None => view.implied(alloc),
+    }
+}
+
+/// What the rules do at an end tag that no row names.
+pub(crate) fn walk<'p, B: Below>(
+    alloc: Global,
+    view: &mut View<'p, B>,
+    token: &Token<'p>,
+) -> Result<(), Refusal>
+    ensures plan { Carries result (sight B.heard view.old) (sight B.heard view.new) (walk_plan (spec_name_of token.now)) }
+{
+    let name = name_of(alloc, token, Which::Its)?;
+    view.walk(alloc, name)
+}
+
+/// Adopts the element of that name.
+pub(crate) fn adopt_named<'p, B: Below>(
+    alloc: Global,
+    view: &mut View<'p, B>,
+    token: &Token<'p>,
+    which: Which,
+    fostering: bool,
+) -> Result<(), Refusal> {
+    let name = name_of(alloc, token, which)?;
+    adopt(alloc, view, fostering, name)
+}
+
+/// Appends the current node, which was made for the token, to the list of formatting elements.
+pub(crate) fn append_current<'p, B: Below>(
+    alloc: Global,
+    view: &mut View<'p, B>,
+    token: &mut Token<'p>,
+    spending: Spending,
+) -> Result<(), Refusal>
+    ensures left { OnOk result (IsLeftOf token.old token.new) }
+    ensures copies { spending ≡ Copies → token.new ≡ token.old }
+{
+    let tag = take_tag(alloc, token, spending)?;
+    append_to_list(alloc, view, tag)
+}
+
+/// Takes the last entry of that name off the list of formatting elements, and its element off the stack.
+pub(crate) fn take_named_off<'p, B: Below>(
+    alloc: Global,
+    view: &mut View<'p, B>,
+    token: &Token<'p>,
+    which: Which,
+) -> Result<(), Refusal> {
+    let name = name_of(alloc, token, which)?;
+    match name_walk(&view.change.formatting, &name) {
+        Walk::Found(depth) => take_entry_off(alloc, view, depth),
+        Walk::Stopped => Ok(()),
+        Walk::PastAll => older_entry_stays(alloc, view, name),
+    }
+}
+
+fn id_of(entry: &FormattingEntry) -> Option<u64> {
+    match entry {
+        FormattingEntry::Marker => None,
+        FormattingEntry::Element { id, .. } => Some(*id),
+    }
+}
+
+/// Takes the own entry at that depth off the list, and its element off the stack.
+fn take_entry_off<'p, B: Below>(
+    alloc: Global,
+    view: &mut View<'p, B>,
+    depth: usize,
+) -> Result<(), Refusal> {
+    match id_of(view.change.formatting.at(depth)) {
+        None => Ok(()),
+        Some(id) => {
+            view.remove_entry(alloc, id)?;
+            view.take_off(alloc, id)
+        }
+    }
+}
+
+/// An older entry isn't this view's to take off.
+fn older_entry_stays<'p, B: Below>(
+    alloc: Global,
+    view: &mut View<'p, B>,
+    name: Name,
+) -> Result<(), Refusal> {
+    if view.is_listed(alloc, name)? {
+        Err(Refusal::Crossed(Crossing::X1))
+    } else {
+        Ok(())
+    }
+}

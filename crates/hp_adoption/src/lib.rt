@@ -1,0 +1,24 @@
+//! Reconstruction of the active formatting elements, the adoption agency algorithm and what else works on that list, over a
+//! state whose lower part may be unknown.
+#![tactic(auto)]
+
+mod adopting;
+mod ark;
+#[cfg(test)]
+mod cases;
+mod climb;
+mod elements;
+mod entries;
+mod links;
+mod pending;
+mod plain;
+mod reconstruction;
+#[cfg(test)]
+mod tests;
+mod turns;
+
+pub use ark::append_to_list;
+pub use links::close_link;
+pub use pending::flush;
+pub use plain::adopt;
+pub use reconstruction::reconstruct;

@@ -1,0 +1,60 @@
+//! The adoption agency algorithm (13.2.6.4.7).
+ghost use Rattle.std.specs.Prelude.{◌≡◌};
+ghost use Rattle.hp_views.specs.View.{sight, Answers, Carries};
+ghost use Rattle.hp_adoption.specs.AdoptPlans.{plain_below, is_plain_plan, adopt_plan};
+
+use crate::turns::turns;
+use hp_control::{Below, Refusal, is_html};
+use hp_elements::{Kinds, Name};
+use hp_views::{View, older_listed};
+use std::alloc::Global;
+
+/// Whether the current node is an HTML element of the name and has no entry.
+fn is_plain<'p, B: Below>(
+    alloc: Global,
+    view: &mut View<'p, B>,
+    name: &Name,
+) -> Result<bool, Refusal>
+    ensures { Answers result (sight B.heard view.old) (sight B.heard view.new) (is_plain_plan name.now) }
+{
+    if view.change.stack.is_empty() {
+        return is_plain_below(alloc, view, name);
+    }
+    let top = view.change.stack.at(0);
+    let is_named = is_html(top) && name.same(&top.name);
+    Ok(is_named && !view.has_entry(top.id))
+}
+
+/// The same of the older current node.
+fn is_plain_below<'p, B: Below>(
+    alloc: Global,
+    view: &mut View<'p, B>,
+    name: &Name,
+) -> Result<bool, Refusal>
+    ensures { Answers result (sight B.heard view.old) (sight B.heard view.new) (plain_below name.now) }
+{
+    if !view.current_is(alloc, Kinds::Html(name.copy(alloc)?))? {
+        return Ok(false);
+    }
+    let depth = view.change.popped;
+    let cuts = view.change.cuts;
+    let standing = older_listed(&mut view.below, alloc, depth, cuts, name.copy(alloc)?)?;
+    Ok(!standing.top)
+}
+
+/// Runs the adoption agency algorithm for the name; `fostering` says that content may not stand in a table. Where an older entry
+/// would be removed, it crosses.
+pub fn adopt<'p, B: Below>(
+    alloc: Global,
+    view: &mut View<'p, B>,
+    fostering: bool,
+    name: Name,
+) -> Result<(), Refusal>
+    ensures { Carries result (sight B.heard view.old) (sight B.heard view.new) (adopt_plan fostering name) }
+{
+    if is_plain(alloc, view, &name)? {
+        view.pop(alloc)
+    } else {
+        turns(alloc, view, fostering, &name)
+    }
+}

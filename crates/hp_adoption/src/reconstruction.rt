@@ -1,0 +1,126 @@
+//! Reconstruction of the active formatting elements (13.2.4.3).
+ghost use Rattle.std.specs.Prelude.{◌≡◌, ◌<◌, ◌≤◌, IfOk, length};
+ghost use Rattle.hp_views.specs.View.{sight, Carries};
+ghost use Rattle.hp_views.specs.Walks.{IsWithin};
+ghost use Rattle.hp_adoption.specs.ReconPlans.{is_settled as spec_is_settled, stale_walk as spec_stale_walk, renew_plan, renew_down_plan, reconstruct_plan};
+
+use crate::elements::point_of;
+use hp_control::{Below, Crossing, FormattingEntry, OpenElement, Refusal, Stack};
+use hp_views::{View, Walk, older_quiet, open_walk};
+use std::alloc::Global;
+
+/// Whether the entry is a marker or its element is open.
+fn is_settled(stack: &Stack<OpenElement>, entry: &FormattingEntry) -> bool
+    ensures { result ≡ spec_is_settled stack.now entry.now }
+{
+    match entry {
+        FormattingEntry::Marker => true,
+        FormattingEntry::Element { id, .. } => is_open(stack, *id),
+    }
+}
+
+fn is_open(stack: &Stack<OpenElement>, id: u64) -> bool
+    ensures { result ≡ is_found (id_walk id stack.now) }
+{
+    match open_walk(stack, id) {
+        Walk::Found(_) => true,
+        Walk::Stopped => false,
+        Walk::PastAll => false,
+    }
+}
+
+ghost use Rattle.hp_adoption.specs.ReconPlans.{is_found};
+ghost use Rattle.hp_views.specs.Walks.{id_walk};
+
+/// Walks down the list to the last entry that is a marker or open.
+fn stale_walk(stack: &Stack<OpenElement>, list: &Stack<FormattingEntry>) -> Walk
+    ensures walk { result ≡ spec_stale_walk stack.now list.now }
+    ensures within { IsWithin result list.now }
+{
+    for depth in 0..list.len() {
+        if is_settled(stack, list.at(depth)) {
+            return Walk::Found(depth);
+        }
+    }
+    Walk::PastAll
+}
+
+/// Makes the element of an own entry anew.
+fn renew<'p, B: Below>(
+    alloc: Global,
+    view: &mut View<'p, B>,
+    fostering: bool,
+    depth: usize,
+) -> Result<(), Refusal>
+    requires { depth < length view.old.change.formatting }
+    ensures carries { Carries result (sight B.heard view.old) (sight B.heard view.new) (renew_plan fostering depth) }
+    ensures keeps { IfOk result (λ _. length view.new.change.formatting ≡ length view.old.change.formatting) }
+{
+    let old = view
+        .change
+        .formatting
+        .replace(depth, FormattingEntry::Marker);
+    match old {
+        FormattingEntry::Marker => Ok(()),
+        FormattingEntry::Element { tag, .. } => {
+            let id = view.change.made;
+            let copy = tag.copy(alloc)?;
+            let point = point_of(alloc, &tag)?;
+            let entry = FormattingEntry::Element { id, tag: copy };
+            let _ = view.change.formatting.replace(depth, entry);
+            view.insert(alloc, fostering, tag, point)
+        }
+    }
+}
+
+/// Makes the elements of so many own entries anew, the last entry's last.
+fn renew_down<'p, B: Below>(
+    alloc: Global,
+    view: &mut View<'p, B>,
+    fostering: bool,
+    count: usize,
+) -> Result<(), Refusal>
+    requires { count ≤ length view.old.change.formatting }
+    ensures { Carries result (sight B.heard view.old) (sight B.heard view.new) (renew_down_plan fostering count) }
+{
+    for turn in 0..count {
+        renew(alloc, view, fostering, count - 1 - turn)?;
+    }
+    Ok(())
+}
+
+/// Makes the elements anew of the entries after the last one that is a marker or open; `fostering` says that they may not stand
+/// in a table. Where an older entry would be made anew, it crosses.
+pub fn reconstruct<'p, B: Below>(
+    alloc: Global,
+    view: &mut View<'p, B>,
+    fostering: bool,
+) -> Result<(), Refusal>
+    ensures { Carries result (sight B.heard view.old) (sight B.heard view.new) (reconstruct_plan fostering) }
+{
+    match stale_walk(&view.change.stack, &view.change.formatting) {
+        Walk::Found(count) => renew_down(alloc, view, fostering, count),
+        Walk::Stopped => reconstruct_below(alloc, view, fostering),
+        Walk::PastAll => reconstruct_below(alloc, view, fostering),
+    }
+}
+
+/// The same where no own entry is a marker or open.
+fn reconstruct_below<'p, B: Below>(
+    alloc: Global,
+    view: &mut View<'p, B>,
+    fostering: bool,
+) -> Result<(), Refusal>
+    ensures { Carries result (sight B.heard view.old) (sight B.heard view.new) (recon_below fostering) }
+{
+    let depth = view.change.popped;
+    let cuts = view.change.cuts;
+    if older_quiet(&mut view.below, alloc, depth, cuts)? {
+        let count = view.change.formatting.len();
+        renew_down(alloc, view, fostering, count)
+    } else {
+        Err(Refusal::Crossed(Crossing::X2))
+    }
+}
+
+ghost use Rattle.hp_adoption.specs.ReconPlans.{recon_below};

@@ -1,0 +1,216 @@
+//! The turns of the adoption agency algorithm (13.2.6.4.7).
+ghost use Rattle.std.specs.Prelude.{◌≡◌, ◌<◌, ◌≤◌, length, take, IfSome};
+ghost use Rattle.hp_control.specs.Adoption.{hides as spec_hides, furthest as spec_furthest};
+ghost use Rattle.hp_views.specs.View.{sight, Carries};
+ghost use Rattle.hp_adoption.specs.AdoptPlans.{own_turn, entry_turn, walk_turn, older_turn, kind_turn, turn_plan, turns_plan};
+ghost use Rattle.hp_adoption.specs.Turning.{Turns, seat_depth};
+
+use crate::adopting::{Tangle, untangle};
+use crate::entries::strike;
+use hp_control::{
+    Below, Crossing, EntryKind, FormattingEntry, OpenElement, Refusal, Stack, is_within,
+};
+use hp_elements::{Kinds, Name, SetName, Tag};
+use hp_views::{View, Walk, name_walk, older_listed, open_walk};
+use std::alloc::Global;
+
+/// Whether an end of a scope stands above that depth.
+fn hides(stack: &Stack<OpenElement>, depth: usize) -> bool
+    requires { depth ≤ length stack.now }
+    ensures { result ≡ spec_hides (take depth stack.now) }
+{
+    let ends = Kinds::Set(SetName::DefaultScopeEnds);
+    for above in 0..depth {
+        if is_within(&ends, stack.at(above)) {
+            return true;
+        }
+    }
+    false
+}
+
+/// The depth of the special element above that depth that is nearest to it.
+fn furthest(stack: &Stack<OpenElement>, depth: usize) -> Option<usize>
+    requires { depth ≤ length stack.now }
+    ensures found { result ≡ seat_depth (spec_furthest (take depth stack.now)) }
+    ensures above { IfSome result (λ block. block < depth) }
+{
+    let special = Kinds::Set(SetName::Special);
+    for turn in 0..depth {
+        let above = depth - 1 - turn;
+        if is_within(&special, stack.at(above)) {
+            return Some(above);
+        }
+    }
+    None
+}
+
+/// Pops so many own elements; without an older state the last one stays.
+fn pop_own<'p, B: Below>(view: &mut View<'p, B>, count: usize)
+    requires { count ≤ length view.old.change.stack }
+    ensures split { split_of view.new ≡ own_popped count (split_of view.old) }
+    ensures below { view.new.below ≡ view.old.below }
+{
+    match view.page {
+        Some(_) => {
+            let most = view.change.stack.len().saturating_sub(1);
+            view.change.stack.drop_top(count.min(most));
+        }
+        None => view.change.stack.drop_top(count),
+    }
+}
+
+ghost use Rattle.hp_views.specs.View.{split_of};
+ghost use Rattle.hp_views.specs.StackPlans.{own_popped};
+
+/// A turn whose formatting element is an own one.
+fn turn_own<'p, B: Below>(
+    alloc: Global,
+    view: &mut View<'p, B>,
+    fostering: bool,
+    id: u64,
+    tag: Tag,
+) -> Result<bool, Refusal>
+    ensures { Turns result (sight B.heard view.old) (sight B.heard view.new) (λ v. own_turn fostering id tag v (id_walk id v.change.stack)) }
+{
+    match open_walk(&view.change.stack, id) {
+        Walk::Found(depth) => turn_open(alloc, view, fostering, id, tag, depth),
+        Walk::Stopped => {
+            strike(&mut view.change.formatting, id);
+            Ok(false)
+        }
+        Walk::PastAll => {
+            strike(&mut view.change.formatting, id);
+            Ok(false)
+        }
+    }
+}
+
+/// The same where that element is open, at that depth.
+fn turn_open<'p, B: Below>(
+    alloc: Global,
+    view: &mut View<'p, B>,
+    fostering: bool,
+    id: u64,
+    tag: Tag,
+    depth: usize,
+) -> Result<bool, Refusal>
+    requires { depth < length view.old.change.stack }
+    ensures { Turns result (sight B.heard view.old) (sight B.heard view.new) (λ v. own_turn fostering id tag v (Found depth)) }
+{
+    if hides(&view.change.stack, depth) {
+        return Ok(false);
+    }
+    match furthest(&view.change.stack, depth) {
+        None => {
+            pop_own(view, depth + 1);
+            strike(&mut view.change.formatting, id);
+            Ok(false)
+        }
+        Some(block) => {
+            untangle(alloc, view, fostering, Tangle { id, depth, block }, tag)?;
+            Ok(true)
+        }
+    }
+}
+
+/// A turn whose entry is an own one, at that depth of the own list.
+fn turn_entry<'p, B: Below>(
+    alloc: Global,
+    view: &mut View<'p, B>,
+    fostering: bool,
+    at: usize,
+) -> Result<bool, Refusal>
+    requires { at < length view.old.change.formatting }
+    ensures { Turns result (sight B.heard view.old) (sight B.heard view.new) (λ v. entry_turn fostering v (slice_get v.change.formatting at)) }
+{
+    match view.change.formatting.at(at) {
+        FormattingEntry::Marker => Ok(false),
+        FormattingEntry::Element { id, tag } => {
+            let id = *id;
+            let tag = tag.copy(alloc)?;
+            turn_own(alloc, view, fostering, id, tag)
+        }
+    }
+}
+
+/// A turn whose entry, where there is one, is older.
+fn turn_older<'p, B: Below>(
+    alloc: Global,
+    view: &mut View<'p, B>,
+    name: &Name,
+) -> Result<bool, Refusal>
+    ensures { Turns result (sight B.heard view.old) (sight B.heard view.new) (older_turn name.now) }
+{
+    let depth = view.change.popped;
+    let cuts = view.change.cuts;
+    let standing = older_listed(&mut view.below, alloc, depth, cuts, name.copy(alloc)?)?;
+    turn_by(alloc, view, name, standing.kind)
+}
+
+/// The same, by how the older entry stands.
+fn turn_by<'p, B: Below>(
+    alloc: Global,
+    view: &mut View<'p, B>,
+    name: &Name,
+    kind: EntryKind,
+) -> Result<bool, Refusal>
+    ensures { Turns result (sight B.heard view.old) (sight B.heard view.new) (λ v. kind_turn name.now v kind) }
+{
+    match kind {
+        EntryKind::Absent => walk(alloc, view, name),
+        EntryKind::Closed => Err(Refusal::Crossed(Crossing::X1)),
+        EntryKind::Hidden => Ok(false),
+        EntryKind::InScope => {
+            if hides(&view.change.stack, view.change.stack.len()) {
+                Ok(false)
+            } else {
+                Err(Refusal::Crossed(Crossing::X1))
+            }
+        }
+    }
+}
+
+/// What an end tag does that no row names.
+fn walk<'p, B: Below>(alloc: Global, view: &mut View<'p, B>, name: &Name) -> Result<bool, Refusal>
+    ensures { Turns result (sight B.heard view.old) (sight B.heard view.new) (walk_turn name.now) }
+{
+    view.walk(alloc, name.copy(alloc)?)?;
+    Ok(false)
+}
+
+/// One turn. It answers whether there may be another.
+fn turn<'p, B: Below>(
+    alloc: Global,
+    view: &mut View<'p, B>,
+    fostering: bool,
+    name: &Name,
+) -> Result<bool, Refusal>
+    ensures { Turns result (sight B.heard view.old) (sight B.heard view.new) (turn_plan fostering name.now) }
+{
+    match name_walk(&view.change.formatting, name) {
+        Walk::Found(at) => turn_entry(alloc, view, fostering, at),
+        Walk::Stopped => walk(alloc, view, name),
+        Walk::PastAll => turn_older(alloc, view, name),
+    }
+}
+
+/// The turns of an adoption: at most eight.
+pub fn turns<'p, B: Below>(
+    alloc: Global,
+    view: &mut View<'p, B>,
+    fostering: bool,
+    name: &Name,
+) -> Result<(), Refusal>
+    ensures { Carries result (sight B.heard view.old) (sight B.heard view.new) (turns_plan 8 fostering name.now) }
+{
+    for _turn in 0..8usize {
+        if !turn(alloc, view, fostering, name)? {
+            return Ok(());
+        }
+    }
+    Ok(())
+}
+
+ghost use Rattle.std.specs.Prelude.{slice_get};
+ghost use Rattle.hp_views.specs.Walks.{id_walk};
+ghost use Rattle.hp_views.specs.declared.walks.Walk.TheVariants.{Found};

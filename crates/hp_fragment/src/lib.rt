@@ -1,0 +1,10 @@
+//! The sequential parser: the lexer and tree construction over a page, one token behind the other.
+#![tactic(auto)]
+
+mod parsing;
+#[cfg(test)]
+mod tests;
+mod whole;
+
+pub use hp_elements::NoMemory;
+pub use whole::parse_whole;

@@ -1,0 +1,92 @@
+//! The end of a form (13.2.6.4.7).
+ghost use Rattle.std.specs.Prelude.{◌≡◌, ◌<◌, ◌^◌};
+ghost use Rattle.hp_views.specs.FormPlans.{outside_plan, own_form_plan, older_form_plan, leave_older_plan, older_off_plan};
+ghost use Rattle.hp_views.specs.Steps.{end_form_step};
+ghost use Rattle.hp_views.specs.View.{sight, Carries, Meets};
+
+use crate::asking::{Pointed, older_pointer};
+use crate::view::View;
+use crate::walks::{Walk, element_walk, scope_walk};
+use hp_control::{Below, Crossing, FormChange, Refusal};
+use hp_elements::{Kinds, SetName};
+use std::alloc::Global;
+
+impl<'p, B: Below> View<'p, B> {
+    /// The end of a form.
+    pub fn end_form(&mut self, alloc: Global) -> Result<(), Refusal>
+        ensures { Meets result (sight B.heard self.old) (sight B.heard self.new) end_form_step }
+    {
+        if self.template_in_stack(alloc)? {
+            self.end_form_in_template(alloc)
+        } else {
+            self.end_form_outside(alloc)
+        }
+    }
+
+    /// The end of a form outside of templates: the pointer is emptied, and its element, where it is in scope, leaves the stack.
+    fn end_form_outside(&mut self, alloc: Global) -> Result<(), Refusal>
+        ensures { Carries result (sight B.heard self.old) (sight B.heard self.new) outside_plan }
+    {
+        match self.change.form {
+            FormChange::Cleared => Ok(()),
+            FormChange::Own(id) => self.end_own_form(alloc, id),
+            FormChange::Kept => self.end_older_form(alloc),
+        }
+    }
+
+    /// The same of an own form.
+    fn end_own_form(&mut self, alloc: Global, id: u64) -> Result<(), Refusal>
+        ensures { Carries result (sight B.heard self.old) (sight B.heard self.new) (own_form_plan id) }
+    {
+        self.change.form = FormChange::Cleared;
+        match scope_walk(&self.change.stack, id) {
+            Walk::Found(_) => {
+                self.implied(alloc)?;
+                self.take_off(alloc, id)
+            }
+            _ => Ok(()),
+        }
+    }
+
+    /// The same of a form that stands in the older state, if one does.
+    fn end_older_form(&mut self, alloc: Global) -> Result<(), Refusal>
+        ensures { Carries result (sight B.heard self.old) (sight B.heard self.new) older_form_plan }
+    {
+        let depth = self.change.popped;
+        let pointed = older_pointer(&mut self.below, alloc, depth)?;
+        self.change.form = FormChange::Cleared;
+        match pointed {
+            Pointed::Here(count) => self.leave_older_form(alloc, depth + count),
+            Pointed::Nowhere | Pointed::Away => Ok(()),
+        }
+    }
+
+    /// The older element at that depth leaves the stack, unless an end of scope stands above it.
+    fn leave_older_form(&mut self, alloc: Global, depth: u64) -> Result<(), Refusal>
+        requires { depth < 2 ^ 60 }
+        ensures { Carries result (sight B.heard self.old) (sight B.heard self.new) (leave_older_plan depth) }
+    {
+        let ends = Kinds::Set(SetName::DefaultScopeEnds);
+        match element_walk(&self.change.stack, &Kinds::Nothing, &ends) {
+            Walk::PastAll => {
+                self.implied(alloc)?;
+                self.take_older_off(alloc, depth)
+            }
+            _ => Ok(()),
+        }
+    }
+
+    /// Takes the older element at that depth off the stack, where it stands there still: one that isn't the current node is
+    /// not this view's to take.
+    fn take_older_off(&mut self, alloc: Global, depth: u64) -> Result<(), Refusal>
+        ensures { Carries result (sight B.heard self.old) (sight B.heard self.new) (older_off_plan depth) }
+    {
+        if depth < self.change.popped {
+            return Ok(());
+        }
+        if self.change.stack.is_empty() && depth == self.change.popped {
+            return self.pop(alloc);
+        }
+        Err(Refusal::Crossed(Crossing::X3))
+    }
+}

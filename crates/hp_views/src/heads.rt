@@ -1,0 +1,65 @@
+//! The head element, on the stack again and off it.
+ghost use Rattle.std.specs.Prelude.{◌≡◌, IfOk};
+ghost use Rattle.hp_control.specs.Acts.{head_element as spec_head_element};
+ghost use Rattle.hp_views.specs.HeadPlans.{push_plan_of};
+ghost use Rattle.hp_views.specs.Steps.{push_head_step, take_head_off_step};
+ghost use Rattle.hp_views.specs.View.{sight, Carries, Meets};
+
+use crate::view::View;
+use crate::walks::{Walk, open_walk};
+use hp_control::{Below, Crossing, OpenElement, Refusal};
+use hp_elements::{Known, Name, Namespace, Point};
+use std::alloc::Global;
+
+/// The head element of that id.
+fn head_element(id: u64) -> OpenElement
+    ensures { result ≡ spec_head_element id }
+{
+    OpenElement {
+        id,
+        namespace: Namespace::Html,
+        name: Name::of_known(Known::Head),
+        point: Point::No,
+    }
+}
+
+impl<'p, B: Below> View<'p, B> {
+    /// Pushes the element of that id as head element, where it isn't on the stack.
+    fn push_if_gone(&mut self, alloc: Global, id: u64) -> Result<(), Refusal>
+        ensures { Carries result (sight B.heard self.old) (sight B.heard self.new) (push_plan_of id) }
+    {
+        match open_walk(&self.change.stack, id) {
+            Walk::Found(_) => Ok(()),
+            _ => {
+                self.change.stack.push(alloc, head_element(id))?;
+                Ok(())
+            }
+        }
+    }
+
+    /// Pushes the head element onto the stack again, where there is one and it isn't there.
+    pub fn push_head(&mut self, alloc: Global) -> Result<(), Refusal>
+        ensures { Meets result (sight B.heard self.old) (sight B.heard self.new) push_head_step }
+    {
+        match self.page {
+            Some(facts) => match facts.head {
+                Some(id) => self.push_if_gone(alloc, id),
+                None => Ok(()),
+            },
+            None => Err(Refusal::Crossed(Crossing::X4)),
+        }
+    }
+
+    /// Takes the head element off the stack, where there is one and it is there.
+    pub fn take_head_off(&mut self, alloc: Global) -> Result<(), Refusal>
+        ensures { Meets result (sight B.heard self.old) (sight B.heard self.new) take_head_off_step }
+    {
+        match self.page {
+            Some(facts) => match facts.head {
+                Some(id) => self.take_off(alloc, id),
+                None => Ok(()),
+            },
+            None => Err(Refusal::Crossed(Crossing::X4)),
+        }
+    }
+}

@@ -1,0 +1,76 @@
+//! Elements and entries of a view's own that are taken out of mid-list.
+ghost use Rattle.std.specs.Prelude.{◌≡◌, ◌<◌, length};
+ghost use Rattle.hp_control.specs.Walks.{has_entry};
+ghost use Rattle.hp_views.specs.RemovePlans.{take_off_plan, remove_entry_plan, taken_at};
+ghost use Rattle.hp_views.specs.View.{sight, split_of, Carries};
+
+use crate::view::View;
+use crate::walks::{Walk, listed_walk, open_walk};
+use hp_control::{Below, FormattingEntry, Refusal, Stack};
+use std::alloc::Global;
+
+impl<'p, B: Below> View<'p, B> {
+    /// Takes the own element at that depth off the stack. One at the top is popped.
+    fn take_off_at(&mut self, depth: usize)
+        requires { depth < length self.old.change.stack }
+        ensures split { split_of self.new ≡ taken_at depth (split_of self.old) }
+        ensures below { self.new.below ≡ self.old.below }
+    {
+        if depth == 0 {
+            self.pop_own(1);
+        } else {
+            self.change.stack.take_out(depth);
+        }
+    }
+
+    /// Takes the own element of this id off the stack, where it stands there.
+    pub fn take_off(&mut self, _alloc: Global, id: u64) -> Result<(), Refusal>
+        ensures { Carries result (sight B.heard self.old) (sight B.heard self.new) (take_off_plan id) }
+    {
+        if let Walk::Found(depth) = open_walk(&self.change.stack, id) {
+            self.take_off_at(depth);
+        }
+        Ok(())
+    }
+
+    /// Takes the own entry of this id out of the list, where it stands there.
+    pub fn remove_entry(&mut self, _alloc: Global, id: u64) -> Result<(), Refusal>
+        ensures { Carries result (sight B.heard self.old) (sight B.heard self.new) (remove_entry_plan id) }
+    {
+        if let Walk::Found(depth) = listed_walk(&self.change.formatting, id) {
+            self.change.formatting.take_out(depth);
+        }
+        Ok(())
+    }
+
+    /// Whether an own entry has this id.
+    pub fn has_entry(&self, id: u64) -> bool
+        ensures { result ≡ has_entry id self.now.change.formatting }
+    {
+        is_listed(&self.change.formatting, id)
+    }
+}
+
+/// Whether an entry of the list has this id.
+fn is_listed(list: &Stack<FormattingEntry>, id: u64) -> bool
+    ensures { result ≡ has_entry id list.now }
+{
+    for depth in 0..list.len() {
+        if is_entry(list.at(depth), id) {
+            return true;
+        }
+    }
+    false
+}
+
+/// Whether the entry has this id.
+fn is_entry(entry: &FormattingEntry, wanted: u64) -> bool
+    ensures { result ≡ is_entry wanted entry.now }
+{
+    match entry {
+        FormattingEntry::Marker => false,
+        FormattingEntry::Element { id, .. } => *id == wanted,
+    }
+}
+
+ghost use Rattle.hp_views.specs.RemovePlans.{is_entry};

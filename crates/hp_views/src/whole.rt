@@ -1,0 +1,143 @@
+//! A view that is a whole state: how it begins and ends.
+ghost use Rattle.std.specs.Prelude.{◌≡◌, Option};
+ghost use Rattle.hp_control.specs.States.{IsValid};
+ghost use Rattle.hp_control.specs.Faithful.{StandsOn, state_over};
+ghost use Rattle.hp_control.specs.Nothing.{nothing};
+ghost use Rattle.hp_views.specs.Begins.{form_of as spec_form_of, form_left as spec_form_left, head_of as spec_head_of, quirks_of as spec_quirks_of, whole_of, with_lexer};
+ghost use Rattle.hp_views.specs.View.{page_of, split_of};
+
+use crate::view::{PageFacts, View};
+use hp_control::{Change, Control, Edits, FormChange, Nothing};
+use hp_tokens::LexState;
+
+/// Where the form pointer points, as what became of an empty one.
+fn form_of(form: Option<u64>) -> FormChange
+    ensures { result ≡ spec_form_of form }
+{
+    match form {
+        Some(id) => FormChange::Own(id),
+        None => FormChange::Cleared,
+    }
+}
+
+/// Where the form pointer points after that became of an empty one.
+fn form_left(form: FormChange) -> Option<u64>
+    ensures { result ≡ spec_form_left form }
+{
+    match form {
+        FormChange::Own(id) => Some(id),
+        FormChange::Kept | FormChange::Cleared => None,
+    }
+}
+
+fn head_of(page: Option<PageFacts>) -> Option<u64>
+    ensures { result ≡ spec_head_of (page_of page) }
+{
+    match page {
+        Some(facts) => facts.head,
+        None => None,
+    }
+}
+
+fn quirks_of(page: Option<PageFacts>) -> bool
+    ensures { result ≡ spec_quirks_of (page_of page) }
+{
+    match page {
+        Some(facts) => facts.quirks,
+        None => false,
+    }
+}
+
+impl<'p> View<'p, Nothing> {
+    /// The view that is this state, all of which is its own. It takes no memory.
+    pub fn whole(control: Control) -> View<'p, Nothing>
+        ensures whole { split_of result ≡ whole_of control }
+        ensures state { state_over (split_of result) nothing ≡ control }
+        ensures stands { StandsOn nothing (split_of result) }
+    {
+        let Control {
+            lex,
+            mode,
+            original,
+            templates,
+            stack,
+            formatting,
+            head,
+            form,
+            frameset_ok,
+            quirks,
+            pending,
+            skip_lf,
+            next,
+        } = control;
+        View {
+            below: Nothing,
+            change: Change {
+                popped: 0,
+                cuts: 0,
+                stack,
+                formatting,
+                lex,
+                last_tag_set: true,
+                mode,
+                original,
+                templates,
+                form: form_of(form),
+                frameset_off: !frameset_ok,
+                pending,
+                skip_lf,
+                made: next,
+            },
+            edits: Edits::new(),
+            older_text: false,
+            page: Some(PageFacts { head, quirks }),
+        }
+    }
+
+    /// Ends the view: its state, with this state of the lexer, and the edits that were made.
+    pub fn into_control(self, lex: LexState) -> (Control, Edits<'p>)
+        requires valid { IsValid (with_lexer lex (state_over (split_of self) nothing)) }
+        ensures state { result.0 ≡ with_lexer lex (state_over (split_of self.entry) nothing) }
+        ensures edits { result.1 ≡ self.entry.edits }
+    {
+        let View {
+            below: _,
+            change,
+            edits,
+            older_text: _,
+            page,
+        } = self;
+        let Change {
+            popped: _,
+            cuts: _,
+            stack,
+            formatting,
+            lex: _,
+            last_tag_set: _,
+            mode,
+            original,
+            templates,
+            form,
+            frameset_off,
+            pending,
+            skip_lf,
+            made,
+        } = change;
+        let control = Control {
+            lex,
+            mode,
+            original,
+            templates,
+            stack,
+            formatting,
+            head: head_of(page),
+            form: form_left(form),
+            frameset_ok: !frameset_off,
+            quirks: quirks_of(page),
+            pending,
+            skip_lf,
+            next: made,
+        };
+        (control, edits)
+    }
+}
