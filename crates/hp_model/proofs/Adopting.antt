@@ -67,26 +67,26 @@ id-found wanted [] spot h a = absurd (none_found spot h)
 id-found wanted (Marker ∷ es) spot h a =
     let (x, found) = mapped lower (find_id wanted es) spot h in
     subst (λ s. IsEntry s (Marker ∷ es)) found.1 (is_entry_later x Marker es (id-found wanted es x found.0 (All-tail IsFormatting Marker es a)))
-id-found wanted (Element id tag ∷ es) spot h a = go (id == wanted) h
+id-found wanted (Element id tag ∷ es) spot h a = go (id == wanted) h (λ x found. id-found wanted es x found (All-tail IsFormatting (Element id tag) es a))
   where
-    go : (b : Bool) → (if b then Some (record { depth = 0; id = id; tag = tag }) else option_map lower (find_id wanted es)) ≡ Some spot → IsEntry spot (Element id tag ∷ es)
-    go true k = subst (λ s. IsEntry s (Element id tag ∷ es)) (same_spot (record { depth = 0; id = id; tag = tag }) spot k)
+    go : (b : Bool) → (if b then Some (record { depth = 0; id = id; tag = tag }) else option_map lower (find_id wanted es)) ≡ Some spot → ((x : Spot) → find_id wanted es ≡ Some x → IsEntry x es) → IsEntry spot (Element id tag ∷ es)
+    go true k later = subst (λ s. IsEntry s (Element id tag ∷ es)) (same_spot (record { depth = 0; id = id; tag = tag }) spot k)
         (record { formatting = All-head IsFormatting (Element id tag) es a; listed = entry_here id tag es })
-    go false k =
+    go false k later =
         let (x, found) = mapped lower (find_id wanted es) spot k in
-        subst (λ s. IsEntry s (Element id tag ∷ es)) found.1 (is_entry_later x (Element id tag) es (id-found wanted es x found.0 (All-tail IsFormatting (Element id tag) es a)))
+        subst (λ s. IsEntry s (Element id tag ∷ es)) found.1 (is_entry_later x (Element id tag) es (later x found.0))
 
 pub name-found : (name : List ℕ) (es : List FormattingEntry) (spot : Spot) → find_name name es ≡ Some spot → All IsFormatting es → IsEntry spot es
 name-found name [] spot h a = absurd (none_found spot h)
 name-found name (Marker ∷ es) spot h a = absurd (none_found spot h)
-name-found name (Element id tag ∷ es) spot h a = go (bytes_eq name tag.name) h
+name-found name (Element id tag ∷ es) spot h a = go (bytes_eq name tag.name) h (λ x found. name-found name es x found (All-tail IsFormatting (Element id tag) es a))
   where
-    go : (b : Bool) → (if b then Some (record { depth = 0; id = id; tag = tag }) else option_map lower (find_name name es)) ≡ Some spot → IsEntry spot (Element id tag ∷ es)
-    go true k = subst (λ s. IsEntry s (Element id tag ∷ es)) (same_spot (record { depth = 0; id = id; tag = tag }) spot k)
+    go : (b : Bool) → (if b then Some (record { depth = 0; id = id; tag = tag }) else option_map lower (find_name name es)) ≡ Some spot → ((x : Spot) → find_name name es ≡ Some x → IsEntry x es) → IsEntry spot (Element id tag ∷ es)
+    go true k later = subst (λ s. IsEntry s (Element id tag ∷ es)) (same_spot (record { depth = 0; id = id; tag = tag }) spot k)
         (record { formatting = All-head IsFormatting (Element id tag) es a; listed = entry_here id tag es })
-    go false k =
+    go false k later =
         let (x, found) = mapped lower (find_name name es) spot k in
-        subst (λ s. IsEntry s (Element id tag ∷ es)) found.1 (is_entry_later x (Element id tag) es (name-found name es x found.0 (All-tail IsFormatting (Element id tag) es a)))
+        subst (λ s. IsEntry s (Element id tag ∷ es)) found.1 (is_entry_later x (Element id tag) es (later x found.0))
 
 -- its id isn't the root's
 pub entry-id : (next : ℕ) (spot : Spot) (es : List FormattingEntry) → AreIds 1 next (entry_ids es) → IsEntry spot es → 1 < spot.id
@@ -224,7 +224,7 @@ block-parts p [] block h = absurd (none h)
   where
     none : None ≡ Some block → ⊥
     none k = cc
-block-parts p (e ∷ es) block h = go (furthest es) refl h
+block-parts p (e ∷ es) block h = go (furthest es) refl h (block-parts p es)
   where
     same : (a b : Seat) → Some a ≡ Some b → a ≡ b
     same a b k = cc
@@ -237,10 +237,10 @@ block-parts p (e ∷ es) block h = go (furthest es) refl h
         (let z : tally p [] ≡ 0 = tally-nil p in let f : tally p (e ∷ es) ≡ one (p e) + tally p es = tally-cons p e es in omega arith)
     here false k = absurd (none k)
 
-    go : (o : Option Seat) → furthest es ≡ o → nearer e o ≡ Some block → tally p (take block.depth (e ∷ es)) + one (p block.element) + tally p (drop (block.depth + 1) (e ∷ es)) ≤ tally p (e ∷ es)
-    go None g k = here (is_within (kinds.Set sets.Special) e) k
-    go (Some seat) g k = subst (λ (s : Seat). tally p (take s.depth (e ∷ es)) + one (p s.element) + tally p (drop (s.depth + 1) (e ∷ es)) ≤ tally p (e ∷ es)) (same (record { depth = suc seat.depth; element = seat.element }) block k)
-        (let rest : tally p (take seat.depth es) + one (p seat.element) + tally p (drop (seat.depth + 1) es) ≤ tally p es = block-parts p es seat g in
+    go : (o : Option Seat) → furthest es ≡ o → nearer e o ≡ Some block → ((seat : Seat) → furthest es ≡ Some seat → tally p (take seat.depth es) + one (p seat.element) + tally p (drop (seat.depth + 1) es) ≤ tally p es) → tally p (take block.depth (e ∷ es)) + one (p block.element) + tally p (drop (block.depth + 1) (e ∷ es)) ≤ tally p (e ∷ es)
+    go None g k later = here (is_within (kinds.Set sets.Special) e) k
+    go (Some seat) g k later = subst (λ (s : Seat). tally p (take s.depth (e ∷ es)) + one (p s.element) + tally p (drop (s.depth + 1) (e ∷ es)) ≤ tally p (e ∷ es)) (same (record { depth = suc seat.depth; element = seat.element }) block k)
+        (let rest : tally p (take seat.depth es) + one (p seat.element) + tally p (drop (seat.depth + 1) es) ≤ tally p es = later seat g in
         let f : tally p (e ∷ es) ≡ one (p e) + tally p es = tally-cons p e es in
         let t : tally p (e ∷ take seat.depth es) ≡ one (p e) + tally p (take seat.depth es) = tally-cons p e (take seat.depth es) in
         let j : suc seat.depth + 1 ≡ suc (seat.depth + 1) = omega arith in

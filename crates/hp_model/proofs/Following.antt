@@ -56,16 +56,16 @@ use Rattle.hp_model.proofs.Courses.{standing-rooted, ready, thin, push, push_htm
 template-told : (id : ℕ) (tag : Tag) → is_html_space tag.namespace ≡ true → is_template (element_for id tag) ≡ kind_is_template (Start (known_of tag.name))
 template-told id tag h = rw h (go (known_of tag.name) refl)
   where
-    go : (o : Option Known) → known_of tag.name ≡ o → bytes_eq tag.name (text_of known.Template) ≡ kind_is_template (Start o)
-    go (Some k) e = ap (λ t. bytes_eq t (text_of known.Template)) (sym (found_text tag.name k e))
-    go None e = unknown_name e (bytes_eq tag.name (text_of known.Template)) refl
-
     none_some : None ≡ Some known.Template → ⊥
     none_some k = cc
 
     unknown_name : known_of tag.name ≡ None → (b : Bool) → bytes_eq tag.name (text_of known.Template) ≡ b → b ≡ false
     unknown_name e false f = refl
     unknown_name e true f = absurd (none_some (sym e ∙ (ap known_of (equal_bytes true tag.name (text_of known.Template) (sym f) refl) ∙ known_of_text known.Template)))
+
+    go : (o : Option Known) → known_of tag.name ≡ o → bytes_eq tag.name (text_of known.Template) ≡ kind_is_template (Start o)
+    go (Some k) e = ap (λ t. bytes_eq t (text_of known.Template)) (sym (found_text tag.name k e))
+    go None e = unknown_name e (bytes_eq tag.name (text_of known.Template)) refl
 
 formatting-told : (name : List ℕ) → is_formatting_start (Start (known_of name)) ≡ true → in_set sets.Formatting Html name ≡ true
 formatting-told name h = go (known_of name) refl h
@@ -107,7 +107,7 @@ insert_along fostering (token.Start self_closing tag) read v n s g h =
     let parts = and_parts (is_standing v.base) _ h in
     let inner = and_parts (is_start (Start (known_of tag.name))) _ parts.1 in
     push true (kind_is_template (Start (known_of tag.name))) tag v n s g parts.0 (ap is_html_space read) (λ e. absurd (true≢false e)) (template-told s.next tag (ap is_html_space read)) inner.1
-insert_along fostering t read v n s g h = absurd (true≢false (sym (and_parts (is_start (kind_of t)) _ (and_parts (is_standing v.base) _ h).1).0))
+insert_along fostering t read v n s g h = absurd (true≢false (sym (and_parts (is_start (kind_of t)) (not (kind_is_template (kind_of t)) || has_room v.room) (and_parts (is_standing v.base) (is_start (kind_of t) && (not (kind_is_template (kind_of t)) || has_room v.room)) h).1).0))
 
 insert_html_along : (t : Token) → IsRead t → (v : Course) (n : ℕ) (s : ControlState) → Along v n s → fits (kind_of t) act.InsertHtml v ≡ true → Along (after (kind_of t) act.InsertHtml v) n (record s { stack = element_for s.next (tag_of t) ∷ s.stack; next = s.next + 1 })
 insert_html_along (token.Start self_closing tag) read v n s g h =
@@ -262,6 +262,10 @@ made_made : (b : Bool) (st : List OpenElement) (list : List FormattingEntry) (hd
 made_made true st list hd next h m = m
 made_made false st list hd next h m = absurd (true≢false (sym h))
 
+made_marked : (b : Bool) (st : List OpenElement) (list : List FormattingEntry) (hd : Option ℕ) (next : ℕ) → MadeIs b st list hd next → MadeIs b st (Marker ∷ list) hd next
+made_marked true st list hd next m = record { above = m.above; below = m.below; unlisted = m.unlisted; not_head = m.not_head }
+made_marked false st list hd next m = tt
+
 formatting_entry : (t : Token) (id : ℕ) → IsRead t → is_formatting_start (kind_of t) ≡ true → IsFormatting (Element id (tag_of t))
 formatting_entry (token.Start self_closing tag) id read h = (read, subst (λ space. in_set sets.Formatting space tag.name ≡ true) (sym read) (formatting-told tag.name h))
 formatting_entry t id read h = absurd (true≢false (sym h))
@@ -350,7 +354,7 @@ act_along fostering t read act.EndForm v n s g h = thin_by v n s _ h g thinning_
 act_along fostering t read act.CloseLink v n s g h = thin_by v n s _ h g (thinning_close_link fostering)
 act_along fostering t read (act.Adopt which) v n s g h = thin_by v n s _ h g (thinning_adopt fostering _)
 act_along fostering t read act.AppendToList v n s g h = let parts = and_parts (is_formatting_start (kind_of t)) (is_above v.base && v.made) h in let inner = and_parts (is_above v.base) v.made parts.1 in append_along v n s (tag_of t) g (above-standing v.base inner.0) (made_made v.made s.stack s.formatting s.head s.next inner.1 g.made) (formatting_entry t (current_id s.stack) read parts.0)
-act_along fostering t read act.Marker v n s g h = record { base = g.base; count = g.count; place = g.place; original = g.original; pending = g.pending; room = g.room; there = g.there; made = g.made; template_modes = g.template_modes; formatting = All-cons IsFormatting Marker s.formatting tt g.formatting; stack_ids = g.stack_ids; list_ids = g.list_ids; head = g.head; form = g.form; lex = g.lex }
+act_along fostering t read act.Marker v n s g h = record { base = g.base; count = g.count; place = g.place; original = g.original; pending = g.pending; room = g.room; there = g.there; made = made_marked v.made s.stack s.formatting s.head s.next g.made; template_modes = g.template_modes; formatting = All-cons IsFormatting Marker s.formatting tt g.formatting; stack_ids = g.stack_ids; list_ids = g.list_ids; head = g.head; form = g.form; lex = g.lex }
 act_along fostering t read act.ClearToMarker v n s g h = clear_along v n s _ h g (λ i. cleared-few i s.formatting) (cleared-formatting s.formatting g.formatting)
 act_along fostering t read act.HeadPointer v n s g h = let m = made_made v.made s.stack s.formatting s.head s.next (and_parts (is_above v.base) v.made h).1 g.made in record { base = g.base; count = g.count; place = g.place; original = g.original; pending = g.pending; room = g.room; there = g.there; made = tt; template_modes = g.template_modes; formatting = g.formatting; stack_ids = g.stack_ids; list_ids = g.list_ids; head = (m.above, m.below); form = g.form; lex = g.lex }
 act_along fostering t read act.FormPointer v n s g h = let m = made_made v.made s.stack s.formatting s.head s.next (and_parts (is_above v.base) v.made h).1 g.made in record { base = g.base; count = g.count; place = g.place; original = g.original; pending = g.pending; room = g.room; there = g.there; made = g.made; template_modes = g.template_modes; formatting = g.formatting; stack_ids = g.stack_ids; list_ids = g.list_ids; head = g.head; form = (m.above, m.below); lex = g.lex }

@@ -14,3 +14,4 @@ pub mod Tests
 pub mod Walking
 pub mod Weights
 pub mod Handled
+pub mod Finding
