@@ -137,10 +137,13 @@ are_ids low next [] a b = tt
 are_ids low next (x ∷ xs) a b =
     let here : tally (is_id x) (x ∷ xs) ≡ tally (is_id x) xs + 1 = tally-yes (is_id x) x xs (eqb-same x) in
     let most : tally (is_id x) (x ∷ xs) ≤ 1 = a x in
-    let bounds = b x (omega arith) in
-    (bounds.0, bounds.1, none-new x xs (omega arith),
-    are_ids low next xs (λ i. let t : tally (is_id i) xs ≤ tally (is_id i) (x ∷ xs) = tally-tail (is_id i) x xs in let u : tally (is_id i) (x ∷ xs) ≤ 1 = a i in omega arith)
-    (λ i k. let t : tally (is_id i) xs ≤ tally (is_id i) (x ∷ xs) = tally-tail (is_id i) x xs in b i (omega arith)))
+    let bounds = b x (omega arith) in (
+      bounds.0,
+      bounds.1,
+      none-new x xs (omega arith),
+      are_ids low next xs (λ i. let t : tally (is_id i) xs ≤ tally (is_id i) (x ∷ xs) = tally-tail (is_id i) x xs in let u : tally (is_id i) (x ∷ xs) ≤ 1 = a i in omega arith)
+          (λ i k. let t : tally (is_id i) xs ≤ tally (is_id i) (x ∷ xs) = tally-tail (is_id i) x xs in b i (omega arith)),
+    )
 
 -- of ids below a number some may go, and those from there on may come
 module _ (low n m : ℕ) (old new : List ℕ) (l : low < n) (k : n ≤ m) (h : (i : ℕ) → tally (is_id i) new ≤ tally (is_id i) old + between n m i) (a : AreIds low n old) where

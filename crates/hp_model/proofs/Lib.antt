@@ -15,3 +15,4 @@ pub mod Walking
 pub mod Weights
 pub mod Handled
 pub mod Finding
+pub mod Running

@@ -45,10 +45,10 @@ keeps_then n m l a b c h k f g = record {
   templates = let d : tally is_template b ≤ tally is_template a = f.templates in let e : tally is_template c ≤ tally is_template b = g.templates in omega arith;
   rooted = λ r. g.rooted (f.rooted r);
   ids = λ i.
-    let d : tally (has_id i) b ≤ tally (has_id i) a + between n m i = f.ids i in
-    let e : tally (has_id i) c ≤ tally (has_id i) b + between m l i = g.ids i in
-    let w : between n m i + between m l i ≤ between n l i = between-then n m l i h k in
-    omega arith;
+      let d : tally (has_id i) b ≤ tally (has_id i) a + between n m i = f.ids i in
+      let e : tally (has_id i) c ≤ tally (has_id i) b + between m l i = g.ids i in
+      let w : between n m i + between m l i ≤ between n l i = between-then n m l i h k in
+      omega arith;
 }
 
 -- where none is tallied more often, the rest is the root

@@ -203,9 +203,9 @@ renewing fostering depth id tag h c r = record {
   next = omega arith;
   stack = formatting_pushed c.next c.next tag c.stack refl h.1;
   list = λ i.
-    let e : tally (entry_is i) (spliced depth 1 (Element c.next tag ∷ []) c.formatting) ≤ tally (entry_is i) c.formatting + tally (entry_is i) (Element c.next tag ∷ []) = spliced-few (entry_is i) depth 1 (Element c.next tag ∷ []) c.formatting in
-    let f : tally (entry_is i) (Element c.next tag ∷ []) ≤ between c.next (c.next + 1) i = entry_new c.next tag i in
-    omega arith;
+      let e : tally (entry_is i) (spliced depth 1 (Element c.next tag ∷ []) c.formatting) ≤ tally (entry_is i) c.formatting + tally (entry_is i) (Element c.next tag ∷ []) = spliced-few (entry_is i) depth 1 (Element c.next tag ∷ []) c.formatting in
+      let f : tally (entry_is i) (Element c.next tag ∷ []) ≤ between c.next (c.next + 1) i = entry_new c.next tag i in
+      omega arith;
   formatting = spliced-formatting depth 1 (Element c.next tag ∷ []) c.formatting (one_entry c.next tag h) r.formatting;
   form = same c.form;
   alike = record { mode = refl; original = refl; pending = refl; templates = refl; head = refl; lex = refl };
@@ -246,7 +246,7 @@ thinning_reconstruct fostering c r = thinning_renew_down fostering (stale c.stac
 pub thinning_strike : (entry : Spot) → Thinning (strike entry)
 thinning_strike entry c r = thins_list c (edit_at entry.id 1 [] c.formatting)
     (λ i.
-      let e : tally (entry_is i) (edit_at entry.id 1 [] c.formatting) ≤ tally (entry_is i) c.formatting + tally (entry_is i) [] = edited-few (entry_is i) entry.id 1 [] c.formatting in
-      let z : tally (entry_is i) [] ≡ 0 = tally-nil (entry_is i) in
-      omega arith)
+    let e : tally (entry_is i) (edit_at entry.id 1 [] c.formatting) ≤ tally (entry_is i) c.formatting + tally (entry_is i) [] = edited-few (entry_is i) entry.id 1 [] c.formatting in
+    let z : tally (entry_is i) [] ≡ 0 = tally-nil (entry_is i) in
+    omega arith)
     (edited-formatting entry.id 1 [] c.formatting (All-nil IsFormatting) r.formatting)

@@ -7,3 +7,4 @@ pub mod Examples
 pub mod Finding
 pub mod Laws
 pub mod Whole
+pub mod Runs
