@@ -44,11 +44,10 @@ struct Grown {
 
 /// Makes room for 64 edits without attributes.
 fn make_room(alloc: Global, tree: &mut Tree<'_>) -> Result<(), NoMemory> {
-    let mut edits = Edits::new(alloc);
+    let mut edits = Edits::new();
     for _ in 0..64 {
-        edits.push(Edit::Detach {
-            node: Ref::Fixed(0),
-        })?;
+        let node = Ref::Fixed(0);
+        edits.push(alloc, Edit::Detach { node })?;
     }
     tree.reserve(alloc, &edits)
 }
