@@ -1,5 +1,5 @@
 -- What of a token is given to the tree or the list, and what stays of it.
-use Rattle.std.specs.Prelude.{◌≡◌, ℕ, Bool, List, []}
+use Rattle.std.specs.Prelude.{◌≡◌}
 use Rattle.hp_elements.specs.Tokens.{kind_of}
 use Rattle.hp_elements.specs.declared.sets.Namespace.TheVariants.{Html}
 use Rattle.hp_elements.specs.declared.tag.Tag.{Tag}
@@ -15,12 +15,6 @@ html_tag t = record { namespace = Html; name = name_of t; attributes = (tag_of t
 abbrev pub as_html : Token → Token
 as_html (token.Start self_closing tag) = token.Start self_closing (html_tag (token.Start self_closing tag))
 as_html t = t
-
--- characters and comments have a text
-abbrev pub text_in : Token → List ℕ
-text_in (token.Characters class text) = text
-text_in (token.Comment text) = text
-text_in _ = []
 
 -- one that gave its text or its attributes away is still what it was
 pub record IsLeftOf (t left : Token) : Type 0 where

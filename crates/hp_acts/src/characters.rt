@@ -1,7 +1,19 @@
 //! The acts that put characters, comments and the doctype into the tree.
-use crate::token_parts::{Spending, take_text};
+ghost use Rattle.std.specs.Prelude.{◌≡◌, [], IfOk, OnOk, unwrap_or};
+ghost use Rattle.hp_elements.specs.Quirks.{gives_quirks as spec_gives_quirks};
+ghost use Rattle.hp_control.specs.declared.edit.Child.TheVariants as child;
+ghost use Rattle.hp_views.specs.FieldPlans.{append_pending_plan};
+ghost use Rattle.hp_views.specs.PlacePlans.{put_plan, put_document_plan, put_first_plan};
+ghost use Rattle.hp_views.specs.View.{sight, Carries};
+ghost use Rattle.hp_foreign.specs.Plans.{put_replacements_plan};
+ghost use Rattle.hp_model.specs.Tokens.{characters, comment, doctype_of, parts_of};
+ghost use Rattle.hp_acts.specs.Plans.{quirks_of_plan};
+ghost use Rattle.hp_acts.specs.Spending.{IsLeftOf};
+ghost use Rattle.hp_acts.specs.declared.token_parts.Spending.TheVariants.{Copies};
+
+use crate::token_parts::{Spending, take_characters, take_comment};
 use hp_control::{Below, Child, Refusal};
-use hp_elements::{Doctype, Text, Token};
+use hp_elements::{Doctype, NoMemory, Text, Token};
 use hp_foreign::put_replacements;
 use hp_views::View;
 use std::alloc::Global;
@@ -13,8 +25,12 @@ pub(crate) fn put_characters<'p, B: Below>(
     token: &mut Token<'p>,
     spending: Spending,
     fostering: bool,
-) -> Result<(), Refusal> {
-    let text = take_text(alloc, token, spending)?;
+) -> Result<(), Refusal>
+    ensures plan { Carries result (sight B.heard view.old) (sight B.heard view.new) (put_plan fostering (child.Text (characters token.old))) }
+    ensures left { OnOk result (IsLeftOf token.old token.new) }
+    ensures copies { spending ≡ Copies → token.new ≡ token.old }
+{
+    let text = take_characters(alloc, token, spending)?;
     view.put(alloc, fostering, Child::Text(text))
 }
 
@@ -25,8 +41,12 @@ pub(crate) fn put_comment<'p, B: Below>(
     token: &mut Token<'p>,
     spending: Spending,
     fostering: bool,
-) -> Result<(), Refusal> {
-    let text = take_text(alloc, token, spending)?;
+) -> Result<(), Refusal>
+    ensures plan { Carries result (sight B.heard view.old) (sight B.heard view.new) (put_plan fostering (child.Comment (comment token.old))) }
+    ensures left { OnOk result (IsLeftOf token.old token.new) }
+    ensures copies { spending ≡ Copies → token.new ≡ token.old }
+{
+    let text = take_comment(alloc, token, spending)?;
     view.put(alloc, fostering, Child::Comment(text))
 }
 
@@ -36,8 +56,12 @@ pub(crate) fn comment_into_document<'p, B: Below>(
     view: &mut View<'p, B>,
     token: &mut Token<'p>,
     spending: Spending,
-) -> Result<(), Refusal> {
-    let text = take_text(alloc, token, spending)?;
+) -> Result<(), Refusal>
+    ensures plan { Carries result (sight B.heard view.old) (sight B.heard view.new) (put_document_plan (child.Comment (comment token.old))) }
+    ensures left { OnOk result (IsLeftOf token.old token.new) }
+    ensures copies { spending ≡ Copies → token.new ≡ token.old }
+{
+    let text = take_comment(alloc, token, spending)?;
     view.put_into_document(alloc, Child::Comment(text))
 }
 
@@ -47,8 +71,12 @@ pub(crate) fn comment_into_first<'p, B: Below>(
     view: &mut View<'p, B>,
     token: &mut Token<'p>,
     spending: Spending,
-) -> Result<(), Refusal> {
-    let text = take_text(alloc, token, spending)?;
+) -> Result<(), Refusal>
+    ensures plan { Carries result (sight B.heard view.old) (sight B.heard view.new) (put_first_plan (child.Comment (comment token.old))) }
+    ensures left { OnOk result (IsLeftOf token.old token.new) }
+    ensures copies { spending ≡ Copies → token.new ≡ token.old }
+{
+    let text = take_comment(alloc, token, spending)?;
     view.put_into_first(alloc, Child::Comment(text))
 }
 
@@ -58,10 +86,12 @@ pub(crate) fn put_replaced<'p, B: Below>(
     view: &mut View<'p, B>,
     token: &Token<'p>,
     fostering: bool,
-) -> Result<(), Refusal> {
+) -> Result<(), Refusal>
+    ensures plan { Carries result (sight B.heard view.old) (sight B.heard view.new) (put_replacements_plan fostering (characters token.now)) }
+{
     match token {
         Token::Characters { text, .. } => put_replacements(alloc, view, fostering, text),
-        _ => Ok(()),
+        _ => put_replacements(alloc, view, fostering, &Text::new()),
     }
 }
 
@@ -70,22 +100,28 @@ pub(crate) fn append_pending<'p, B: Below>(
     alloc: Global,
     view: &mut View<'p, B>,
     token: &Token<'p>,
-) -> Result<(), Refusal> {
+) -> Result<(), Refusal>
+    ensures plan { Carries result (sight B.heard view.old) (sight B.heard view.new) (append_pending_plan (characters token.now)) }
+{
     match token {
         Token::Characters { text, .. } => view.append_pending(alloc, text),
-        _ => Ok(()),
+        _ => view.append_pending(alloc, &Text::new()),
     }
 }
 
 /// A part of a doctype; the empty text where it is missing.
-fn part_or_empty(part: Option<Text<'_>>) -> Text<'_> {
+fn part_or_empty(part: Option<Text<'_>>) -> Text<'_>
+    ensures { result ≡ unwrap_or part.entry [] }
+{
     match part {
         Some(text) => text,
         None => Text::new(),
     }
 }
 
-fn child_of<'p>(doctype: Doctype<'p>) -> Child<'p> {
+fn child_of<'p>(doctype: Doctype<'p>) -> Child<'p>
+    ensures { result ≡ doctype_of doctype.entry }
+{
     let parts = doctype.into_parts();
     Child::Doctype {
         name: part_or_empty(parts.name),
@@ -94,26 +130,39 @@ fn child_of<'p>(doctype: Doctype<'p>) -> Child<'p> {
     }
 }
 
+/// The doctype that the token is, as a child; one without parts for another token.
+fn doctype_child(alloc: Global, token: &Token<'_>) -> Result<Child<'static>, NoMemory>
+    ensures { IfOk result (λ child. child ≡ doctype_of (parts_of token.now)) }
+{
+    match token {
+        Token::Doctype { doctype } => Ok(child_of(doctype.copy(alloc)?)),
+        _ => Ok(Child::Doctype {
+            name: Text::new(),
+            public: None,
+            system: None,
+        }),
+    }
+}
+
 /// Puts the doctype into the document. The token keeps it.
 pub(crate) fn put_doctype<'p, B: Below>(
     alloc: Global,
     view: &mut View<'p, B>,
     token: &Token<'p>,
-) -> Result<(), Refusal> {
-    match token {
-        Token::Doctype { doctype } => {
-            let child = child_of(doctype.copy(alloc)?);
-            view.put_into_document(alloc, child)
-        }
-        _ => Ok(()),
-    }
+) -> Result<(), Refusal>
+    ensures plan { Carries result (sight B.heard view.old) (sight B.heard view.new) (put_document_plan (doctype_of (parts_of token.now))) }
+{
+    let child = doctype_child(alloc, token)?;
+    view.put_into_document(alloc, child)
 }
 
-/// Whether the token is a doctype that puts the page into quirks mode.
-fn gives_quirks(token: &Token<'_>) -> bool {
+/// Whether the doctype puts the page into quirks mode; another token does.
+fn gives_quirks(token: &Token<'_>) -> bool
+    ensures { result ≡ spec_gives_quirks (parts_of token.now) }
+{
     match token {
         Token::Doctype { doctype } => doctype.parts().gives_quirks(),
-        _ => false,
+        _ => true,
     }
 }
 
@@ -122,7 +171,9 @@ pub(crate) fn quirks_of_doctype<'p, B: Below>(
     alloc: Global,
     view: &mut View<'p, B>,
     token: &Token<'p>,
-) -> Result<(), Refusal> {
+) -> Result<(), Refusal>
+    ensures plan { Carries result (sight B.heard view.old) (sight B.heard view.new) (quirks_of_plan (parts_of token.now)) }
+{
     if gives_quirks(token) {
         view.set_quirks(alloc)
     } else {

@@ -1,5 +1,10 @@
 //! One token, handled whole (13.2.6).
+ghost use Rattle.std.specs.Prelude.{◌≡◌, ◌<◌, true, IfOk};
+ghost use Rattle.hp_elements.specs.Rules.{goes_later};
+ghost use Rattle.hp_acts.specs.Handling.{GoesBy, GoesLater};
+
 use crate::carry::{carry, carry_out};
+use crate::plain::{is_plain, put_plain};
 use crate::rows::{Row, foreign_row, row_in};
 use crate::token_parts::{Spending, after_line_feed, rename};
 use hp_control::{Below, Crossing, Refusal};
@@ -20,7 +25,8 @@ pub struct Handled {
     pub stopped: bool,
 }
 
-const NOTHING: Handled = Handled {
+/// Where nothing is asked of it.
+pub(crate) const NOTHING: Handled = Handled {
     switch: None,
     stopped: false,
 };
@@ -77,6 +83,8 @@ fn spending_at(row: Row, at: u32, act: Act) -> Spending {
 enum Next {
     /// With the act at that place.
     At(u32),
+    /// With the rules of a mode, which are used with fostering on or off, and then with the act behind.
+    Rules(Mode, bool),
     /// Not at all.
     Done,
     /// Not at all, and the token is handled again.
@@ -95,10 +103,17 @@ fn carry_row<'p, B: Below>(
 ) -> Result<bool, Refusal> {
     let mut at = 0;
     while let Some(act) = row.act(at) {
-        match step(alloc, view, turn, row, at, act, fostering, depth)? {
+        match step(alloc, view, turn, row, at, act, fostering)? {
             Next::At(next) => at = next,
             Next::Done => return Ok(false),
             Next::Again => return Ok(true),
+            Next::Rules(mode, fostering) => {
+                let used = row_in(mode, &turn.token);
+                if depth > 0 && carry_row(alloc, view, turn, used, fostering, depth - 1)? {
+                    return Ok(true);
+                }
+                at += 1;
+            }
         }
     }
     Ok(false)
@@ -113,8 +128,12 @@ fn step<'p, B: Below>(
     at: u32,
     act: Act,
     fostering: bool,
-    depth: u32,
-) -> Result<Next, Refusal> {
+) -> Result<Next, Refusal>
+    requires later { goes_later at act ≡ true }
+    requires short { at < 8 }
+    ensures later { IfOk result (λ next. GoesLater at next) }
+    ensures goes { IfOk result (λ next. GoesBy act at view.old.change.mode fostering next) }
+{
     match act {
         Act::Done => Ok(Next::Done),
         Act::Again => Ok(Next::Again),
@@ -122,12 +141,9 @@ fn step<'p, B: Below>(
             rename(&mut turn.token, name);
             Ok(Next::Again)
         }
-        Act::As(mode) => follow(alloc, view, turn, at, mode, fostering, depth),
-        Act::AsFostered(mode) => follow(alloc, view, turn, at, mode, true, depth),
-        Act::AsPresent => {
-            let mode = view.change.mode;
-            follow(alloc, view, turn, at, mode, fostering, depth)
-        }
+        Act::As(mode) => Ok(Next::Rules(mode, fostering)),
+        Act::AsFostered(mode) => Ok(Next::Rules(mode, true)),
+        Act::AsPresent => Ok(Next::Rules(view.change.mode, fostering)),
         Act::If { otherwise, .. } | Act::Unless { otherwise, .. } => {
             let goes_on = carry(
                 alloc,
@@ -159,39 +175,6 @@ fn step<'p, B: Below>(
     }
 }
 
-/// Uses the rules of a mode at a place of a row.
-fn follow<'p, B: Below>(
-    alloc: Global,
-    view: &mut View<'p, B>,
-    turn: &mut Turn<'p>,
-    at: u32,
-    mode: Mode,
-    fostering: bool,
-    depth: u32,
-) -> Result<Next, Refusal> {
-    if use_rules(alloc, view, turn, mode, fostering, depth)? {
-        Ok(Next::Again)
-    } else {
-        Ok(Next::At(at + 1))
-    }
-}
-
-/// Carries out the rules of a mode, where they aren't nested too deep, and answers whether the token is to be handled again.
-fn use_rules<'p, B: Below>(
-    alloc: Global,
-    view: &mut View<'p, B>,
-    turn: &mut Turn<'p>,
-    mode: Mode,
-    fostering: bool,
-    depth: u32,
-) -> Result<bool, Refusal> {
-    if depth == 0 {
-        return Ok(false);
-    }
-    let row = row_in(mode, &turn.token);
-    carry_row(alloc, view, turn, row, fostering, depth - 1)
-}
-
 /// Whether the mode is one in which the page's head isn't done yet.
 fn is_of_head(mode: Mode) -> bool {
     match mode {
@@ -220,7 +203,8 @@ fn take_turn<'p, B: Below>(
         let row = foreign_row(&turn.token);
         carry_row(alloc, view, turn, row, false, NESTING)
     } else {
-        use_rules(alloc, view, turn, mode, false, NESTING)
+        let row = row_in(mode, &turn.token);
+        carry_row(alloc, view, turn, row, false, NESTING - 1)
     }
 }
 
@@ -255,7 +239,11 @@ pub fn handle<'p, B: Below>(
     token: Token<'p>,
 ) -> Result<Handled, Refusal> {
     if !view.change.skip_lf {
-        return take_turns(alloc, view, token);
+        return if is_plain(view, &token) {
+            put_plain(alloc, view, token)
+        } else {
+            take_turns(alloc, view, token)
+        };
     }
     view.change.skip_lf = false;
     match after_line_feed(alloc, token)? {

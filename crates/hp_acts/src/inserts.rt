@@ -1,4 +1,13 @@
 //! The acts that insert an element.
+ghost use Rattle.std.specs.Prelude.{◌≡◌, OnOk};
+ghost use Rattle.hp_elements.specs.Names.{text_of};
+ghost use Rattle.hp_views.specs.PlacePlans.{insert_plan, insert_document_plan, add_first_plan, add_body_plan};
+ghost use Rattle.hp_views.specs.View.{sight, Carries};
+ghost use Rattle.hp_foreign.specs.Plans.{insert_foreign_plan, insert_as_current_plan};
+ghost use Rattle.hp_model.specs.Tokens.{bare as spec_bare, is_self_closing as spec_is_self_closing, tag_of};
+ghost use Rattle.hp_acts.specs.Spending.{html_tag, IsLeftOf};
+ghost use Rattle.hp_acts.specs.declared.token_parts.Spending.TheVariants.{Copies};
+
 use crate::token_parts::{Spending, bare, is_self_closing, take_attributes, take_tag};
 use hp_control::{Below, Refusal};
 use hp_elements::{Known, Point, Token};
@@ -13,7 +22,11 @@ pub(crate) fn insert<'p, B: Below>(
     token: &mut Token<'p>,
     spending: Spending,
     fostering: bool,
-) -> Result<(), Refusal> {
+) -> Result<(), Refusal>
+    ensures plan { Carries result (sight B.heard view.old) (sight B.heard view.new) (insert_plan fostering (html_tag token.old)) }
+    ensures left { OnOk result (IsLeftOf token.old token.new) }
+    ensures copies { spending ≡ Copies → token.new ≡ token.old }
+{
     let tag = take_tag(alloc, token, spending)?;
     view.insert(alloc, fostering, tag, Point::No)
 }
@@ -24,7 +37,9 @@ pub(crate) fn insert_bare<'p, B: Below>(
     view: &mut View<'p, B>,
     fostering: bool,
     name: Known,
-) -> Result<(), Refusal> {
+) -> Result<(), Refusal>
+    ensures plan { Carries result (sight B.heard view.old) (sight B.heard view.new) (insert_plan fostering (spec_bare (text_of name))) }
+{
     view.insert(alloc, fostering, bare(name), Point::No)
 }
 
@@ -35,7 +50,11 @@ pub(crate) fn insert_named_foreign<'p, B: Below>(
     token: &mut Token<'p>,
     spending: Spending,
     fostering: bool,
-) -> Result<(), Refusal> {
+) -> Result<(), Refusal>
+    ensures plan { Carries result (sight B.heard view.old) (sight B.heard view.new) (insert_foreign_plan fostering (spec_is_self_closing token.old) (html_tag token.old)) }
+    ensures left { OnOk result (IsLeftOf token.old token.new) }
+    ensures copies { spending ≡ Copies → token.new ≡ token.old }
+{
     let self_closing = is_self_closing(token);
     let tag = take_tag(alloc, token, spending)?;
     insert_foreign(alloc, view, fostering, self_closing, tag)
@@ -48,7 +67,11 @@ pub(crate) fn insert_like_current<'p, B: Below>(
     token: &mut Token<'p>,
     spending: Spending,
     fostering: bool,
-) -> Result<(), Refusal> {
+) -> Result<(), Refusal>
+    ensures plan { Carries result (sight B.heard view.old) (sight B.heard view.new) (insert_as_current_plan fostering (spec_is_self_closing token.old) (html_tag token.old)) }
+    ensures left { OnOk result (IsLeftOf token.old token.new) }
+    ensures copies { spending ≡ Copies → token.new ≡ token.old }
+{
     let self_closing = is_self_closing(token);
     let tag = take_tag(alloc, token, spending)?;
     insert_as_current(alloc, view, fostering, self_closing, tag)
@@ -60,7 +83,11 @@ pub(crate) fn insert_html<'p, B: Below>(
     view: &mut View<'p, B>,
     token: &mut Token<'p>,
     spending: Spending,
-) -> Result<(), Refusal> {
+) -> Result<(), Refusal>
+    ensures plan { Carries result (sight B.heard view.old) (sight B.heard view.new) (insert_document_plan (html_tag token.old)) }
+    ensures left { OnOk result (IsLeftOf token.old token.new) }
+    ensures copies { spending ≡ Copies → token.new ≡ token.old }
+{
     let tag = take_tag(alloc, token, spending)?;
     view.insert_into_document(alloc, tag)
 }
@@ -71,7 +98,11 @@ pub(crate) fn add_to_first<'p, B: Below>(
     view: &mut View<'p, B>,
     token: &mut Token<'p>,
     spending: Spending,
-) -> Result<(), Refusal> {
+) -> Result<(), Refusal>
+    ensures plan { Carries result (sight B.heard view.old) (sight B.heard view.new) (add_first_plan (tag_of token.old).attributes) }
+    ensures left { OnOk result (IsLeftOf token.old token.new) }
+    ensures copies { spending ≡ Copies → token.new ≡ token.old }
+{
     let attributes = take_attributes(alloc, token, spending)?;
     view.add_missing_to_first(alloc, attributes)
 }
@@ -82,7 +113,11 @@ pub(crate) fn add_to_body<'p, B: Below>(
     view: &mut View<'p, B>,
     token: &mut Token<'p>,
     spending: Spending,
-) -> Result<(), Refusal> {
+) -> Result<(), Refusal>
+    ensures plan { Carries result (sight B.heard view.old) (sight B.heard view.new) (add_body_plan (tag_of token.old).attributes) }
+    ensures left { OnOk result (IsLeftOf token.old token.new) }
+    ensures copies { spending ≡ Copies → token.new ≡ token.old }
+{
     let attributes = take_attributes(alloc, token, spending)?;
     view.add_missing_to_body(alloc, attributes)
 }

@@ -5,6 +5,8 @@ mod carry;
 mod characters;
 mod handle;
 mod inserts;
+mod laws;
+mod plain;
 mod questions;
 mod rows;
 mod stack_acts;
@@ -14,4 +16,5 @@ mod token_parts;
 
 pub use carry::carry;
 pub use handle::{Handled, handle};
+pub use laws::{acts_mean, tests_tell};
 pub use token_parts::Spending;

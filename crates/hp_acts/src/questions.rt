@@ -1,4 +1,13 @@
 //! What the rules test of the state and of the token.
+ghost use Rattle.std.specs.Prelude.{◌≡◌};
+ghost use Rattle.hp_control.specs.Foreign.{has_font_attribute};
+ghost use Rattle.hp_elements.specs.Names.{text_of};
+ghost use Rattle.hp_elements.specs.declared.kinds.Kinds.TheVariants as kinds;
+ghost use Rattle.hp_views.specs.View.{sight, Answers};
+ghost use Rattle.hp_foreign.specs.Plans.{names_plan};
+ghost use Rattle.hp_model.specs.Tokens.{has_hidden_type, is_hidden, name_of as spec_name_of, tag_of};
+ghost use Rattle.hp_acts.specs.Plans.{test_plan};
+
 use crate::token_parts::{html_of, name_of};
 use hp_control::{Below, Refusal};
 use hp_elements::{Attribute, Kinds, Known, Name, Test, Token, Which};
@@ -6,12 +15,16 @@ use hp_foreign::{has_font_attribute, names_foreign};
 use hp_views::View;
 use std::alloc::Global;
 
-fn is_hidden(attribute: &Attribute) -> bool {
+fn is_hidden(attribute: &Attribute) -> bool
+    ensures { result ≡ is_hidden attribute.now }
+{
     attribute.name.is(Known::Type_) && attribute.value.as_str().eq_ignore_ascii_case("hidden")
 }
 
 /// Whether the token has an attribute `type` that equals `hidden` without ASCII case.
-fn is_type_hidden(token: &Token<'_>) -> bool {
+fn is_type_hidden(token: &Token<'_>) -> bool
+    ensures { result ≡ has_hidden_type token.now }
+{
     match token {
         Token::Start { tag, .. } => tag.attributes.iter().any(is_hidden),
         _ => false,
@@ -19,14 +32,18 @@ fn is_type_hidden(token: &Token<'_>) -> bool {
 }
 
 /// Whether the token has an attribute `color`, `face` or `size`.
-fn is_font(token: &Token<'_>) -> bool {
+fn is_font(token: &Token<'_>) -> bool
+    ensures { result ≡ has_font_attribute (tag_of token.now) }
+{
     match token {
         Token::Start { tag, .. } => has_font_attribute(tag),
         _ => false,
     }
 }
 
-fn named(known: Known) -> Kinds {
+fn named(known: Known) -> Kinds
+    ensures { result ≡ kinds.Html (text_of known) }
+{
     Kinds::Html(Name::of_known(known))
 }
 
@@ -35,7 +52,9 @@ fn names_open<'p, B: Below>(
     alloc: Global,
     view: &mut View<'p, B>,
     token: &Token<'p>,
-) -> Result<bool, Refusal> {
+) -> Result<bool, Refusal>
+    ensures plan { Answers result (sight B.heard view.old) (sight B.heard view.new) (names_plan (spec_name_of token.now)) }
+{
     let name = name_of(alloc, token, Which::Its)?;
     names_foreign(alloc, view, name)
 }
@@ -46,7 +65,9 @@ pub(crate) fn holds<'p, B: Below>(
     view: &mut View<'p, B>,
     token: &Token<'p>,
     test: Test,
-) -> Result<bool, Refusal> {
+) -> Result<bool, Refusal>
+    ensures plan { Answers result (sight B.heard view.old) (sight B.heard view.new) (λ v. test_plan token.now test v) }
+{
     match test {
         Test::InScope(scope, which) => {
             let goals = html_of(alloc, token, which)?;

@@ -2,8 +2,8 @@
 ghost use Rattle.std.specs.Prelude.{◌≡◌, [], IfOk, IfSome, OnOk, MatchOption};
 ghost use Rattle.hp_elements.specs.Names.{text_of};
 ghost use Rattle.hp_elements.specs.declared.kinds.Kinds.TheVariants as kinds;
-ghost use Rattle.hp_model.specs.Tokens.{as_start, bare, is_self_closing, name_for, name_of, tag_of};
-ghost use Rattle.hp_acts.specs.Spending.{html_tag, text_in, IsLeftOf};
+ghost use Rattle.hp_model.specs.Tokens.{as_start, bare, characters, comment, is_self_closing, name_for, name_of, tag_of};
+ghost use Rattle.hp_acts.specs.Spending.{html_tag, IsLeftOf};
 ghost use Rattle.hp_acts.specs.declared.token_parts.Spending.TheVariants.{Copies};
 
 use hp_elements::{
@@ -113,21 +113,49 @@ pub(crate) fn take_tag(
     })
 }
 
-/// The text of characters or of a comment; the empty one of another token.
-pub(crate) fn take_text<'p>(
+/// A text that is moved out of its place, or copied.
+fn text_out<'p>(
+    alloc: Global,
+    text: &mut Text<'p>,
+    spending: Spending,
+) -> Result<Text<'p>, NoMemory>
+    ensures value { IfOk result (λ out. out ≡ text.old) }
+    ensures copies { spending ≡ Copies → text.new ≡ text.old }
+{
+    match spending {
+        Spending::Moves => Ok(mem::replace(text, Text::new())),
+        Spending::Copies => text.copy(alloc),
+    }
+}
+
+/// The text of characters; the empty one of another token.
+pub(crate) fn take_characters<'p>(
     alloc: Global,
     token: &mut Token<'p>,
     spending: Spending,
 ) -> Result<Text<'p>, NoMemory>
-    ensures value { IfOk result (λ text. text ≡ text_in token.old) }
+    ensures value { IfOk result (λ text. text ≡ characters token.old) }
     ensures left { OnOk result (IsLeftOf token.old token.new) }
     ensures copies { spending ≡ Copies → token.new ≡ token.old }
 {
     match token {
-        Token::Characters { text, .. } | Token::Comment { text } => match spending {
-            Spending::Moves => Ok(mem::replace(text, Text::new())),
-            Spending::Copies => text.copy(alloc),
-        },
+        Token::Characters { text, .. } => text_out(alloc, text, spending),
+        _ => Ok(Text::new()),
+    }
+}
+
+/// The text of a comment; the empty one of another token.
+pub(crate) fn take_comment<'p>(
+    alloc: Global,
+    token: &mut Token<'p>,
+    spending: Spending,
+) -> Result<Text<'p>, NoMemory>
+    ensures value { IfOk result (λ text. text ≡ comment token.old) }
+    ensures left { OnOk result (IsLeftOf token.old token.new) }
+    ensures copies { spending ≡ Copies → token.new ≡ token.old }
+{
+    match token {
+        Token::Comment { text } => text_out(alloc, text, spending),
         _ => Ok(Text::new()),
     }
 }

@@ -13,7 +13,7 @@ use std::marker::Model;
 const MOST: u64 = 3;
 
 /// The own entries after the last marker that are equal to a tag.
-#[derive(Clone, Copy, Drop)]
+#[derive(Drop)]
 pub struct Equal {
     pub count: u64,
     /// The id of the earliest.
@@ -95,11 +95,7 @@ fn make_room_by<'p, B: Below>(
 }
 
 /// Of three entries that are equal to the tag the earliest goes.
-fn make_room<'p, B: Below>(
-    alloc: Global,
-    view: &mut View<'p, B>,
-    tag: &Tag,
-) -> Result<(), Refusal>
+fn make_room<'p, B: Below>(alloc: Global, view: &mut View<'p, B>, tag: &Tag) -> Result<(), Refusal>
     ensures { Carries result (sight B.heard view.old) (sight B.heard view.new) (room_plan tag.now) }
 {
     let own = equal_entries(&view.change.formatting, tag);

@@ -66,7 +66,11 @@ impl<'p> Climb<'p> {
         let element = element_for(alloc, id, &tag)?;
         self.kept.push(alloc, element)?;
         let copy = tag.copy(alloc)?;
-        supplant(&mut self.formatting, node, FormattingEntry::Element { id, tag });
+        supplant(
+            &mut self.formatting,
+            node,
+            FormattingEntry::Element { id, tag },
+        );
         let child = Child::Element(own_ref(is_page, self.last));
         let place = Place::Into(own_ref(is_page, id));
         self.edits.push(alloc, Edit::NewElement { tag: copy })?;
@@ -80,7 +84,7 @@ impl<'p> Climb<'p> {
     }
 
     /// Goes past the node of this id, the turn's `count`th.
-    #[tactic(auto, using(crate::proofs::Entries::passed_none, crate::proofs::Entries::passed_new, crate::proofs::Entries::passed_late))]
+    #[tactic(auto, using(crate::proofs::Spots::passed_none, crate::proofs::Spots::passed_new, crate::proofs::Spots::passed_late))]
     fn pass(
         &mut self,
         alloc: Global,
@@ -119,11 +123,7 @@ impl<'p> Climb<'p> {
 }
 
 /// The tag of the entry of this id.
-fn find_tag(
-    alloc: Global,
-    list: &Stack<FormattingEntry>,
-    id: u64,
-) -> Result<Option<Tag>, NoMemory>
+fn find_tag(alloc: Global, list: &Stack<FormattingEntry>, id: u64) -> Result<Option<Tag>, NoMemory>
     ensures { IfOk result (λ tag. tag ≡ tag_of id list.now) }
 {
     for depth in 0..list.len() {

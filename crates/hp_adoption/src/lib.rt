@@ -11,7 +11,6 @@ mod elements;
 mod entries;
 mod links;
 mod pending;
-mod places;
 mod plain;
 mod reconstruction;
 #[cfg(test)]

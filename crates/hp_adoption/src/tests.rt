@@ -31,11 +31,11 @@ fn no_change() -> Change {
     }
 }
 
-fn page(alloc: Global) -> View<'static, Nothing> {
+fn page() -> View<'static, Nothing> {
     View {
         below: Nothing,
         change: no_change(),
-        edits: Edits::new(alloc),
+        edits: Edits::new(),
         older_text: false,
         page: Some(PageFacts {
             head: None,
@@ -54,10 +54,10 @@ fn tag_of(alloc: Global, name: &str) -> Result<Tag, NoMemory> {
 
 /// The page of an html element with a body.
 fn body(alloc: Global) -> Result<View<'static, Nothing>, Refusal> {
-    let mut view = page(alloc);
+    let mut view = page();
     view.insert_into_document(alloc, tag_of(alloc, "html")?)?;
     view.insert(alloc, false, tag_of(alloc, "body")?, Point::No)?;
-    view.edits = Edits::new(alloc);
+    view.edits = Edits::new();
     Ok(view)
 }
 

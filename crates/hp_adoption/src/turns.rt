@@ -153,11 +153,7 @@ fn turn_by<'p, B: Below>(
 }
 
 /// What an end tag does that no row names.
-fn walk<'p, B: Below>(
-    alloc: Global,
-    view: &mut View<'p, B>,
-    name: &Name,
-) -> Result<bool, Refusal>
+fn walk<'p, B: Below>(alloc: Global, view: &mut View<'p, B>, name: &Name) -> Result<bool, Refusal>
     ensures { Turns result (sight B.heard view.old) (sight B.heard view.new) (walk_turn name.now) }
 {
     view.walk(alloc, name.copy(alloc)?)?;

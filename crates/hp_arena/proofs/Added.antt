@@ -1,7 +1,7 @@
 -- A whole tree, after a leaf was put at a place, or a text got more.
-use Rattle.std.proofs.Common.{◌≡◌, ℕ, zero, suc, ◌+◌, ◌-◌, ◌<◌, ◌≤◌, append_assoc, List, [], ◌∷◌, ◌++◌, false, length, refl, sym, ap, ◌∙◌, subst, arith, get_or, inl, inr, vec_len}
+use Rattle.std.proofs.Common.{◌≡◌, ℕ, zero, suc, ◌+◌, ◌-◌, ◌<◌, ◌≤◌, append_assoc, List, [], ◌∷◌, ◌++◌, true, false, take, length, refl, sym, ap, ◌∙◌, subst, arith, get_or, inl, inr, vec_len}
 use Rattle.std.specs.List.{concat}
-use Rattle.std.proofs.lemmas.Bool.{cases_eq}
+use Rattle.std.proofs.lemmas.Bool.{cases_eq, true≢false}
 use Rattle.std.proofs.lemmas.List.{length-append, append-nil, get_or-set_same, get_or-set_other, length-set}
 use Rattle.std.proofs.Math.ListN.{set}
 use Rattle.hp_control.specs.Tree as item
@@ -10,16 +10,16 @@ use Rattle.hp_control.specs.Tree.{Item, put, is_element}
 use Rattle.hp_control.specs.declared.edit.Place.{Place}
 use Rattle.hp_arena.specs.Ring.{inserted}
 use Rattle.hp_arena.specs.Nodes.{links_of, IsRelinked}
-use Rattle.hp_arena.specs.Leaves.{leaf_item, leaf_items, leaf_at, no_leaf, text_of, run_count, IsDoctypeIn, IsTextAdded}
+use Rattle.hp_arena.specs.Leaves.{leaf_item, leaf_items, leaf_at, no_leaf, text_of, is_text_of, run_count, IsDoctypeIn, IsTextAdded}
 use Rattle.hp_arena.specs.Shape.{IsSound, IsTree, IsLeafAdded, IsPlaceIn, at_of, branches_of, item_of, items_in, seen, with_leaf}
 use Rattle.hp_arena.specs.declared.links.Node.{Node}
 use Rattle.hp_arena.specs.declared.leaves.Doctype.{Doctype as DoctypeOf}
 use Rattle.hp_arena.specs.declared.leaves.Leaf.{Leaf as LeafOf}
-use Rattle.hp_arena.specs.declared.leaves.Leaf.TheVariants.{Text}
+use Rattle.hp_arena.specs.declared.leaves.Leaf.TheVariants.{Run, Text, Comment, Doctype}
 use Rattle.hp_arena.specs.declared.arena.Arena.TheInside.{Inside}
 use Rattle.hp_arena.proofs.Glue.{tree_in}
 use Rattle.hp_arena.proofs.Intos.{StaysApart}
-use Rattle.hp_arena.proofs.Items.{length-leaf_items, leaves-plain, AreLeaves-push}
+use Rattle.hp_arena.proofs.Items.{length-leaf_items, leaf-text, leaves-plain, AreLeaves-push}
 use Rattle.hp_arena.proofs.Places.{at-in}
 use Rattle.hp_arena.proofs.Texts.{IsTree-put_leaf, branches-put_leaf}
 
@@ -62,15 +62,42 @@ each-set P leaves number leaf h own all k =
       | inr other ↦ subst (λ l. P k l) (sym (get_or-set_other leaves number k leaf no_leaf other)) (all k)
     ]
 
--- a text whose runs got more
-pub IsTextAdded-set : (leaves : List LeafOf) (number : ℕ) (text : List ℕ) (runs more : List (List ℕ)) → number < length leaves → leaf_at leaves number ≡ Text runs
-    → concat more ≡ concat runs ++ text → length more ≤ length runs + 1 → IsTextAdded leaves (set leaves number (Text more)) number text
-IsTextAdded-set leaves number text runs more h is joined few = record {
-  items = λ doctypes. leaf_items-set doctypes leaves number (Text more) ∙ ap (λ bs. set (leaf_items doctypes leaves) number (item.Text bs)) (joined ∙ ap (λ l. text_of l ++ text) (sym is));
-  count = length-set leaves number (Text more);
-  runs = each-set (λ k l. run_count l ≤ run_count (leaf_at leaves k) + 1) leaves number (Text more) h (rw is few) (λ k. omega arith);
-  doctypes = λ count. each-set (λ k l. IsDoctypeIn count (leaf_at leaves k) → IsDoctypeIn count l) leaves number (Text more) h (λ _. tt) (λ k d. d);
+-- a text leads to no doctype
+text-doctype : (count : ℕ) (leaf : LeafOf) → is_text_of leaf ≡ true → IsDoctypeIn count leaf
+text-doctype count (Run run) h = tt
+text-doctype count (Text runs) h = tt
+text-doctype count (Comment text) h = tt
+text-doctype count (Doctype number) h = absurd (true≢false (sym h))
+
+-- a leaf that is a text with more at its end
+pub IsTextAdded-set : (leaves : List LeafOf) (number : ℕ) (text : List ℕ) (leaf more : LeafOf) → number < length leaves → leaf_at leaves number ≡ leaf → is_text_of more ≡ true
+    → text_of more ≡ text_of leaf ++ text → run_count more ≤ run_count leaf + 1 → IsTextAdded leaves (set leaves number more) number text
+IsTextAdded-set leaves number text leaf more h is tells joined few = record {
+  items = λ doctypes.
+      leaf_items-set doctypes leaves number more
+      ∙ ap (λ x. set (leaf_items doctypes leaves) number x) (leaf-text doctypes more tells)
+      ∙ ap (λ bs. set (leaf_items doctypes leaves) number (item.Text bs)) (joined ∙ ap (λ l. text_of l ++ text) (sym is));
+  count = length-set leaves number more;
+  runs = each-set (λ k l. run_count l ≤ run_count (leaf_at leaves k) + 1) leaves number more h (rw is few) (λ k. omega arith);
+  doctypes = λ count. each-set (λ k l. IsDoctypeIn count (leaf_at leaves k) → IsDoctypeIn count l) leaves number more h (λ _. text-doctype count more tells) (λ k d. d);
 }
+
+-- a leaf that is set twice
+pub leaf-set_twice : (xs : List LeafOf) (n : ℕ) (a b : LeafOf) → set (set xs n a) n b ≡ set xs n b
+leaf-set_twice [] n a b = refl
+leaf-set_twice (x ∷ xs) zero a b = refl
+leaf-set_twice (x ∷ xs) (suc n) a b = ap (λ ys. x ∷ ys) (leaf-set_twice xs n a b)
+
+-- the cells of a pair, with these texts
+pub first_cell : (pair : List (List ℕ)) (text : List ℕ) → length pair ≡ 2 → set (take 1 pair) 0 text ≡ text ∷ []
+first_cell [] text h = absurd (omega arith)
+first_cell (a ∷ rest) text h = refl
+
+pub both_cells : (pair : List (List ℕ)) (first second : List ℕ) → length pair ≡ 2 → set (set pair 0 first) (length (set pair 0 first) - 1) second ≡ first ∷ second ∷ []
+both_cells [] first second h = absurd (omega arith)
+both_cells (a ∷ []) first second h = absurd (omega arith)
+both_cells (a ∷ b ∷ []) first second h = refl
+both_cells (a ∷ b ∷ c ∷ rest) first second h = absurd (omega arith)
 
 set-own : (xs : List (List ℕ)) (n : ℕ) (d : List ℕ) → n < length xs → set xs n (get_or xs n d) ≡ xs
 set-own [] n d h = absurd (omega arith)

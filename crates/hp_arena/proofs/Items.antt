@@ -11,7 +11,7 @@ use Rattle.hp_arena.specs.declared.links.Kind.{Kind}
 use Rattle.hp_arena.specs.declared.links.Kind.TheVariants.{End, Element, Leaf}
 use Rattle.hp_arena.specs.declared.leaves.Doctype.{Doctype as DoctypeOf}
 use Rattle.hp_arena.specs.declared.leaves.Leaf.{Leaf as LeafOf}
-use Rattle.hp_arena.specs.declared.leaves.Leaf.TheVariants.{Text, Comment, Doctype}
+use Rattle.hp_arena.specs.declared.leaves.Leaf.TheVariants.{Run, Text, Comment, Doctype}
 use Rattle.hp_arena.proofs.Shapes.{AreLeaves}
 use Rattle.hp_arena.proofs.Texts.{IsTextBefore}
 
@@ -22,6 +22,7 @@ item-at doctypes (leaf ∷ leaves) zero = refl
 item-at doctypes (leaf ∷ leaves) (suc number) = item-at doctypes leaves number
 
 leaf-no_element : (doctypes : List DoctypeOf) (id : ℕ) (leaf : LeafOf) → is_element id (leaf_item doctypes leaf) ≡ false
+leaf-no_element doctypes id (Run run) = refl
 leaf-no_element doctypes id (Text runs) = refl
 leaf-no_element doctypes id (Comment text) = refl
 leaf-no_element doctypes id (Doctype number) = refl
@@ -42,6 +43,7 @@ AreLeaves-push (first ∷ rest) x all own zero id = all 0 id
 AreLeaves-push (first ∷ rest) x all own (suc number) id = AreLeaves-push rest x (λ n i. all (suc n) i) own number id
 
 leaf_item-more : (doctypes : List DoctypeOf) (more : List DoctypeOf) (leaf : LeafOf) → IsDoctypeIn (length doctypes) leaf → leaf_item (doctypes ++ more) leaf ≡ leaf_item doctypes leaf
+leaf_item-more doctypes more (Run run) h = refl
 leaf_item-more doctypes more (Text runs) h = refl
 leaf_item-more doctypes more (Comment text) h = refl
 leaf_item-more doctypes more (Doctype number) h = ap doctype_item (get_or_append_left doctypes more no_doctype number h)
@@ -54,6 +56,7 @@ leaf_items-more doctypes more (leaf ∷ leaves) h =
     let rest : leaf_items (doctypes ++ more) leaves ≡ leaf_items doctypes leaves = leaf_items-more doctypes more leaves (λ number. h (suc number)) in cc
 
 leaf-is_text : (doctypes : List DoctypeOf) (leaf : LeafOf) → is_text (leaf_item doctypes leaf) ≡ is_text_of leaf
+leaf-is_text doctypes (Run run) = refl
 leaf-is_text doctypes (Text runs) = refl
 leaf-is_text doctypes (Comment text) = refl
 leaf-is_text doctypes (Doctype number) = refl
@@ -64,7 +67,8 @@ kind-is_text doctypes leaves (End id) = refl
 kind-is_text doctypes leaves (Element id) = refl
 kind-is_text doctypes leaves (Leaf number) = ap is_text (item-at doctypes leaves number) ∙ leaf-is_text doctypes (leaf_at leaves number)
 
-leaf-text : (doctypes : List DoctypeOf) (leaf : LeafOf) → is_text_of leaf ≡ true → leaf_item doctypes leaf ≡ item.Text (text_of leaf)
+pub leaf-text : (doctypes : List DoctypeOf) (leaf : LeafOf) → is_text_of leaf ≡ true → leaf_item doctypes leaf ≡ item.Text (text_of leaf)
+leaf-text doctypes (Run run) h = refl
 leaf-text doctypes (Text runs) h = refl
 leaf-text doctypes (Comment text) h = absurd (true≢false (sym h))
 leaf-text doctypes (Doctype number) h = absurd (true≢false (sym h))

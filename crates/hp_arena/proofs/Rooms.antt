@@ -10,7 +10,7 @@ use Rattle.hp_arena.specs.Shape.{IsSound, IsTree, attribute_count, tag_at, no_el
 use Rattle.hp_arena.specs.declared.arena.Arena.TheInside.{Inside}
 use Rattle.hp_arena.specs.declared.arena.Element.{Element as ElementOf}
 use Rattle.hp_arena.specs.declared.leaves.Leaf.{Leaf as LeafOf}
-use Rattle.hp_arena.specs.declared.leaves.Leaf.TheVariants.{Text, Comment, Doctype}
+use Rattle.hp_arena.specs.declared.leaves.Leaf.TheVariants.{Run, Text, Comment, Doctype}
 
 -- what holds of each leaf and of one more
 pub each-leaf : (P : LeafOf → Type 0) (leaves : List LeafOf) (leaf : LeafOf) → P no_leaf → P leaf → ((k : ℕ) → P (leaf_at leaves k)) → (k : ℕ) → P (leaf_at (leaves ++ leaf ∷ []) k)
@@ -49,6 +49,7 @@ tags-more elements e own all id some h =
     ]
 
 doctype-more : (n m : ℕ) (leaf : LeafOf) → n ≤ m → IsDoctypeIn n leaf → IsDoctypeIn m leaf
+doctype-more n m (Run run) le h = h
 doctype-more n m (Text runs) le h = h
 doctype-more n m (Comment text) le h = h
 doctype-more n m (Doctype number) le h = omega arith

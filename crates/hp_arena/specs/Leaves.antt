@@ -8,7 +8,7 @@ use Rattle.hp_arena.specs.declared.links.Kind.{Kind}
 use Rattle.hp_arena.specs.declared.links.Kind.TheVariants.{End, Element, Leaf}
 use Rattle.hp_arena.specs.declared.leaves.Doctype.{Doctype as DoctypeOf}
 use Rattle.hp_arena.specs.declared.leaves.Leaf.{Leaf as LeafOf}
-use Rattle.hp_arena.specs.declared.leaves.Leaf.TheVariants.{Text, Comment, Doctype}
+use Rattle.hp_arena.specs.declared.leaves.Leaf.TheVariants.{Run, Text, Comment, Doctype}
 use Rattle.hp_arena.specs.Nodes.{kind_of}
 
 abbrev pub no_doctype : DoctypeOf
@@ -19,6 +19,7 @@ doctype_item d = item.Doctype d.name d.public d.system
 
 -- what a leaf is among children: a text is its runs one after the other
 abbrev pub leaf_item : List DoctypeOf → LeafOf → Item
+leaf_item doctypes (Run run) = item.Text run
 leaf_item doctypes (Text runs) = item.Text (concat runs)
 leaf_item doctypes (Comment text) = item.Comment text
 leaf_item doctypes (Doctype number) = doctype_item (slice_index_or doctypes number no_doctype)
@@ -34,16 +35,19 @@ abbrev pub leaf_at : List LeafOf → ℕ → LeafOf
 leaf_at leaves number = slice_index_or leaves number no_leaf
 
 abbrev pub run_count : LeafOf → ℕ
+run_count (Run run) = 1
 run_count (Text runs) = length runs
 run_count (Comment text) = 0
 run_count (Doctype number) = 0
 
 abbrev pub text_of : LeafOf → List ℕ
+text_of (Run run) = run
 text_of (Text runs) = concat runs
 text_of (Comment text) = []
 text_of (Doctype number) = []
 
 abbrev pub is_text_of : LeafOf → Bool
+is_text_of (Run run) = true
 is_text_of (Text runs) = true
 is_text_of (Comment text) = false
 is_text_of (Doctype number) = false
@@ -66,12 +70,13 @@ pub record IsTextAt (nodes : List Node) (leaves : List LeafOf) (node number : �
   pub number_in : number < length leaves
   pub text : is_text_of (leaf_at leaves number) ≡ true
 
--- a list of one item
+-- a list of two items, whose cells are taken for runs
 abbrev pub IsCell : List (List ℕ) → Type 0
-IsCell cell = length cell ≡ 1
+IsCell cell = length cell ≡ 2
 
 -- the leaf leads to a doctype that is there, if to any
 abbrev pub IsDoctypeIn : ℕ → LeafOf → Type 0
+IsDoctypeIn doctypes (Run run) = Unit {0}
 IsDoctypeIn doctypes (Text runs) = Unit {0}
 IsDoctypeIn doctypes (Comment text) = Unit {0}
 IsDoctypeIn doctypes (Doctype number) = number < doctypes

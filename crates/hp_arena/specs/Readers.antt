@@ -11,6 +11,8 @@ use Rattle.hp_arena.specs.Arena.{Seen}
 use Rattle.hp_arena.specs.declared.readers.At.{At}
 use Rattle.hp_arena.specs.declared.readers.At.TheVariants as at
 use Rattle.hp_arena.specs.declared.readers.Spot.{Spot}
+use Rattle.hp_arena.specs.declared.readers.Runs.{Runs}
+use Rattle.hp_arena.specs.declared.readers.Runs.TheVariants.{One, Several}
 use Rattle.hp_arena.specs.declared.readers.NodeView.{NodeView}
 use Rattle.hp_arena.specs.declared.readers.NodeView.TheVariants.{Document, Contents, Doctype, Element, Text, Comment}
 
@@ -102,13 +104,18 @@ contents_of t at.Document = None
 contents_of t (at.Child spot) = contents_below t (slice_get (branch t spot.parent).inside spot.place)
 contents_of t (at.Contents id) = None
 
+-- the text of runs: these one after the other
+abbrev pub text_of : Runs → List ℕ
+text_of (One run) = run.now
+text_of (Several runs) = concat runs.now
+
 -- the item that a view shows
 abbrev pub shown : NodeView → Option Item
 shown Document = None
 shown Contents = None
 shown (Doctype name public system) = Some (item.Doctype name.now (option_copied public) (option_copied system))
 shown (Element id tag) = Some (item.Element id)
-shown (Text runs) = Some (item.Text (concat runs.now))
+shown (Text runs) = Some (item.Text (text_of runs))
 shown (Comment text) = Some (item.Comment text.now)
 
 abbrev pub is_item : NodeView → Bool

@@ -11,11 +11,9 @@ ghost use Rattle.hp_arena.specs.Nodes.{kind_of, IsClosed, end_from};
 ghost use Rattle.hp_arena.specs.Readers.{IsSpot, shown, is_item, HasTag};
 
 use crate::attributes::add_attributes;
-use crate::leaves::{
-    Doctype, Leaf, add_cells, add_leaf, add_text, alone, push_within, take_cell, text_at,
-};
+use crate::leaves::{Doctype, Leaf, add_cells, add_leaf, add_text, alone, push_within, text_at};
 use crate::links::{Kind, Node, put_before, splice, unlink};
-use crate::readers::{NodeView, Spot};
+use crate::readers::{NodeView, Runs, Spot};
 use hp_control::{Child, Edit, Edits, Place, Ref};
 use hp_elements::{Attribute, Chain, Tag, Text};
 use std::alloc::{AllocError, Global};
@@ -35,7 +33,7 @@ pub struct Arena<'p> {
     elements: Vec<Element>,
     leaves: Vec<Leaf<'p>>,
     doctypes: Vec<Doctype<'p>>,
-    /// One-item lists, whose cells the runs of texts are made of.
+    /// Pairs of cells, of which the runs of a text are made where it has several.
     cells: Vec<Chain<Text<'p>>>,
     /// How much more room there is for edits.
     spare: usize,
@@ -354,10 +352,7 @@ impl<'p> Arena<'p> {
         self.used += 1;
         match text_at(&self.nodes, &self.leaves, before) {
             Some(number) => add_text(&mut self.leaves, &mut self.cells, number, text),
-            None => {
-                let runs = take_cell(&mut self.cells, text);
-                add_leaf(&mut self.nodes, &mut self.leaves, at, Leaf::Text(runs));
-            }
+            None => add_leaf(&mut self.nodes, &mut self.leaves, at, Leaf::Run(text)),
         }
     }
 }
@@ -419,7 +414,12 @@ impl<'p> Arena<'p> {
                 None => unreachable!(),
             },
             Kind::Leaf(number) => match &self.leaves[number as usize] {
-                Leaf::Text(runs) => NodeView::Text { runs },
+                Leaf::Run(text) => NodeView::Text {
+                    runs: Runs::One(text),
+                },
+                Leaf::Text(runs) => NodeView::Text {
+                    runs: Runs::Several(runs),
+                },
                 Leaf::Comment(text) => NodeView::Comment { text },
                 Leaf::Doctype(number) => {
                     let doctype = &self.doctypes[*number as usize];

@@ -1,6 +1,6 @@
 //! What has no children: texts, comments and doctypes.
 
-ghost use Rattle.std.specs.Prelude.{◌≡◌, ◌+◌, ◌<◌, ◌≤◌, length, ◌++◌, [], ◌∷◌, ◌^◌, true, false, OnOk, All, MatchOption, IfNone, IfSome, vec_len, vec_capacity};
+ghost use Rattle.std.specs.Prelude.{◌≡◌, ◌+◌, ◌<◌, ◌≤◌, length, ◌++◌, [], ◌∷◌, ◌^◌, true, false, OnOk, IfOk, All, MatchOption, IfNone, IfSome, vec_len, vec_capacity};
 ghost use Rattle.std.specs.List.{concat};
 ghost use Rattle.hp_arena.specs.Nodes.{kind_of, IsClosed};
 ghost use Rattle.hp_arena.specs.Leaves.{leaf_at, run_count, is_text_leaf, text_of, IsCell, IsTextAt, IsLeafIn, IsTextAdded};
@@ -9,6 +9,7 @@ ghost use Rattle.hp_arena.specs.Shape.{IsLeafAdded};
 use crate::links::{Kind, Node, put_before};
 use hp_elements::{Chain, Text};
 use std::alloc::{AllocError, Global};
+use std::mem;
 
 /// A doctype with its identifiers.
 #[derive(Drop)]
@@ -21,7 +22,9 @@ pub struct Doctype<'p> {
 /// What has no children.
 #[derive(Drop)]
 pub enum Leaf<'p> {
-    /// A text: its runs, one after the other.
+    /// A text of one run.
+    Run(Text<'p>),
+    /// A text of several runs, one after the other.
     Text(Chain<Text<'p>>),
     Comment(Text<'p>),
     /// The doctype of this number. These are large and few, so they stand in a list of their own.
@@ -53,7 +56,7 @@ pub fn push_within<T: Drop>(items: &mut Vec<T>, item: T)
 }
 
 /// A list of this one text, in a cell that was made before.
-pub fn take_cell<'p>(cells: &mut Vec<Chain<Text<'p>>>, text: Text<'p>) -> Chain<Text<'p>>
+fn take_cell<'p>(cells: &mut Vec<Chain<Text<'p>>>, text: Text<'p>) -> Chain<Text<'p>>
     requires some { 0 < vec_len cells.old }
     requires cell { All IsCell cells.old.items }
     ensures result { result ≡ text.entry ∷ [] }
@@ -61,7 +64,8 @@ pub fn take_cell<'p>(cells: &mut Vec<Chain<Text<'p>>>, text: Text<'p>) -> Chain<
     ensures cell { All IsCell cells.new.items }
 {
     match cells.pop() {
-        Some(mut cell) => {
+        Some(mut pair) => {
+            let mut cell = pair.take_first();
             cell.set_first(text);
             cell
         }
@@ -69,7 +73,39 @@ pub fn take_cell<'p>(cells: &mut Vec<Chain<Text<'p>>>, text: Text<'p>) -> Chain<
     }
 }
 
-/// Makes one-item lists until there are so many.
+/// A list of these two texts, in cells that were made before.
+fn take_pair<'p>(
+    cells: &mut Vec<Chain<Text<'p>>>,
+    first: Text<'p>,
+    second: Text<'p>,
+) -> Chain<Text<'p>>
+    requires some { 0 < vec_len cells.old }
+    requires cell { All IsCell cells.old.items }
+    ensures result { result ≡ first.entry ∷ second.entry ∷ [] }
+    ensures len { vec_len cells.new + 1 ≡ vec_len cells.old }
+    ensures cell { All IsCell cells.new.items }
+{
+    match cells.pop() {
+        Some(mut pair) => {
+            pair.set_first(first);
+            let _ = pair.replace_last(second);
+            pair
+        }
+        None => unreachable!(),
+    }
+}
+
+/// Two cells for runs.
+fn make_pair<'p>(alloc: Global) -> Result<Chain<Text<'p>>, AllocError>
+    ensures { IfOk result IsCell }
+{
+    let mut pair = Chain::new();
+    pair.push(alloc, Text::new())?;
+    pair.push(alloc, Text::new())?;
+    Ok(pair)
+}
+
+/// Makes pairs of cells until there are so many.
 pub fn add_cells<'p>(
     alloc: Global,
     cells: &mut Vec<Chain<Text<'p>>>,
@@ -82,9 +118,8 @@ pub fn add_cells<'p>(
 {
     let missing = count.saturating_sub(cells.len());
     for _ in 0..missing {
-        let mut cell = Chain::new();
-        cell.push(alloc, Text::new())?;
-        cells.push(cell)?;
+        let pair = make_pair(alloc)?;
+        cells.push(pair)?;
     }
     Ok(())
 }
@@ -96,7 +131,7 @@ pub fn text_at(nodes: &[Node], leaves: &[Leaf<'_>], node: u32) -> Option<u32>
     ensures { MatchOption result (is_text_leaf leaves.now (kind_of nodes.now node) ≡ false) (IsTextAt nodes.now leaves.now node) }
 {
     if let Kind::Leaf(number) = nodes[node as usize].kind {
-        if let Leaf::Text(_) = &leaves[number as usize] {
+        if let Leaf::Run(_) | Leaf::Text(_) = &leaves[number as usize] {
             return Some(number);
         }
     }
@@ -133,6 +168,28 @@ fn extend<'p>(runs: &mut Chain<Text<'p>>, cells: &mut Vec<Chain<Text<'p>>>, text
     }
 }
 
+/// Appends a text to a run. Where it doesn't become a part of it, the runs come that stand in its place.
+fn extend_run<'p>(
+    first: &mut Text<'p>,
+    cells: &mut Vec<Chain<Text<'p>>>,
+    text: Text<'p>,
+) -> Option<Chain<Text<'p>>>
+    requires some { 0 < vec_len cells.old }
+    requires cell { All IsCell cells.old.items }
+    ensures first { IfNone result (first.new ≡ first.old ++ text.entry) }
+    ensures runs { IfSome result (λ runs. runs ≡ first.old ∷ text.entry ∷ []) }
+    ensures len { vec_len cells.old ≤ vec_len cells.new + 1 }
+    ensures cell { All IsCell cells.new.items }
+{
+    match first.join(text) {
+        None => None,
+        Some(text) => {
+            let first = mem::replace(first, Text::new());
+            Some(take_pair(cells, first, text))
+        }
+    }
+}
+
 /// Appends a text to a text.
 pub fn add_text<'p>(
     leaves: &mut [Leaf<'p>],
@@ -149,8 +206,14 @@ pub fn add_text<'p>(
     ensures len { vec_len cells.old ≤ vec_len cells.new + 1 }
     ensures cell { All IsCell cells.new.items }
 {
-    if let Leaf::Text(runs) = &mut leaves[number as usize] {
-        extend(runs, cells, text);
+    match &mut leaves[number as usize] {
+        Leaf::Run(first) => {
+            if let Some(runs) = extend_run(first, cells, text) {
+                leaves[number as usize] = Leaf::Text(runs);
+            }
+        }
+        Leaf::Text(runs) => extend(runs, cells, text),
+        Leaf::Comment(_) | Leaf::Doctype(_) => {}
     }
 }
 

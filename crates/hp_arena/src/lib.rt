@@ -9,5 +9,5 @@ mod readers;
 mod roots;
 mod tree;
 
-pub use readers::{At, NodeView, Spot, is_template};
+pub use readers::{At, NodeView, Runs, Spot, is_template};
 pub use tree::Tree;

@@ -23,6 +23,13 @@ pub enum At {
     Contents(u32),
 }
 
+/// The runs of a text. Most texts have one.
+#[derive(Clone, Copy)]
+pub enum Runs<'t, 'p> {
+    One(&'t Text<'p>),
+    Several(&'t Chain<Text<'p>>),
+}
+
 /// What stands there.
 #[derive(Clone, Copy)]
 pub enum NodeView<'t, 'p> {
@@ -41,7 +48,7 @@ pub enum NodeView<'t, 'p> {
     },
     /// A text: its runs, one after the other.
     Text {
-        runs: &'t Chain<Text<'p>>,
+        runs: Runs<'t, 'p>,
     },
     Comment {
         text: &'t Text<'p>,

@@ -25,6 +25,7 @@ impl<T> Model for Chain<T> {
 
 impl<T> Chain<T> {
     /// A chain without items.
+    #[inline]
     pub fn new() -> Chain<T>
         ensures { result ≡ [] }
     {
@@ -32,6 +33,7 @@ impl<T> Chain<T> {
     }
 
     /// The number of items.
+    #[inline]
     pub fn len(&self) -> usize
         ensures value { result ≡ length self.now }
         ensures fits { result < 2 ^ 63 }
@@ -43,6 +45,7 @@ impl<T> Chain<T> {
     }
 
     /// Whether there is no item.
+    #[inline]
     pub fn is_empty(&self) -> bool
         ensures { result ≡ (length self.now == 0) }
     {
@@ -72,6 +75,7 @@ impl<T> Chain<T> {
     }
 
     /// Goes over the items, in order.
+    #[inline]
     pub fn iter(&self) -> ChainIter<'_, T>
         ensures { result ≡ self.now }
     {
@@ -86,6 +90,7 @@ impl<T> Chain<T> {
 
 impl<T: Drop> Chain<T> {
     /// Appends an item. At an `Err`, which comes only for want of memory, the chain is as before and the item comes back.
+    #[inline]
     pub fn push(&mut self, alloc: Global, item: T) -> Result<(), AllocFailed<T>>
         ensures ok { OnOk result (self.new ≡ self.old ++ item ∷ []) }
         ensures err { OnErr result (self.new ≡ self.old) }

@@ -36,6 +36,7 @@ impl<T> Model for List<T> {
 
 impl<T> List<T> {
     /// A list without items.
+    #[inline]
     pub fn new() -> List<T>
         ensures { result ≡ [] }
     {
@@ -45,6 +46,7 @@ impl<T> List<T> {
     }
 
     /// A list of one item.
+    #[inline]
     pub fn of_one(item: T) -> List<T>
         ensures { result ≡ item ∷ [] }
     {
@@ -54,6 +56,7 @@ impl<T> List<T> {
     }
 
     /// The items, in order.
+    #[inline]
     pub fn as_slice(&self) -> &[T]
         ensures { result.now ≡ self.now }
     {
@@ -65,6 +68,7 @@ impl<T> List<T> {
     }
 
     /// The number of items.
+    #[inline]
     pub fn len(&self) -> usize
         ensures { result ≡ length self.now }
     {
@@ -72,6 +76,7 @@ impl<T> List<T> {
     }
 
     /// Whether there is no item.
+    #[inline]
     pub fn is_empty(&self) -> bool
         ensures { result ≡ (length self.now == 0) }
     {
@@ -79,6 +84,7 @@ impl<T> List<T> {
     }
 
     /// The item at that place, counted from 0; `None` where the list is no longer than that.
+    #[inline]
     pub fn get(&self, at: usize) -> Option<&T>
         ensures { option_copied result ≡ slice_get self.now at }
     {
@@ -86,6 +92,7 @@ impl<T> List<T> {
     }
 
     /// The last item; `None` where there is none.
+    #[inline]
     pub fn last(&self) -> Option<&T>
         ensures { option_copied result ≡ slice_get self.now (length self.now - 1) }
     {
@@ -93,6 +100,7 @@ impl<T> List<T> {
     }
 
     /// Goes over the items, in order.
+    #[inline]
     pub fn iter(&self) -> Iter<'_, T>
         ensures { iter_rest result ≡ self.now }
     {
@@ -102,14 +110,29 @@ impl<T> List<T> {
 
 impl<T: Drop> List<T> {
     /// Appends an item. At an `Err`, which comes only for want of memory, the list is as before and the item comes back.
+    #[inline]
     pub fn push(&mut self, alloc: Global, item: T) -> Result<(), AllocFailed<T>>
         ensures ok { OnOk result (self.new ≡ self.old ++ item ∷ []) }
         ensures err { OnErr result (self.new ≡ self.old) }
         ensures returned { IfErr result (λ failed. failed.value ≡ item) }
     {
-        if let Items::Many(items) = &mut self.items {
-            return items.push(item);
+        match &mut self.items {
+            Items::Many(items) => items.push(item),
+            Items::Empty => {
+                self.items = Items::One([item]);
+                Ok(())
+            }
+            Items::One(_) => self.push_behind(alloc, item),
         }
+    }
+
+    /// Appends an item to what the list has, which moves to the heap where it isn't there.
+    #[inline(never)]
+    fn push_behind(&mut self, alloc: Global, item: T) -> Result<(), AllocFailed<T>>
+        ensures ok { OnOk result (self.new ≡ self.old ++ item ∷ []) }
+        ensures err { OnErr result (self.new ≡ self.old) }
+        ensures returned { IfErr result (λ failed. failed.value ≡ item) }
+    {
         let items = mem::replace(&mut self.items, Items::Empty);
         let (items, answer) = pushed(alloc, items, item);
         self.items = items;

@@ -42,6 +42,7 @@ impl Name {
     ghost use Rattle.hp_elements.specs.Names.{text_of, known_of, lowered};
 
     /// The known name.
+    #[inline]
     pub fn of_known(known: Known) -> Name
         ensures { result ≡ text_of known }
     {
@@ -62,6 +63,7 @@ impl Name {
     }
 
     /// The known name that it is; `None` where it is another one.
+    #[inline]
     pub fn known(&self) -> Option<Known>
         ensures { result ≡ known_of self.now }
     {
@@ -73,6 +75,7 @@ impl Name {
     }
 
     /// Whether it is that known name.
+    #[inline]
     pub fn is(&self, known: Known) -> bool
         ensures { IsTrue result ↔ (self.now ≡ text_of known) }
     {
@@ -136,6 +139,7 @@ impl Name {
     }
 
     /// Whether two names have the same text.
+    #[inline]
     pub fn same(&self, other: &Name) -> bool
         ensures { IsTrue result ↔ (self.now ≡ other.now) }
     {

@@ -41,6 +41,7 @@ impl<'p> Model for Text<'p> {
 
 impl<'p> Text<'p> {
     /// A text without code points.
+    #[inline]
     pub fn new() -> Text<'p>
         ensures { result ≡ [] }
     {
@@ -50,6 +51,7 @@ impl<'p> Text<'p> {
     }
 
     /// The part of the page from one byte to another. It takes no memory.
+    #[inline]
     pub fn of_page(page: &'p str, from: usize, to: usize) -> Text<'p>
         requires ordered { from ≤ to }
         requires within { to ≤ length page.now }
@@ -65,6 +67,7 @@ impl<'p> Text<'p> {
     }
 
     /// The code points, in UTF-8.
+    #[inline]
     pub fn as_str(&self) -> &str
         ensures { chars result.now ≡ self.now }
     {
@@ -79,6 +82,7 @@ impl<'p> Text<'p> {
     }
 
     /// How many bytes the text has in UTF-8.
+    #[inline]
     pub fn len_bytes(&self) -> usize
         ensures { result ≡ sum_by len_utf8 self.now }
     {
@@ -86,6 +90,7 @@ impl<'p> Text<'p> {
     }
 
     /// Whether there is no code point.
+    #[inline]
     pub fn is_empty(&self) -> bool
         ensures { result ≡ (length self.now == 0) }
     {
@@ -100,6 +105,7 @@ impl<'p> Text<'p> {
     }
 
     /// The text of one code point.
+    #[inline]
     pub fn of_char(c: char) -> Text<'p>
         ensures { result ≡ c ∷ [] }
     {
@@ -146,6 +152,7 @@ impl<'p> Text<'p> {
     }
 
     /// Appends a text. At an `Err`, which comes only for want of memory, the text is as before.
+    #[inline]
     pub fn push_str(&mut self, alloc: Global, more: &str) -> Result<(), AllocError>
         ensures ok { OnOk result (self.new ≡ self.old ++ chars more.now) }
         ensures err { OnErr result (self.new ≡ self.old) }
@@ -153,12 +160,20 @@ impl<'p> Text<'p> {
         if let Place::Owned(text) = &mut self.place {
             return text.push_str(more);
         }
+        if let Place::Here(len, bytes) = &self.place
+            && more.len() <= SHORT - *len as usize
+        {
+            let longer = put_behind(bytes, *len, more.as_bytes());
+            self.place = Place::Here(*len + more.len() as u8, longer);
+            return Ok(());
+        }
         let grown = grown(alloc, self.as_str(), more)?;
         *self = grown;
         Ok(())
     }
 
     /// Appends a code point. At an `Err`, which comes only for want of memory, the text is as before.
+    #[inline]
     pub fn push(&mut self, alloc: Global, c: char) -> Result<(), AllocError>
         ensures ok { OnOk result (self.new ≡ self.old ++ c ∷ []) }
         ensures err { OnErr result (self.new ≡ self.old) }
@@ -202,13 +217,35 @@ fn copied<'p>(alloc: Global, text: &str) -> Result<Place<'p>, AllocError>
     Ok(Place::Owned(Box::new(alloc, text)?))
 }
 
+/// The first so many bytes, and more behind them.
+#[inline]
+fn put_behind(bytes: &[u8; SHORT], len: u8, more: &[u8]) -> [u8; SHORT]
+    requires { len + length more.now ≤ 22 }
+    ensures { take (len + length more.now) result ≡ take len bytes.now ++ more.now }
+{
+    let from = len as usize;
+    let mut longer = *bytes;
+    longer[from..from + more.len()].copy_from_slice(more);
+    longer
+}
+
 /// A text of its own: one text and then another.
+#[inline(never)]
 fn grown<'p>(alloc: Global, front: &str, back: &str) -> Result<Text<'p>, AllocError>
     ensures { IfOk result (λ text. text ≡ chars front.now ++ chars back.now) }
 {
-    let mut text = String::from_str(alloc, front)?;
-    text.push_str(back)?;
+    let text = both(alloc, front, back)?;
     Text::of_owned(alloc, text)
+}
+
+/// One text and then another, in as many bytes as they have.
+fn both(alloc: Global, front: &str, back: &str) -> Result<String, AllocError>
+    ensures { IfOk result (λ text. string_bytes text ≡ front.now ++ back.now) }
+{
+    let mut text = String::with_capacity(alloc, front.len().saturating_add(back.len()))?;
+    text.push_str(front)?;
+    text.push_str(back)?;
+    Ok(text)
 }
 
 /// How many bytes are left behind a text and the next one, where so many of some bytes stand behind the text, and those of the

@@ -66,6 +66,7 @@ impl CharClass {
     ghost use Rattle.hp_elements.specs.Tokens.{class_of};
 
     /// The class of that code point. White is U+0009, U+000A, U+000C, U+000D and U+0020.
+    #[inline]
     pub fn of(c: char) -> CharClass
         ensures { result ≡ class_of c }
     {
@@ -177,6 +178,7 @@ impl<'p> Token<'p> {
     ghost use Rattle.hp_elements.specs.Tokens.{kind_of};
 
     /// What the rules look at.
+    #[inline]
     pub fn kind(&self) -> Kind
         ensures { result ≡ kind_of self.now }
     {

@@ -1,3 +1,4 @@
+pub mod Fonts
 pub mod Plans
 pub mod Laws
 pub mod Steps

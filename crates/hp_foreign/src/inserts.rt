@@ -1,6 +1,6 @@
 //! The elements of foreign content (13.2.6.1, 13.2.6.4.7, 13.2.6.5).
 ghost use Rattle.std.specs.Prelude.{◌≡◌, IfOk};
-ghost use Rattle.hp_control.specs.Acts.{point_in, encodes_html, mathml_point};
+ghost use Rattle.hp_control.specs.Acts.{point_in, encodes_html, mathml_point, svg_point};
 ghost use Rattle.hp_control.specs.Foreign.{opened_namespace, tag_in};
 ghost use Rattle.hp_views.specs.View.{sight, Answers, Meets, Carries};
 ghost use Rattle.hp_foreign.specs.Plans.{namespace_plan, insert_in_plan};
@@ -14,23 +14,40 @@ use hp_views::View;
 use std::alloc::Global;
 
 /// Whether the attribute makes an annotation an integration point of HTML.
-fn encodes_html(attribute: &Attribute) -> bool
-    ensures { result ≡ encodes_html attribute.now }
+fn encodes_html(alloc: Global, attribute: &Attribute) -> Result<bool, NoMemory>
+    ensures { IfOk result (λ encodes. encodes ≡ encodes_html attribute.now) }
 {
-    if !attribute.name.is(Known::Encoding) {
-        return false;
+    let encoding = Name::from_text(alloc, "encoding")?;
+    if !attribute.name.same(&encoding) {
+        return Ok(false);
     }
-    let value = attribute.value.as_str();
-    value.eq_ignore_ascii_case("text/html") || value.eq_ignore_ascii_case("application/xhtml+xml")
+    let value = Name::from_lowered(alloc, attribute.value.as_str())?;
+    let text = Name::from_text(alloc, "text/html")?;
+    let xhtml = Name::from_text(alloc, "application/xhtml+xml")?;
+    Ok(value.same(&text) || value.same(&xhtml))
 }
 
-fn mathml_point(tag: &Tag) -> Point
-    ensures { result ≡ mathml_point tag.now }
+fn mathml_point(alloc: Global, tag: &Tag) -> Result<Point, NoMemory>
+    ensures { IfOk result (λ point. point ≡ mathml_point tag.now) }
 {
     if SetName::MathMlTextPoints.has(Namespace::MathMl, &tag.name) {
-        return Point::MathText;
+        return Ok(Point::MathText);
     }
-    if tag.name.is(Known::AnnotationXml) && tag.attributes.iter().any(encodes_html) {
+    if !tag.name.is(Known::AnnotationXml) {
+        return Ok(Point::No);
+    }
+    for attribute in tag.attributes.iter() {
+        if encodes_html(alloc, attribute)? {
+            return Ok(Point::Html);
+        }
+    }
+    Ok(Point::No)
+}
+
+fn svg_point(tag: &Tag) -> Point
+    ensures { result ≡ svg_point tag.now }
+{
+    if SetName::SvgHtmlPoints.has(Namespace::Svg, &tag.name) {
         Point::Html
     } else {
         Point::No
@@ -38,19 +55,13 @@ fn mathml_point(tag: &Tag) -> Point
 }
 
 /// The integration point that an element is which is made for the tag.
-fn point_in(tag: &Tag) -> Point
-    ensures { result ≡ point_in tag.now.namespace tag.now }
+fn point_in(alloc: Global, tag: &Tag) -> Result<Point, NoMemory>
+    ensures { IfOk result (λ point. point ≡ point_in tag.now.namespace tag.now) }
 {
     match tag.namespace {
-        Namespace::Html => Point::No,
-        Namespace::MathMl => mathml_point(tag),
-        Namespace::Svg => {
-            if SetName::SvgHtmlPoints.has(Namespace::Svg, &tag.name) {
-                Point::Html
-            } else {
-                Point::No
-            }
-        }
+        Namespace::Html => Ok(Point::No),
+        Namespace::MathMl => mathml_point(alloc, tag),
+        Namespace::Svg => Ok(svg_point(tag)),
     }
 }
 
@@ -94,7 +105,7 @@ fn insert_in<'p, B: Below>(
     ensures { Carries result (sight B.heard view.old) (sight B.heard view.new) (insert_in_plan namespace fostering self_closing tag) }
 {
     let tag = tag_in(alloc, namespace, tag)?;
-    let point = point_in(&tag);
+    let point = point_in(alloc, &tag)?;
     view.insert(alloc, fostering, tag, point)?;
     pop_where(alloc, view, self_closing)
 }

@@ -10,9 +10,11 @@ use Rattle.hp_tokens.specs.States.{enter, state_of_rest}
 use Rattle.hp_tokens.specs.Moves.{Lexing, Emitted, Move, makes, asks_cdata, asks_last_tag, taking, move}
 use Rattle.hp_tokens.specs.Runs.{Leads, here, onward}
 use Rattle.hp_tokens.specs.Ranks.{rank, symbol_of, weight}
-use Rattle.hp_tokens.specs.Advancing.{Says, Advances, lexing}
+use Rattle.hp_tokens.specs.Advancing.{Says, Advances, lexing, unread}
 use Rattle.hp_tokens.proofs.Stepping.{rank-below}
 use Rattle.hp_lex_raw.specs.Raw.{is_untold}
+use Rattle.hp_lex_markup.specs.Markup as markup
+use Rattle.hp_lex_markup.specs.declared.words.Word.TheVariants.{Cdata}
 use Rattle.hp_lexer.specs.declared.lexer.Asked.{Asked}
 use Rattle.hp_lexer.specs.declared.lexer.Asked.TheVariants as asked
 use Rattle.hp_lexer.specs.declared.lexer.Lexer.{Lexer}
@@ -63,18 +65,19 @@ module _ (names : List Reference) where
       let P : Move → Type 0 = λ x. FallsTo there x in
       let asks : AsksCdata there f h = subst P e (move_falls names there) in
       let Q : Lexing → Type 0 = λ x. weight x < weight there in
-      let to_f : weight f < weight there = subst Q (sym asks.foreign) (taken_falls _ there asks.long) in
-      let to_h : weight h < weight there = subst Q (sym asks.html) (taken_falls _ there asks.long) in
+      let to_f : weight f < weight there = subst Q (sym asks.foreign) (taken_falls (markup.in_section there.machine) there asks.long) in
+      let to_h : weight h < weight there = subst Q (sym asks.html) (taken_falls (markup.after_word Cdata there.machine) there asks.long) in
       (omega (arith, to_f, at_most a.leads), omega (arith, to_h, at_most a.leads))
+
+either : (P : Bool → Type 0) → P true → P false → (b : Bool) → P b
+either P a b true = a
+either P a b false = b
 
 pub steps_fall : (old new : Lexer) (old_input new_input : Unread) (step : Step) → Stepped old old_input new new_input step → Falls old old_input new new_input step
 steps_fall old new old_input new_input (steps.Tokens began tokens) s = emitted_falls old.names _ _ _ _ _ s.0
-steps_fall old new old_input new_input steps.AskCdata s = λ foreign. both foreign
-  where
-    falls = section_falls old.names _ _ _ _ _ _ _ s.advances s.asks
-    both : (foreign : Bool) → 2 * weight (stands_answered foreign new new_input) + 1 < load old old_input
-    both true = falls.0
-    both false = falls.1
+steps_fall old new old_input new_input steps.AskCdata s =
+    let falls = section_falls old.names (stands old old_input) s.there (stands_answered true new new_input) (stands_answered false new new_input) [] [] s.rested s.advances s.asks in
+    either (λ foreign. 2 * weight (stands_answered foreign new new_input) + 1 < load old old_input) falls.0 falls.1
 steps_fall old new old_input new_input steps.AskLastTag s = named_falls old.names _ _ _ _ _ s.0 s.1
 steps_fall old new old_input new_input steps.AtCut s = tt
 
@@ -85,5 +88,5 @@ rank-rest _ symbol = refl
 pub switches_fall : (to : Rest) (l : Lexer) (input : Unread) → l.asked ≡ asked.Nothing → weight (stands (switched to l) input) ≤ weight (stands l input)
 switches_fall to l input e =
     let P : Asked → Type 0 = λ a. weight (lexing (record l.lex { machine = opened a (enter (state_of_rest to) l.lex.machine) }) input l.rested)
-        ≤ weight (lexing (record l.lex { machine = opened a l.lex.machine }) input l.rested) in
-    subst P (sym e) (omega (arith, rank-rest to (symbol_of _)))
+    ≤ weight (lexing (record l.lex { machine = opened a l.lex.machine }) input l.rested) in
+    subst P (sym e) (omega (arith, rank-rest to (symbol_of (unread l.lex input))))

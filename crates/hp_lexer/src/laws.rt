@@ -20,5 +20,4 @@ pub fn any_pieces()
 pub fn steps_fall()
     ensures steps { StepsFall }
     ensures switches { SwitchesFall }
-{
-}
+{}

@@ -5,3 +5,14 @@ pub mod Stacks
 pub mod Thins
 pub mod Thinning
 pub mod Adopting
+pub mod Course
+pub mod Courses
+pub mod Resetting
+pub mod Following
+pub mod Passes
+pub mod Tests
+pub mod Walking
+pub mod Weights
+pub mod Handled
+pub mod Finding
+pub mod Running

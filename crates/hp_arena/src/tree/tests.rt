@@ -1,7 +1,7 @@
 //! Trees that edits make, read back.
 
 use crate::links::Node;
-use crate::{NodeView, Tree};
+use crate::{NodeView, Runs, Tree};
 use hp_control::{Child, Edit, Edits, Place, Ref};
 use hp_elements::{Attribute, AttributeSpace, Chain, Known, Name, Namespace, Tag, Text};
 use std::alloc::{AllocError, Global};
@@ -63,6 +63,13 @@ struct Counts {
     doctypes: usize,
 }
 
+fn count_runs(runs: Runs<'_, '_>) -> usize {
+    match runs {
+        Runs::One(_) => 1,
+        Runs::Several(runs) => runs.len(),
+    }
+}
+
 /// Goes over what stands inside an element.
 fn count_inside(tree: &Tree<'_>, id: u32) -> Option<Counts> {
     let mut found = Counts {
@@ -86,7 +93,7 @@ fn count_inside(tree: &Tree<'_>, id: u32) -> Option<Counts> {
             }
             NodeView::Text { runs } => {
                 found.texts = found.texts.wrapping_add(1);
-                found.runs = found.runs.wrapping_add(runs.len());
+                found.runs = found.runs.wrapping_add(count_runs(runs));
             }
             NodeView::Comment { .. } => found.comments = found.comments.wrapping_add(1),
             NodeView::Document | NodeView::Contents => {}

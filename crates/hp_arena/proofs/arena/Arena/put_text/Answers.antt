@@ -9,7 +9,7 @@ use Rattle.hp_arena.specs.Leaves.{leaf_items, leaf_item, leaf_at, is_text_leaf, 
 use Rattle.hp_arena.specs.Nodes.{links_of, kind_of, blank}
 use Rattle.hp_arena.specs.Shape.{IsSound, IsLeafAdded, IsPlaceIn, at_of, branches_of, items_in, is_text}
 use Rattle.hp_arena.specs.declared.links.Node.{Node}
-use Rattle.hp_arena.specs.declared.leaves.Leaf.TheVariants.{Text}
+use Rattle.hp_arena.specs.declared.leaves.Leaf.TheVariants.{Run}
 use Rattle.hp_arena.specs.declared.arena.Arena.TheInside.{Inside}
 use Rattle.hp_arena.proofs.Added.{IsTree-added, branches-added, before_item, at-below}
 use Rattle.hp_arena.proofs.Glue.{place-in, tree_in}
@@ -42,11 +42,11 @@ invariant_of-self-in-None c =
     let place_in = place-in c.self.inside c.args.self.now c.args.place c.self.view_is c.requires.there in
     let added : IsLeafAdded c.self.inside.nodes.items c.add_leaf.new.nodes.items (length c.self.inside.leaves.items) (at_of c.self.inside.nodes.items c.self.inside.elements.items c.args.place) =
     rw (c.node_at-at.ensures, c.deref.ensures.value, c.deref-2.ensures.value) at c.add_leaf.ensures.nodes in
-    IsSound-leaf c.self.inside _ (Text c.take_cell-runs.result) c.self.invariant (subst (λ s. 0 < s.spare) (sym c.self.view_is) c.requires.room)
-    (rw c.take_cell-runs.ensures.result (omega arith)) refl refl (omega arith) (omega arith) (rw c.take_cell-runs.ensures.result (omega arith))
+    IsSound-leaf c.self.inside _ (Run c.args.text) c.self.invariant (subst (λ s. 0 < s.spare) (sym c.self.view_is) c.requires.room)
+    (omega arith) refl refl (omega arith) (omega arith) (omega arith)
     c.add_leaf.ensures.nodes_len c.add_leaf.ensures.nodes_capacity c.add_leaf.ensures.leaves_len c.add_leaf.ensures.leaves_capacity (omega arith) (omega arith) (omega arith) c.add_leaf.ensures.leaves tt
-    (omega (arith, c.self.invariant.room.cells, c.take_cell-runs.ensures.len)) c.take_cell-runs.ensures.cell
-    (rw c.add_leaf.ensures.leaves (IsTree-added c.self.inside c.self.invariant c.args.place place_in c.add_leaf.new.nodes.items (item.Text c.args.text) (λ id. refl) added (Text c.take_cell-runs.result)))
+    (omega (arith, c.self.invariant.room.cells)) c.self.invariant.room.cell
+    (rw c.add_leaf.ensures.leaves (IsTree-added c.self.inside c.self.invariant c.args.place place_in c.add_leaf.new.nodes.items (item.Text c.args.text) (λ id. refl) added (Run c.args.text)))
 
 pub returns-in-None-clause-branches : goal.returns-in-None-clause-branches
 returns-in-None-clause-branches c =
@@ -60,10 +60,9 @@ returns-in-None-clause-branches c =
     let other : is_text_leaf c.self.inside.leaves.items (kind_of c.self.inside.nodes.items ((links_of c.self.inside.nodes.items).prev (at_of c.self.inside.nodes.items c.self.inside.elements.items c.args.place))) ≡ false =
     rw (c.deref-3.ensures.value, c.deref-4.ensures.value, before) at c.in-None.ensures in
     let apart : is_text (before_item c.self.inside c.args.place) ≡ false = kind-is_text c.self.inside.doctypes.items c.self.inside.leaves.items _ ∙ other in
-    let text : leaf_item c.self.inside.doctypes.items (Text c.take_cell-runs.result) ≡ item.Text c.args.text = ap (λ runs. item.Text (concat runs)) c.take_cell-runs.ensures.result ∙ ap item.Text (append-nil c.args.text) in
     rw c.add_leaf.ensures.leaves
     (ap (λ items. branches_of c.add_leaf.new.nodes.items c.self.inside.elements.items items)
-    (leaf_items-push c.self.inside.doctypes.items c.self.inside.leaves.items (Text c.take_cell-runs.result) ∙ ap (λ x. items_in c.self.inside ++ x ∷ []) text)
+    (leaf_items-push c.self.inside.doctypes.items c.self.inside.leaves.items (Run c.args.text))
     ∙ branches-added c.self.inside c.self.invariant c.args.place place_in c.add_leaf.new.nodes.items (item.Text c.args.text) (λ id. refl) added (text-apart _ c.args.text apart)
     ∙ ap (λ s. put s.branches (item.Text c.args.text) c.args.place) c.self.view_is)
 

@@ -7,7 +7,7 @@ use Rattle.hp_arena.specs.declared.links.Node.{Node}
 use Rattle.hp_arena.specs.declared.links.Kind.{Kind}
 use Rattle.hp_arena.specs.declared.links.Kind.TheVariants.{End, Element, Leaf}
 use Rattle.hp_arena.specs.declared.leaves.Leaf.{Leaf as LeafOf}
-use Rattle.hp_arena.specs.declared.leaves.Leaf.TheVariants.{Text, Comment, Doctype}
+use Rattle.hp_arena.specs.declared.leaves.Leaf.TheVariants.{Run, Text, Comment, Doctype}
 use Rattle.hp_arena.specs.declared.arena.Arena.TheInside.{Inside}
 use Rattle.hp_arena.proofs.Reading.{Stands, stands, node_read, not_end, element-there, leaf-there, leaf_item-there, element_item-there, tag-there}
 use Rattle.hp_arena.proofs.arena.Arena.view.Goals as goal
@@ -75,6 +75,14 @@ returns-in-Some-clause-tag c =
     (kind-read c.self.inside c.args.at.parent c.args.at.place c.args.at.node st c.index.result.now (Element c.in-Element.id) c.index.ensures c.in-Element.is) in
     let element : c.index-in-Element.result.now ≡ slice_index_or c.self.inside.elements.items c.in-Element.id no_element = get_or_read _ _ _ own.0 c.index-in-Element.ensures no_element in
     tag-there c.self.inside c.args.self.now c.self.view_is c.in-Element.id own.0 ∙ ap (λ e. e.tag) (sym element) ∙ c.in-Some.is
+
+pub returns-in-Run-clause-item : goal.returns-in-Run-clause-item
+returns-in-Run-clause-item c =
+    let st = stands c.self.inside c.self.invariant c.args.self.now c.self.view_is c.args.at c.requires in
+    let kind = kind-read c.self.inside c.args.at.parent c.args.at.place c.args.at.node st c.index.result.now (Leaf c.in-Leaf.number) c.index.ensures c.in-Leaf.is in
+    let own = leaf-there c.self.inside c.self.invariant c.args.at.parent c.args.at.place c.args.at.node st c.in-Leaf.number kind in
+    leaf_item-there c.self.inside c.self.invariant c.args.at.parent c.args.at.place c.args.at.node st c.args.self.now c.self.view_is c.in-Leaf.number (Run c.in-Run.text) kind
+    (leaf-read c.self.inside c.in-Leaf.number c.index-in-Leaf.result.now own c.index-in-Leaf.ensures ∙ c.in-Run.is)
 
 pub returns-in-Text-clause-item : goal.returns-in-Text-clause-item
 returns-in-Text-clause-item c =

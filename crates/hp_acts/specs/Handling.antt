@@ -1,0 +1,28 @@
+-- How a row goes on after an act, and what of a token's handling is told of any older state.
+use Rattle.std.specs.Prelude.{◌≡◌, ℕ, ◌+◌, ◌<◌, ◌⊎◌, Bool, true, false, List, [], ◌∷◌, Option, None, Some, Result, Ok, Err}
+use Rattle.hp_elements.specs.declared.act.Act.{Act}
+use Rattle.hp_elements.specs.declared.act.Act.TheVariants as act
+use Rattle.hp_elements.specs.declared.known.Known.{Known}
+use Rattle.hp_elements.specs.declared.token.Mode.{Mode}
+use Rattle.hp_elements.specs.declared.token.Token.{Token}
+use Rattle.hp_elements.specs.declared.token.Token.TheVariants as token
+use Rattle.hp_model.specs.Tokens.{as_start}
+use Rattle.hp_acts.specs.declared.handle.Next.{Next}
+use Rattle.hp_acts.specs.declared.handle.Next.TheVariants.{At, Rules, Done, Again}
+
+-- what comes next stands behind that place
+abbrev pub GoesLater : ℕ → Next → Type 0
+GoesLater at (At next) = at < next
+GoesLater at _ = Unit {0}
+
+-- the act at a place of a row ends the row, asks for the token again, uses the rules of a mode, or leads to another place
+abbrev pub GoesBy : Act → ℕ → Mode → Bool → Next → Type 0
+GoesBy act.Done at present fostering next = next ≡ Done
+GoesBy act.Again at present fostering next = next ≡ Again
+GoesBy (act.AgainAs name) at present fostering next = next ≡ Again
+GoesBy (act.As m) at present fostering next = next ≡ Rules m fostering
+GoesBy (act.AsFostered m) at present fostering next = next ≡ Rules m true
+GoesBy act.AsPresent at present fostering next = next ≡ Rules present fostering
+GoesBy (act.If test otherwise) at present fostering next = (next ≡ At (at + 1)) ⊎ (next ≡ At otherwise)
+GoesBy (act.Unless test otherwise) at present fostering next = (next ≡ At (at + 1)) ⊎ (next ≡ At otherwise)
+GoesBy _ at present fostering next = next ≡ At (at + 1)

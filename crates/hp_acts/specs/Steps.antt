@@ -1,1 +1,0 @@
--- What each act of a row asks and changes, what it means of a full state, and the law that ties the two; and the same of each test.
