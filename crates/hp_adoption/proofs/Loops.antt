@@ -1,5 +1,5 @@
 -- Plans carried out step by step in loops.
-use Rattle.std.proofs.Common.{◌≡◌, ℕ, zero, suc, ◌+◌, ◌-◌, ◌<◌, Bool, true, false, List, [], ◌∷◌, ◌++◌, Option, Some, None, Result, Ok, Err, length, drop, slice_get, slice_set, slice_index_or, ap, sym, subst, refl, ◌∙◌, arith}
+use Rattle.std.proofs.Common.{◌≡◌, ℕ, zero, suc, ◌+◌, ◌-◌, ◌<◌, ◌≤◌, Bool, true, false, List, [], ◌∷◌, ◌++◌, Option, Some, None, Result, Ok, Err, length, drop, slice_get, slice_set, slice_index_or, ap, sym, subst, refl, ◌∙◌, arith}
 use Rattle.hp_elements.specs.declared.tag.Tag.{Tag}
 use Rattle.hp_control.specs.declared.change.Refusal.{Refusal}
 use Rattle.hp_control.specs.declared.change.Refusal.TheVariants.{Crossed, NoMemory}
@@ -27,6 +27,18 @@ pub put_back : {X : Type 0} (xs : List X) (k : ℕ) (x : X) → k < length xs �
 put_back [] k x h e = absurd (omega (arith, h))
 put_back (z ∷ zs) zero x h e = ap (λ v. v ∷ zs) e
 put_back (z ∷ zs) (suc k) x h e = ap (λ l. z ∷ l) (put_back zs k x (omega (arith, h)) e)
+
+pub past_end : {X : Type 0} (xs : List X) (k : ℕ) → length xs ≤ k → slice_get xs k ≡ None
+past_end [] zero h = refl
+past_end [] (suc k) h = refl
+past_end (x ∷ xs) zero h = absurd (omega (arith, h))
+past_end (x ∷ xs) (suc k) h = past_end xs k (omega (arith, h))
+
+pub set_twice : {X : Type 0} (xs : List X) (k : ℕ) (x y : X) → slice_set (slice_set xs k x) k y ≡ slice_set xs k y
+set_twice [] zero x y = refl
+set_twice [] (suc k) x y = refl
+set_twice (z ∷ zs) zero x y = refl
+set_twice (z ∷ zs) (suc k) x y = ap (λ l. z ∷ l) (set_twice zs k x y)
 
 abbrev list_in : Result Split Crossing → List FormattingEntry
 list_in (Ok w) = w.change.formatting

