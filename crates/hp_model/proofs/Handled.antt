@@ -52,7 +52,7 @@ room-start s v =
     let f : count_by is_template s.stack ≤ length s.templates = v.templates in
     omega arith
 
-along-start : (s : ControlState) → IsValid s → Along (start s.mode) (tally is_counted s.stack) s
+pub along-start : (s : ControlState) → IsValid s → Along (start s.mode) (tally is_counted s.stack) s
 along-start s v = record {
   base = base-start s.mode s v.stack;
   count = omega arith;
@@ -173,7 +173,7 @@ not_or true b c d h = absurd (true≢false (sym h))
 not_or false true c d h = absurd (true≢false (sym h))
 not_or false false c d h = refl
 
-foreign-top : (kind : Kind) (st : List OpenElement) → is_foreign kind st ≡ true → is_foreign_top st ≡ true
+pub foreign-top : (kind : Kind) (st : List OpenElement) → is_foreign kind st ≡ true → is_foreign_top st ≡ true
 foreign-top kind [] h = absurd (true≢false (sym h))
 foreign-top kind (e ∷ es) h = ap not (not_or (is_end_of_input kind) (is_html e) (enters e.point kind) (is_annotation e && is_svg_start kind) h)
 
@@ -182,19 +182,19 @@ tall-not_foreign [] h = refl
 tall-not_foreign (e ∷ []) h = absurd (true≢false (sym h))
 tall-not_foreign (e ∷ f ∷ es) h = ap not h
 
-foreign-standing : (kind : Kind) (m : Mode) (s : ControlState) → StackFits m s → is_foreign kind s.stack ≡ true → goes_foreign (base_of m) ≡ true
+pub foreign-standing : (kind : Kind) (m : Mode) (s : ControlState) → StackFits m s → is_foreign kind s.stack ≡ true → goes_foreign (base_of m) ≡ true
 foreign-standing kind mode.Initial s h e = absurd (true≢false (sym e ∙ ap (is_foreign kind) h.0))
 foreign-standing kind mode.BeforeHtml s h e = absurd (true≢false (sym e ∙ ap (is_foreign kind) h.0))
 foreign-standing kind mode.Text s h e = absurd (true≢false (sym (foreign-top kind s.stack e) ∙ tall-not_foreign s.stack h.1))
 foreign-standing kind _ s h e = refl
 
-foreign-base : (m : Mode) (s : ControlState) → StackFits m s → goes_foreign (base_of m) ≡ true → is_rooted s.stack ≡ true
+pub foreign-base : (m : Mode) (s : ControlState) → StackFits m s → goes_foreign (base_of m) ≡ true → is_rooted s.stack ≡ true
 foreign-base mode.Initial s h e = absurd (true≢false (sym e))
 foreign-base mode.BeforeHtml s h e = absurd (true≢false (sym e))
 foreign-base mode.Text s h e = absurd (true≢false (sym e))
 foreign-base _ s h e = h
 
-along-foreign : (s : ControlState) → IsValid s → is_rooted s.stack ≡ true → is_foreign_top s.stack ≡ true → Along (record (start s.mode) { base = alien }) (tally is_counted s.stack) s
+pub along-foreign : (s : ControlState) → IsValid s → is_rooted s.stack ≡ true → is_foreign_top s.stack ≡ true → Along (record (start s.mode) { base = alien }) (tally is_counted s.stack) s
 along-foreign s v r f = record {
   base = (r, f);
   count = omega arith;
@@ -213,7 +213,7 @@ along-foreign s v r f = record {
   lex = v.lex;
 }
 
-or_second : (a b : Bool) → a ≡ true → (not a || b) ≡ true → b ≡ true
+pub or_second : (a b : Bool) → a ≡ true → (not a || b) ≡ true → b ≡ true
 or_second true b h k = k
 or_second false b h k = absurd (true≢false (sym h))
 

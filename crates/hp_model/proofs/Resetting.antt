@@ -70,17 +70,17 @@ module _ (p : Mode → Bool) (modes : List Mode) (has_head : Bool) (at_template 
 
   pub reset-passes_without : (st : List OpenElement) → list_any is_select st ≡ false → p (reset_mode has_head modes st) ≡ true
   reset-passes_without [] h = passes.7
-  reset-passes_without (e ∷ es) h = go (is_named known.Select e) h
+  reset-passes_without (e ∷ es) h = go (is_named known.Select e) h (reset-passes_without es)
     where
-      go : (b : Bool) → (b || list_any is_select es) ≡ false → p (unwrap_or (
+      go : (b : Bool) → (b || list_any is_select es) ≡ false → (list_any is_select es ≡ false → p (reset_mode has_head modes es) ≡ true) → p (unwrap_or (
           if b then Some (select_mode (table_comes es))
           else if is_cell e && not (is_last es) then Some mode.InCell
           else if is_named known.Template e then Some (last_template_mode modes)
           else if is_named known.Head e && not (is_last es) then Some mode.InHead
           else if is_named known.Html e then Some (html_mode has_head)
           else mode_of e) (reset_mode has_head modes es)) ≡ true
-      go true k = absurd (true≢false k)
-      go false k = beyond_select e es (reset-passes_without es k)
+      go true k later = absurd (true≢false k)
+      go false k later = beyond_select e es (later k)
 
 pub reset-settled : (modes : List Mode) (has_head : Bool) (st : List OpenElement) → All (λ m. is_template_mode m ≡ true) modes → is_settled (reset_mode has_head modes st) ≡ true
 reset-settled modes has_head st h =
