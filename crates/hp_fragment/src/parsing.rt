@@ -7,6 +7,7 @@ ghost use Rattle.hp_control.specs.Tree.{applied_all};
 ghost use Rattle.hp_fragment.specs.Running.{Stays, StepsOn};
 
 use crate::NoMemory;
+use crate::last::of_page;
 use hp_acts::handle;
 use hp_arena::Tree;
 use hp_control::{Control, Nothing};
@@ -137,13 +138,6 @@ impl<'p> Parsing<'p> {
     }
 }
 
-/// A token that outlives the page is one of the page.
-fn shortened<'p>(token: Token<'static>) -> Token<'p>
-    ensures { result ≡ token.entry }
-{
-    token
-}
-
 /// Handles the tokens of the end of input.
 fn handle_last<'p>(
     alloc: Global,
@@ -151,7 +145,8 @@ fn handle_last<'p>(
     tokens: Tokens<'static>,
 ) -> Result<(), NoMemory> {
     for token in tokens {
-        if handle(alloc, view, shortened(token)).is_err() {
+        let token = of_page(alloc, token)?;
+        if handle(alloc, view, token).is_err() {
             return Err(NoMemory);
         }
     }
