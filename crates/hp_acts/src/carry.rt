@@ -14,7 +14,7 @@ use crate::inserts::{
     add_to_body, add_to_first, insert, insert_bare, insert_html, insert_like_current,
     insert_named_foreign,
 };
-use crate::questions::holds;
+use crate::questions::{fails, holds};
 use crate::stack_acts::{
     adopt_named, append_current, implied_except, take_named_off, through, through_foreign, walk,
 };
@@ -43,7 +43,7 @@ pub fn carry<'p, B: Below>(
 {
     match act {
         Act::If { test, .. } => holds(alloc, view, token, test),
-        Act::Unless { test, .. } => Ok(!holds(alloc, view, token, test)?),
+        Act::Unless { test, .. } => fails(alloc, view, token, test),
         _ => {
             carry_out(alloc, view, act, token, spending, fostering)?;
             Ok(true)

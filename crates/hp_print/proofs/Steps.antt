@@ -8,9 +8,8 @@ use Rattle.hp_elements.specs.declared.tag.Tag.{Tag}
 use Rattle.hp_control.specs.Tree.{Tree, Item, branch, HasChild, IsForest}
 use Rattle.hp_control.specs.Tree as item
 use Rattle.std.specs.Option.{option_copied}
-use Rattle.std.specs.List.{concat}
 use Rattle.std.proofs.lemmas.Bool.{true≢false}
-use Rattle.hp_arena.specs.Readers.{shown, is_item, is_template, IsAt, IsIn, IsShown, parent_of, place_of, siblings}
+use Rattle.hp_arena.specs.Readers.{shown, text_of, is_item, is_template, IsAt, IsIn, IsShown, parent_of, place_of, siblings}
 use Rattle.hp_arena.specs.declared.readers.At.{At}
 use Rattle.hp_arena.specs.declared.readers.At.TheVariants as at
 use Rattle.hp_arena.specs.declared.readers.NodeView.{NodeView}
@@ -210,7 +209,7 @@ leaf_inside t node.Document x is not_element = cc is
 leaf_inside t node.Contents x is not_element = cc is
 leaf_inside t (node.Doctype name public system) x is not_element = let same : item.Doctype name.now (option_copied public) (option_copied system) ≡ x = cc is in ap (inside t) (sym same)
 leaf_inside t (node.Element id tag) x is not_element = absurd (not_element id tag refl)
-leaf_inside t (node.Text runs) x is not_element = let same : item.Text (concat runs.now) ≡ x = cc is in ap (inside t) (sym same)
+leaf_inside t (node.Text runs) x is not_element = let same : item.Text (text_of runs) ≡ x = cc is in ap (inside t) (sym same)
 leaf_inside t (node.Comment text) x is not_element = let same : item.Comment text.now ≡ x = cc is in ap (inside t) (sym same)
 
 -- the whole text is that of what stands inside the document

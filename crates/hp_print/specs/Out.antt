@@ -1,5 +1,5 @@
 -- What was printed so far.
-use Rattle.std.specs.Prelude.{◌≡◌, ℕ, List, ◌++◌, length}
+use Rattle.std.specs.Prelude.{◌≡◌, ℕ, Bool, true, false, List, ◌++◌, length}
 use Rattle.hp_print.specs.declared.output.Out.{Out}
 use Rattle.hp_print.specs.declared.output.Out.TheVariants.{Counting, Writing}
 
@@ -8,6 +8,11 @@ abbrev pub Has : Out → List ℕ → Type 0
 Has (Counting count) bytes = count ≡ length bytes
 Has (Writing written) bytes = written.items ≡ bytes
 
+abbrev pub is_counting : Out → Bool
+is_counting (Counting count) = true
+is_counting (Writing written) = false
+
 -- these bytes were printed after the others
 pub record Prints (old new : Out) (piece : List ℕ) : Type 0 where
   pub after : (bytes : List ℕ) → Has old bytes → Has new (bytes ++ piece)
+  pub kind : is_counting new ≡ is_counting old

@@ -1,11 +1,8 @@
 //! The attributes of an element, in the order in which they are printed.
 
-ghost use Rattle.std.specs.Prelude.{◌≡◌, ◌≤◌, ◌++◌, OnOk, IfOk, length, map};
-ghost use Rattle.std.specs.List.{insert};
+ghost use Rattle.std.specs.Prelude.{◌≡◌, ◌++◌, OnOk, IfOk};
 ghost use Rattle.std.specs.Str.{chars};
-ghost use Rattle.std.specs.Ordering.{nat_cmp};
-ghost use Rattle.std.specs.Cmp.Lexicographic.{slice_cmp};
-ghost use Rattle.hp_print.specs.Order.{comes_before, in_order, placed, space_word, weight};
+ghost use Rattle.hp_print.specs.Order.{by_units, in_order, printed_name, space_word, weight, InOrder};
 ghost use Rattle.hp_print.specs.Out.{Prints};
 ghost use Rattle.hp_print.specs.Print.{attribute_line, attribute_lines};
 ghost use Rattle.hp_print.specs.Shown.{attribute_of, attributes_of};
@@ -73,50 +70,57 @@ fn weight(c: char) -> u32
     }
 }
 
-/// How the weights of a word and a name compare with those of others.
+/// How a name with the word before it compares with another, by UTF-16 code units.
 fn compare(word: &str, name: &str, other_word: &str, other_name: &str) -> Ordering
-    ensures { result ≡ slice_cmp nat_cmp (map weight (chars word.now ++ chars name.now)) (map weight (chars other_word.now ++ chars other_name.now)) }
+    ensures { result ≡ by_units (chars word.now ++ chars name.now) (chars other_word.now ++ chars other_name.now) }
 {
     let ours = word.chars().chain(name.chars()).map(weight);
     let theirs = other_word.chars().chain(other_name.chars()).map(weight);
     ours.cmp(theirs)
 }
 
-/// Whether the printed name of an attribute comes before that of another.
-fn comes_before(first: Shown<'_>, second: Shown<'_>) -> bool
-    ensures { result ≡ comes_before (attribute_of first.entry) (attribute_of second.entry) }
+/// How the printed names of two attributes compare.
+fn compare_names(first: Shown<'_>, second: Shown<'_>) -> Ordering
+    ensures { result ≡ by_units (printed_name (attribute_of first.entry)) (printed_name (attribute_of second.entry)) }
 {
     let word = space_text(first.space);
     let other_word = space_text(second.space);
-    let order = compare(word, first.name, other_word, second.name);
-    order == Ordering::Less
+    compare(word, first.name, other_word, second.name)
 }
 
-/// At which index an attribute goes into those that are in order.
-fn place_of(sorted: &[Shown<'_>], attribute: Shown<'_>) -> usize
-    ensures place { insert (attributes_of sorted.now) result (attribute_of attribute.entry) ≡ placed (attributes_of sorted.now) (attribute_of attribute.entry) }
-    ensures within { result ≤ length sorted.now }
+/// The texts of attributes, as these stand.
+fn texts_of<'t>(alloc: Global, attributes: &'t Chain<Attribute>) -> Result<Vec<Shown<'t>>, NoMemory>
+    ensures { IfOk result (λ shown. attributes_of shown.items ≡ attributes.now) }
 {
-    for index in 0..sorted.len() {
-        if comes_before(attribute, sorted[index]) {
-            return index;
-        }
-    }
-    sorted.len()
-}
-
-/// The attributes in the order in which they are printed.
-fn ordered<'t>(alloc: Global, attributes: &'t Chain<Attribute>) -> Result<Vec<Shown<'t>>, NoMemory>
-    ensures { IfOk result (λ sorted. attributes_of sorted.items ≡ in_order attributes.now) }
-{
-    let mut sorted = Vec::with_capacity(alloc, attributes.len())?;
+    let mut shown = Vec::with_capacity(alloc, attributes.len())?;
     for attribute in attributes.iter() {
-        let shown = Shown::of(attribute);
-        let at = place_of(sorted.as_slice(), shown);
-        sorted.insert(at, shown)?;
+        shown.push(Shown::of(attribute))?;
     }
-    Ok(sorted)
+    Ok(shown)
 }
+
+/// Puts attributes into the order in which they are printed. Up to 20 take no memory for it.
+fn sort(shown: &mut Vec<Shown<'_>>) -> Result<(), NoMemory>
+    ensures { OnOk result (attributes_of shown.new.items ≡ in_order (attributes_of shown.old.items)) }
+{
+    shown.sort_by(|first, second| compare_names(*first, *second))?;
+    Ok(())
+}
+
+/// Prints the attributes of an element as they stand.
+fn print_unsorted(out: &mut Out, attributes: &Chain<Attribute>, depth: u64) -> Result<(), NoMemory>
+    ensures { OnOk result (Prints out.old out.new (attribute_lines depth attributes.now)) }
+{
+    for attribute in attributes.iter() {
+        print_attribute(out, Shown::of(attribute), depth)?;
+    }
+    Ok(())
+}
+
+/// Attributes in the order in which they are printed are in order by the UTF-16 code units of their printed names.
+pub fn attributes_are_in_order()
+    ensures { InOrder }
+{}
 
 /// Prints attributes as they stand.
 fn print_all(out: &mut Out, attributes: &[Shown<'_>], depth: u64) -> Result<(), NoMemory>
@@ -128,7 +132,8 @@ fn print_all(out: &mut Out, attributes: &[Shown<'_>], depth: u64) -> Result<(), 
     Ok(())
 }
 
-/// Prints the attributes of an element in their order.
+/// Prints the attributes of an element in their order. Where they are counted, and where there is but one, no order
+/// is asked for.
 pub fn print_attributes(
     alloc: Global,
     out: &mut Out,
@@ -137,10 +142,11 @@ pub fn print_attributes(
 ) -> Result<(), NoMemory>
     ensures { OnOk result (Prints out.old out.new (attribute_lines depth (in_order attributes.now))) }
 {
-    if attributes.is_empty() {
-        return Ok(());
+    if attributes.len() < 2 || out.is_counting() {
+        return print_unsorted(out, attributes, depth);
     }
-    let sorted = ordered(alloc, attributes)?;
+    let mut sorted = texts_of(alloc, attributes)?;
+    sort(&mut sorted)?;
     print_all(out, sorted.as_slice(), depth)?;
     Ok(())
 }

@@ -4,13 +4,13 @@ ghost use Rattle.std.specs.Prelude.{◌≡◌, [], OnOk, unwrap_or, encode_utf8_
 ghost use Rattle.std.specs.Option.{option_copied};
 ghost use Rattle.std.specs.List.{concat};
 ghost use Rattle.hp_control.specs.Tree.{Tree};
-ghost use Rattle.hp_arena.specs.Readers.{shown, HasTag};
+ghost use Rattle.hp_arena.specs.Readers.{shown, text_of, HasTag};
 ghost use Rattle.hp_print.specs.Out.{Prints};
 ghost use Rattle.hp_print.specs.Print.{opening, namespace_word, contents_line, element_lines, text_line, comment_line, identifiers, doctype_line, lines_of, tag_extra};
 
 use crate::attributes::print_attributes;
 use crate::output::Out;
-use hp_arena::{NodeView, is_template};
+use hp_arena::{NodeView, Runs, is_template};
 use hp_elements::{Chain, Namespace, NoMemory, Tag, Text};
 use std::alloc::Global;
 
@@ -47,12 +47,15 @@ pub fn extra_depth(tag: &Tag) -> u32
 
 /// Prints a text by its runs.
 #[tactic(auto, using(crate::proofs::Pieces::prints_then))]
-fn print_text(out: &mut Out, runs: &Chain<Text<'_>>, depth: u64) -> Result<(), NoMemory>
-    ensures { OnOk result (Prints out.old out.new (text_line depth (concat runs.now))) }
+fn print_text(out: &mut Out, runs: Runs<'_, '_>, depth: u64) -> Result<(), NoMemory>
+    ensures { OnOk result (Prints out.old out.new (text_line depth (text_of runs.entry))) }
 {
     out.indent(depth)?;
     out.put(b"\"")?;
-    print_runs(out, runs)?;
+    match runs {
+        Runs::One(run) => out.put_text(run.as_str())?,
+        Runs::Several(runs) => print_runs(out, runs)?,
+    }
     out.put(b"\"\n")?;
     Ok(())
 }

@@ -2,7 +2,7 @@
 
 ghost use Rattle.std.specs.Prelude.{◌≡◌, ◌++◌, OnOk, replicate, encode_utf8_all};
 ghost use Rattle.std.specs.Str.{chars};
-ghost use Rattle.hp_print.specs.Out.{Prints};
+ghost use Rattle.hp_print.specs.Out.{Prints, is_counting};
 ghost use Rattle.hp_print.specs.Print.{indentation};
 
 use std::alloc::AllocError as NoMemory;
@@ -17,6 +17,13 @@ pub enum Out {
 const BLANKS: [u8; 64] = [b' '; 64];
 
 impl Out {
+    /// Whether it is counted.
+    pub fn is_counting(&self) -> bool
+        ensures { result ≡ is_counting self.now }
+    {
+        matches!(self, Out::Counting(_))
+    }
+
     /// Prints these bytes.
     pub fn put(&mut self, piece: &[u8]) -> Result<(), NoMemory>
         ensures { OnOk result (Prints self.old self.new piece.now) }

@@ -122,3 +122,6 @@ fn push_first(
         None => Ok(()),
     }
 }
+
+#[cfg(test)]
+mod tests;
