@@ -1,5 +1,6 @@
 //! A turn of the adoption agency algorithm that finds a furthest block (13.2.6.4.7).
 ghost use Rattle.std.specs.Prelude.{◌≡◌, ◌+◌, ◌<◌, ◌++◌, ◌∷◌, IfOk, Some, length, take, drop, slice_get};
+ghost use Rattle.hp_control.specs.Adoption.{settled};
 
 use crate::climb::{Climb, own_ref};
 use crate::elements::element_for;
@@ -66,7 +67,9 @@ fn settle(
     bookmark: Option<u64>,
     gone: u64,
     entry: FormattingEntry,
-) -> Result<(), NoMemory> {
+) -> Result<(), NoMemory>
+    ensures { IfOk result (λ _. list.new ≡ settled bookmark gone entry list.old) }
+{
     match bookmark {
         None => {
             supplant(list, gone, entry);

@@ -1,5 +1,5 @@
 //! Entries of the list of active formatting elements, found by their elements' ids (13.2.4.3).
-ghost use Rattle.std.specs.Prelude.{◌≡◌, [], ◌∷◌};
+ghost use Rattle.std.specs.Prelude.{◌≡◌, [], ◌∷◌, IfOk};
 ghost use Rattle.hp_control.specs.Adoption.{edit_at};
 
 use hp_control::{FormattingEntry, Stack};
@@ -34,12 +34,15 @@ pub fn supplant(list: &mut Stack<FormattingEntry>, id: u64, entry: FormattingEnt
 }
 
 /// Puts an entry just after the one of this id, where that stands there.
+#[tactic(auto, using(crate::proofs::Spots::left_stopped, crate::proofs::Spots::left_past))]
 pub fn follow(
     alloc: Global,
     list: &mut Stack<FormattingEntry>,
     id: u64,
     entry: FormattingEntry,
-) -> Result<(), NoMemory> {
+) -> Result<(), NoMemory>
+    ensures { IfOk result (λ _. list.new ≡ edit_at id 0 (entry ∷ []) list.old) }
+{
     match listed_walk(list, id) {
         Walk::Found(depth) => list.splice(alloc, depth, 0, List::of_one(entry)),
         Walk::Stopped => Ok(()),
