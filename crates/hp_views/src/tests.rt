@@ -5,8 +5,7 @@ ghost use Rattle.hp_elements.specs.declared.sets.Namespace.TheVariants.{Html};
 
 use crate::View;
 use hp_control::{
-    Answer, Child, Control, Guess, Nothing, OpenElement, Predictor, Question, Refusal, Stack,
-    answer, truth,
+    Answer, Below, Child, Control, Guess, Nothing, Predictor, Question, Refusal, answer, truth,
 };
 use hp_elements::{
     Chain, Kinds, Known, Mode, Name, Namespace, NoMemory, Point, Rest, Scope, SetName, Tag, Text,
@@ -48,6 +47,7 @@ fn told(rt: &impl Abort, test: Result<bool, Refusal>, wanted: bool) {
 fn a_whole_view_ends_as_its_state(rt: HostRuntime) -> Result<(), Fail> {
     let start = Control::start();
     let lex = start.lex.copy(rt.alloc())?;
+    start.is_kept();
     let view = View::whole(Control::start());
     let (control, edits) = view.into_control(lex);
     assert!(rt; control.same(&start));
@@ -55,14 +55,19 @@ fn a_whole_view_ends_as_its_state(rt: HostRuntime) -> Result<(), Fail> {
     Ok(())
 }
 
+/// Inserts an element at the current node.
+fn opens<B: Below>(rt: &impl Abort, alloc: Global, view: &mut View<'_, B>, known: Known) {
+    done(rt, view.insert(alloc, false, tag(known), Point::No));
+}
+
 /// A view of a page whose body has been opened.
 fn in_body(rt: &impl Abort, alloc: Global) -> View<'static, Nothing> {
     let mut view = View::whole(Control::start());
     done(rt, view.insert_into_document(alloc, tag(Known::Html)));
-    done(rt, view.insert(alloc, false, tag(Known::Head), Point::No));
+    opens(rt, alloc, &mut view, Known::Head);
     done(rt, view.point_head(alloc));
     done(rt, view.pop(alloc));
-    done(rt, view.insert(alloc, false, tag(Known::Body), Point::No));
+    opens(rt, alloc, &mut view, Known::Body);
     done(rt, view.switch_to(alloc, Mode::InBody));
     view
 }
@@ -71,10 +76,10 @@ fn in_body(rt: &impl Abort, alloc: Global) -> View<'static, Nothing> {
 fn an_own_form_leaves_the_stack(rt: HostRuntime) -> Result<(), Fail> {
     let alloc = rt.alloc();
     let mut view = in_body(&rt, alloc);
-    done(&rt, view.insert(alloc, false, tag(Known::Form), Point::No));
+    opens(&rt, alloc, &mut view, Known::Form);
     done(&rt, view.point_form(alloc));
-    done(&rt, view.insert(alloc, false, tag(Known::Div), Point::No));
-    done(&rt, view.insert(alloc, false, tag(Known::P), Point::No));
+    opens(&rt, alloc, &mut view, Known::Div);
+    opens(&rt, alloc, &mut view, Known::P);
     done(&rt, view.end_form(alloc));
     told(&rt, view.has_form(alloc), false);
     told(&rt, view.current_is(alloc, named(Known::Div)), true);
@@ -92,10 +97,7 @@ fn the_head_element_comes_back_for_a_while(rt: HostRuntime) -> Result<(), Fail> 
     done(&rt, view.push_head(alloc));
     told(&rt, view.current_is(alloc, named(Known::Head)), true);
     assert_eq!(rt; view.change.stack.len(), 3);
-    done(
-        &rt,
-        view.insert(alloc, false, tag(Known::Script), Point::No),
-    );
+    opens(&rt, alloc, &mut view, Known::Script);
     done(&rt, view.take_head_off(alloc));
     told(&rt, view.below_is(alloc, named(Known::Body)), true);
     Ok(())
@@ -105,10 +107,10 @@ fn the_head_element_comes_back_for_a_while(rt: HostRuntime) -> Result<(), Fail> 
 fn entries_and_elements_are_taken_out_of_mid_list(rt: HostRuntime) -> Result<(), Fail> {
     let alloc = rt.alloc();
     let mut view = in_body(&rt, alloc);
-    done(&rt, view.insert(alloc, false, tag(Known::B), Point::No));
+    opens(&rt, alloc, &mut view, Known::B);
     let bold = view.own_current();
     done(&rt, view.append_entry(alloc, tag(Known::B)));
-    done(&rt, view.insert(alloc, false, tag(Known::I), Point::No));
+    opens(&rt, alloc, &mut view, Known::I);
     done(&rt, view.append_entry(alloc, tag(Known::I)));
     done(&rt, view.remove_entry(alloc, bold));
     done(&rt, view.take_off(alloc, bold));
@@ -140,7 +142,7 @@ fn crossed(rt: &impl Abort, act: Result<(), Refusal>) {
 
 /// Asks what a chunk asks whose first token ends a form.
 fn ends_a_form(rt: &impl Abort, alloc: Global, view: &mut View<'_, Guess<Stored>>) {
-    done(rt, view.insert(alloc, false, tag(Known::P), Point::No));
+    opens(rt, alloc, view, Known::P);
     done(rt, view.end_form(alloc));
     told(rt, view.has_form(alloc), false);
     told(rt, view.second_is_body(alloc), false);
