@@ -26,6 +26,7 @@ use Rattle.hp_views.specs.ClosingLaws.{implied_faithful, implied_except_faithful
 use Rattle.hp_views.specs.ClosingPlans.{leaves_it}
 use Rattle.hp_views.specs.FieldLaws.{has_own, frameset_faithful, skip_faithful, switch_faithful, keep_faithful, original_faithful, push_mode_faithful, pop_mode_faithful, replace_mode_faithful, point_form_faithful, quirks_faithful, head_faithful, empty_pending_faithful, append_pending_faithful}
 use Rattle.hp_views.specs.FieldPlans.{quirks_plan}
+use Rattle.hp_views.specs.FormLaws.{end_form_faithful}
 use Rattle.hp_views.specs.HeadLaws.{push_head_faithful, take_head_off_faithful}
 use Rattle.hp_views.specs.InsertLaws.{put_faithful, put_document_faithful, put_first_faithful, insert_faithful, insert_document_faithful, add_first_faithful, add_body_faithful, detach_faithful}
 use Rattle.hp_views.specs.ListLaws.{marker_faithful, clear_faithful, listed_faithful}
@@ -49,9 +50,8 @@ abbrev pub MeansBy : (Split → Bool) → Option (Split → Plan Split) → Stat
 MeansBy fits None f = Unit {0}
 MeansBy fits (Some plan) f = FaithfulWhere fits plan f
 
--- the law of an act; the end of a form has it in a crate below
+-- the law of an act
 abbrev pub ActMeans : Bool → Token → Act → Type 0
-ActMeans fostering t act.EndForm = Unit {0}
 ActMeans fostering t a = MeansBy (fits_of a) (act_plan fostering t a) (step fostering t a)
 
 implied_but_faithful : (name : Option Known) → Faithful (implied_but_plan name) (implied_but_for name)
@@ -102,7 +102,7 @@ act_faithful f t h act.Walk = walk_faithful (name_of t)
 act_faithful f t h act.DetachBody = detach_faithful
 act_faithful f t h act.TakeHeadOff = take_head_off_faithful
 act_faithful f t h (act.TakeOff which) = tt
-act_faithful f t h act.EndForm = tt
+act_faithful f t h act.EndForm = end_form_faithful
 act_faithful f t h act.CloseLink = tt
 act_faithful f t h act.AppendToList = tt
 act_faithful f t h (act.Adopt which) = tt

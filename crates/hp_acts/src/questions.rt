@@ -90,3 +90,19 @@ pub(crate) fn holds<'p, B: Below>(
         Test::NamesForeign => names_open(alloc, view, token),
     }
 }
+
+/// Whether the test fails.
+pub(crate) fn fails<'p, B: Below>(
+    alloc: Global,
+    view: &mut View<'p, B>,
+    token: &Token<'p>,
+    test: Test,
+) -> Result<bool, Refusal>
+    ensures plan { Answers result (sight B.heard view.old) (sight B.heard view.new) (λ v. followed_by (test_plan token.now test v) (λ b. gives (not b))) }
+{
+    let holds = holds(alloc, view, token, test)?;
+    Ok(!holds)
+}
+
+ghost use Rattle.std.specs.Prelude.{not};
+ghost use Rattle.hp_control.specs.Plan.{gives, followed_by};

@@ -1,5 +1,5 @@
 //! The parts of a token that acts read, or give to the tree and the list.
-ghost use Rattle.std.specs.Prelude.{◌≡◌, [], IfOk, IfSome, OnOk, MatchOption};
+ghost use Rattle.std.specs.Prelude.{◌≡◌, [], ◌∷◌, IfOk, IsNone, OnOk};
 ghost use Rattle.hp_elements.specs.Names.{text_of};
 ghost use Rattle.hp_elements.specs.declared.kinds.Kinds.TheVariants as kinds;
 ghost use Rattle.hp_model.specs.Tokens.{as_start, bare, characters, comment, is_self_closing, name_for, name_of, tag_of};
@@ -21,6 +21,13 @@ pub enum Spending {
     Moves,
 }
 
+fn no_name(alloc: Global) -> Result<Name, NoMemory>
+    ensures { IfOk result (λ name. name ≡ []) }
+{
+    let name = Name::from_text(alloc, "")?;
+    Ok(name)
+}
+
 /// The token's own name; the empty one where it has none.
 fn own_name(alloc: Global, token: &Token<'_>) -> Result<Name, NoMemory>
     ensures { IfOk result (λ name. name ≡ name_of token.now) }
@@ -28,7 +35,10 @@ fn own_name(alloc: Global, token: &Token<'_>) -> Result<Name, NoMemory>
     match token {
         Token::Start { tag, .. } => tag.name.copy(alloc),
         Token::EndTag { name } => name.copy(alloc),
-        _ => Name::from_text(alloc, ""),
+        Token::Characters { .. } => no_name(alloc),
+        Token::Comment { .. } => no_name(alloc),
+        Token::Doctype { .. } => no_name(alloc),
+        Token::EndOfInput => no_name(alloc),
     }
 }
 
@@ -186,11 +196,15 @@ pub(crate) fn rename(token: &mut Token<'_>, name: Known)
 }
 
 /// What is left of a text without its first line feed; none where it was that alone.
-fn text_after<'p>(alloc: Global, text: Text<'p>) -> Result<Option<Text<'p>>, NoMemory> {
-    match text.as_str().as_bytes() {
-        [b'\n'] => Ok(None),
-        [b'\n', ..] => Ok(Some(Text::from_str(alloc, &text.as_str()[1..])?)),
-        _ => Ok(Some(text)),
+fn text_after<'p>(alloc: Global, text: Text<'p>) -> Result<Option<Text<'p>>, NoMemory>
+    ensures alone { text.entry ≡ 0xA ∷ [] → IfOk result (λ rest. IsNone rest) }
+{
+    if text.same(&Text::of_char('\n')) {
+        return Ok(None);
+    }
+    match text.as_str().strip_prefix('\n') {
+        Some(rest) => Ok(Some(Text::from_str(alloc, rest)?)),
+        None => Ok(Some(text)),
     }
 }
 
@@ -198,7 +212,9 @@ fn text_after<'p>(alloc: Global, text: Text<'p>) -> Result<Option<Text<'p>>, NoM
 pub(crate) fn after_line_feed<'p>(
     alloc: Global,
     token: Token<'p>,
-) -> Result<Option<Token<'p>>, NoMemory> {
+) -> Result<Option<Token<'p>>, NoMemory>
+    ensures alone { (class : CharClass) → token.entry ≡ Characters class (0xA ∷ []) → IfOk result (λ rest. IsNone rest) }
+{
     match token {
         Token::Characters { class, text } => match text_after(alloc, text)? {
             Some(text) => Ok(Some(Token::Characters { class, text })),
@@ -207,3 +223,6 @@ pub(crate) fn after_line_feed<'p>(
         token => Ok(Some(token)),
     }
 }
+
+ghost use Rattle.hp_elements.specs.declared.token.CharClass.{CharClass};
+ghost use Rattle.hp_elements.specs.declared.token.Token.TheVariants.{Characters};

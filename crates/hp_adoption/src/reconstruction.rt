@@ -5,7 +5,7 @@ ghost use Rattle.hp_views.specs.Walks.{IsWithin};
 ghost use Rattle.hp_adoption.specs.ReconPlans.{is_settled as spec_is_settled, stale_walk as spec_stale_walk, renew_plan, renew_down_plan, reconstruct_plan};
 
 use crate::elements::point_of;
-use hp_control::{Below, Crossing, FormattingEntry, OpenElement, Refusal, Stack};
+use hp_control::{Below, Change, Crossing, FormattingEntry, OpenElement, Refusal, Stack};
 use hp_views::{View, Walk, older_quiet, open_walk};
 use std::alloc::Global;
 
@@ -33,12 +33,12 @@ ghost use Rattle.hp_adoption.specs.ReconPlans.{is_found};
 ghost use Rattle.hp_views.specs.Walks.{id_walk};
 
 /// Walks down the list to the last entry that is a marker or open.
-fn stale_walk(stack: &Stack<OpenElement>, list: &Stack<FormattingEntry>) -> Walk
-    ensures walk { result ≡ spec_stale_walk stack.now list.now }
-    ensures within { IsWithin result list.now }
+fn stale_walk(change: &Change) -> Walk
+    ensures walk { result ≡ spec_stale_walk change.now.stack change.now.formatting }
+    ensures within { IsWithin result change.now.formatting }
 {
-    for depth in 0..list.len() {
-        if is_settled(stack, list.at(depth)) {
+    for depth in 0..change.formatting.len() {
+        if is_settled(&change.stack, change.formatting.at(depth)) {
             return Walk::Found(depth);
         }
     }
@@ -98,7 +98,7 @@ pub fn reconstruct<'p, B: Below>(
 ) -> Result<(), Refusal>
     ensures { Carries result (sight B.heard view.old) (sight B.heard view.new) (reconstruct_plan fostering) }
 {
-    match stale_walk(&view.change.stack, &view.change.formatting) {
+    match stale_walk(&view.change) {
         Walk::Found(count) => renew_down(alloc, view, fostering, count),
         Walk::Stopped => reconstruct_below(alloc, view, fostering),
         Walk::PastAll => reconstruct_below(alloc, view, fostering),

@@ -44,24 +44,6 @@ fn furthest(stack: &Stack<OpenElement>, depth: usize) -> Option<usize>
     None
 }
 
-/// Pops so many own elements; without an older state the last one stays.
-fn pop_own<'p, B: Below>(view: &mut View<'p, B>, count: usize)
-    requires { count ≤ length view.old.change.stack }
-    ensures split { split_of view.new ≡ own_popped count (split_of view.old) }
-    ensures below { view.new.below ≡ view.old.below }
-{
-    match view.page {
-        Some(_) => {
-            let most = view.change.stack.len().saturating_sub(1);
-            view.change.stack.drop_top(count.min(most));
-        }
-        None => view.change.stack.drop_top(count),
-    }
-}
-
-ghost use Rattle.hp_views.specs.View.{split_of};
-ghost use Rattle.hp_views.specs.StackPlans.{own_popped};
-
 /// A turn whose formatting element is an own one.
 fn turn_own<'p, B: Below>(
     alloc: Global,
@@ -102,7 +84,7 @@ fn turn_open<'p, B: Below>(
     }
     match furthest(&view.change.stack, depth) {
         None => {
-            pop_own(view, depth + 1);
+            view.pop_own(depth + 1);
             strike(&mut view.change.formatting, id);
             Ok(false)
         }

@@ -38,7 +38,7 @@ first_left (suc n) [] = refl
 first_left (suc n) (e ∷ es) = first_left n es
 
 -- no HTML element is a foreign node
-html_way : (ended html entering opening : Bool) → (if is_some (if html then Some 0 else None) then false else not (ended || html || entering || opening)) ≡ not (ended || html || entering || opening)
+html_way : (ended html entering opening : Bool) → (if is_some {T = ℕ} (if html then Some 0 else None) then false else not (ended || html || entering || opening)) ≡ not (ended || html || entering || opening)
 html_way true true entering opening = refl
 html_way false true entering opening = refl
 html_way ended false entering opening = refl

@@ -1,3 +1,5 @@
+pub mod Encodings
+pub mod Fonts
 pub mod Plans
 pub mod Laws
 pub mod Steps

@@ -75,15 +75,35 @@ pub(crate) fn attributes_in(
     Ok(made)
 }
 
-fn is_font_attribute(name: &Name) -> bool {
-    name.is(Known::Color) || name.is(Known::Face) || name.is(Known::Size)
+pub(crate) fn is_called(name: &Name, known: Known) -> bool
+    ensures { result ≡ bytes_eq name.now (text_of known) }
+{
+    name.is(known)
+}
+
+ghost use Rattle.std.specs.Str.{bytes_eq};
+ghost use Rattle.hp_elements.specs.Names.{text_of};
+ghost use Rattle.hp_foreign.specs.Fonts.{is_font_attribute};
+
+fn is_font_attribute(attribute: &Attribute) -> bool
+    ensures { result ≡ is_font_attribute attribute.now }
+{
+    is_called(&attribute.name, Known::Color)
+        || is_called(&attribute.name, Known::Face)
+        || is_called(&attribute.name, Known::Size)
+}
+
+fn has_any(attributes: &Chain<Attribute>) -> bool
+    ensures { result ≡ list_any is_font_attribute attributes.now }
+{
+    attributes
+        .iter()
+        .any(|attribute| is_font_attribute(attribute))
 }
 
 /// Whether the tag has an attribute that makes a start tag `font` one that ends foreign content.
 pub fn has_font_attribute(tag: &Tag) -> bool
     ensures { result ≡ has_font_attribute tag.now }
 {
-    tag.attributes
-        .iter()
-        .any(|attribute| is_font_attribute(&attribute.name))
+    has_any(&tag.attributes)
 }

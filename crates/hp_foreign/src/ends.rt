@@ -55,7 +55,8 @@ fn replaced(alloc: Global, text: &Text<'_>) -> Result<Text<'static>, NoMemory>
     ensures { IfOk result (λ made. made ≡ replaced text.now) }
 {
     let mut made = Text::new();
-    for _ in text.as_str().chars() {
+    for c in text.as_str().chars() {
+        let _ = c;
         made.push(alloc, '\u{FFFD}')?;
     }
     Ok(made)

@@ -1,6 +1,7 @@
 //! The sequential parser: the lexer and tree construction over a page, one token behind the other.
 #![tactic(auto)]
 
+mod last;
 mod parsing;
 #[cfg(test)]
 mod tests;

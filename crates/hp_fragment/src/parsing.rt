@@ -1,14 +1,16 @@
 // A run of the sequential parser over a page.
-ghost use Rattle.std.specs.Prelude.{◌≡◌, ◌≤◌, ◌<◌, ◌^◌, ℕ, Ok, true, false, IfOk, OnOk, IsTrue, length};
+ghost use Rattle.std.specs.Prelude.{◌≡◌, ◌≤◌, ◌^◌, [], IfOk, OnOk, IsTrue};
 ghost use Rattle.hp_tokens.specs.Advancing.{held};
 ghost use Rattle.hp_lexer.specs.declared.lexer.Asked.TheVariants as asked;
-ghost use Rattle.hp_lexer.specs.Standing.{is_answered, load};
+ghost use Rattle.hp_lexer.specs.Standing.{is_answered};
+ghost use Rattle.hp_control.specs.Tree.{applied_all};
 ghost use Rattle.hp_fragment.specs.Running.{Stays, StepsOn};
 
 use crate::NoMemory;
+use crate::last::of_page;
 use hp_acts::handle;
 use hp_arena::Tree;
-use hp_control::{Control, Edit, Nothing};
+use hp_control::{Control, Nothing};
 use hp_elements::{Name, Rest, Token, Tokens};
 use hp_lexer::{Cursor, Lexer, Step};
 use hp_text::Page;
@@ -25,8 +27,6 @@ pub(crate) struct Parsing<'p> {
     input: Cursor<'p>,
     view: View<'p, Nothing>,
     tree: Tree<'p>,
-    /// Empty between two batches of edits; its memory is kept.
-    batch: Vec<Edit<'p>>,
 }
 
 impl<'p> Parsing<'p> {
@@ -40,7 +40,6 @@ impl<'p> Parsing<'p> {
             input: Cursor::of_str(page.as_str()),
             view: View::whole(Control::start()),
             tree: Tree::start(alloc)?,
-            batch: Vec::new(alloc),
         })
     }
 
@@ -118,7 +117,7 @@ impl<'p> Parsing<'p> {
     fn grow(&mut self, alloc: Global) -> Result<(), NoMemory>
         ensures stays { OnOk result (Stays self.old.lexer self.old.input self.new.lexer self.new.input) }
     {
-        apply_all(alloc, &mut self.tree, &mut self.view, &mut self.batch)
+        apply_all(alloc, &mut self.tree, &mut self.view)
     }
 
     /// The end of input, and the whole tree.
@@ -130,29 +129,43 @@ impl<'p> Parsing<'p> {
             lexer,
             mut view,
             mut tree,
-            mut batch,
             ..
         } = self;
-        for token in lexer.finish(alloc)? {
-            if handle(alloc, &mut view, token).is_err() {
-                return Err(NoMemory);
-            }
-        }
-        apply_all(alloc, &mut tree, &mut view, &mut batch)?;
+        let tokens = lexer.finish(alloc)?;
+        handle_last(alloc, &mut view, tokens)?;
+        apply_all(alloc, &mut tree, &mut view)?;
         Ok(tree)
     }
 }
 
-/// Applies the edits that the view made to the tree, in order. The memory of the batch is kept.
+/// Handles the tokens of the end of input.
+fn handle_last<'p>(
+    alloc: Global,
+    view: &mut View<'p, Nothing>,
+    tokens: Tokens<'static>,
+) -> Result<(), NoMemory> {
+    for token in tokens {
+        let token = of_page(alloc, token)?;
+        if handle(alloc, view, token).is_err() {
+            return Err(NoMemory);
+        }
+    }
+    Ok(())
+}
+
+/// Applies the edits that the view made to the tree, in order, and leaves it room for as many again.
 fn apply_all<'p>(
     alloc: Global,
     tree: &mut Tree<'p>,
     view: &mut View<'p, Nothing>,
-    batch: &mut Vec<Edit<'p>>,
-) -> Result<(), NoMemory> {
+) -> Result<(), NoMemory>
+    ensures tree { OnOk result (tree.new.branches ≡ applied_all tree.old.branches view.old.edits) }
+    ensures edits { OnOk result (view.new.edits ≡ []) }
+{
     tree.reserve(alloc, &view.edits)?;
-    view.edits.take_into(batch);
-    for edit in batch.drain(..) {
+    let mut batch = Vec::with_capacity(alloc, BATCH)?;
+    view.edits.take_into(&mut batch);
+    for edit in batch {
         tree.apply(edit);
     }
     Ok(())

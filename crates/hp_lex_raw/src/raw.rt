@@ -1,5 +1,6 @@
 // The moves of this part of the lexer.
-ghost use Rattle.std.specs.Prelude.{◌≡◌, ◌≤◌, ◌^◌, ◌==◌, ◌&&◌, ℕ, [], Option, Some, false, IfOk, IsTrue};
+ghost use Rattle.std.specs.Prelude.{◌≡◌, ◌≤◌, ◌^◌, ◌==◌, ◌&&◌, ℕ, [], ◌∷◌, Option, Some, true, false, IfOk, IfSome, IfNone, IsTrue};
+ghost use Rattle.hp_tokens.specs.declared.rows.Turn.TheVariants as turns;
 ghost use Rattle.hp_tokens.specs.declared.machine.Machine.{Machine};
 ghost use Rattle.hp_tokens.specs.declared.state.State.{State};
 ghost use Rattle.hp_tokens.specs.Reading.{first};
@@ -20,7 +21,7 @@ use crate::script::{
     double_escaped_less_than_sign, escape_start, escaped, escaped_dash, escaped_dash_dash,
     escaped_less_than_sign, script_less_than_sign,
 };
-use hp_elements::Tokens;
+use hp_elements::{Token, Tokens};
 use hp_tokens::{
     Cursor, DataText, EndStep, EscapedText, LexState, Lexes, Machine, NoMemory, PlaintextText,
     RawText, Reads, State, Step, Table, TextRun, Turn, end_by_row, step_in_text,
@@ -398,6 +399,37 @@ pub fn advance<'p>(
     ensures held { IfOk result (λ turn. held state.new ≤ input.new.place) }
 {
     hp_tokens::advance(&Raw, alloc, state, input, rested, tokens)
+}
+
+/// In RCDATA, RAWTEXT and script data, the run of text at the front as one token, where `rested` becomes the place of its start;
+/// otherwise `None`, and nothing changes. It is what `advance` does there.
+#[inline]
+pub fn next_text<'p>(
+    state: &LexState,
+    input: &mut Cursor<'p>,
+    rested: &mut u64,
+) -> Option<Token<'p>>
+    requires held { held state.now ≤ input.old.place }
+    ensures turn { IfSome result (λ token. Turned raw_rules spec_is_here (lexing state.now input.old rested.old) [] (lexing state.now input.new rested.new) (token ∷ []) rested.new turns.Emitted) }
+    ensures here { IfSome result (λ token. spec_is_here state.now.machine.state ≡ true) }
+    ensures none { IfNone result ((input.new ≡ input.old) × (rested.new ≡ rested.old)) }
+    ensures held { held state.now ≤ input.new.place }
+{
+    match state.machine.state {
+        State::Rcdata => {
+            let token = hp_tokens::next_text::<TextRows, DataText>(state, input, rested)?;
+            Some(token)
+        }
+        State::Rawtext => {
+            let token = hp_tokens::next_text::<TextRows, RawText>(state, input, rested)?;
+            Some(token)
+        }
+        State::ScriptData => {
+            let token = hp_tokens::next_text::<TextRows, RawText>(state, input, rested)?;
+            Some(token)
+        }
+        _ => None,
+    }
 }
 
 /// Makes the moves of the end of input behind what was read ahead, and appends what they emit. A last start tag's name that

@@ -1,5 +1,6 @@
 // The moves of this part of the lexer.
-ghost use Rattle.std.specs.Prelude.{◌≡◌, ◌≤◌, ◌^◌, ℕ, [], Option, IfOk, IsTrue};
+ghost use Rattle.std.specs.Prelude.{◌≡◌, ◌≤◌, ◌^◌, ℕ, [], ◌∷◌, true, Option, IfOk, IfSome, IfNone, IsTrue};
+ghost use Rattle.hp_tokens.specs.declared.rows.Turn.TheVariants as turns;
 ghost use Rattle.hp_tokens.specs.declared.machine.Machine.{Machine};
 ghost use Rattle.hp_tokens.specs.declared.state.State.{State};
 ghost use Rattle.hp_tokens.specs.Rows.{Follows};
@@ -19,7 +20,7 @@ use crate::rows::{
     before_attribute_value, data, end_tag_open, quoted_value, self_closing_start_tag, tag_name,
     tag_open, unquoted_value,
 };
-use hp_elements::Tokens;
+use hp_elements::{Token, Tokens};
 use hp_names::Names;
 use hp_tokens::{
     AttributeNameText, Cursor, DataText, DoubleQuotedText, EndStep, LexState, Lexes, Machine,
@@ -99,6 +100,7 @@ impl Table for Rows {
 }
 
 /// One step by the rows: a run of code points, where the state has runs, or one code point.
+#[inline]
 fn read<'p>(
     alloc: Global,
     state: &mut LexState,
@@ -195,6 +197,7 @@ impl<'n> Lexes for Tags<'n> {
 }
 
 /// Whether the state is one of this part's: text, tags and character references.
+#[inline]
 pub fn is_here(state: State) -> bool
     ensures { result ≡ spec_is_here state }
 {
@@ -227,6 +230,7 @@ pub fn is_here(state: State) -> bool
 
 /// Makes moves, from one rest to the next, and appends what they emit. `rested` is the last place at or before the first
 /// token that is appended where the lexer rested. After `NoMemory` the state is spent.
+#[inline]
 pub fn advance<'p>(
     alloc: Global,
     state: &mut LexState,
@@ -241,6 +245,31 @@ pub fn advance<'p>(
     ensures held { IfOk result (λ turn. held state.new ≤ input.new.place) }
 {
     hp_tokens::advance(&Tags { names }, alloc, state, input, rested, tokens)
+}
+
+/// In the data state, the run of text at the front as one token, where `rested` becomes the place of its start; otherwise `None`,
+/// and nothing changes. It is what `advance` does there.
+#[inline]
+pub fn next_text<'p>(
+    state: &LexState,
+    input: &mut Cursor<'p>,
+    names: &Names,
+    rested: &mut u64,
+) -> Option<Token<'p>>
+    requires held { held state.now ≤ input.old.place }
+    ensures turn { IfSome result (λ token. Turned (tag_rules names.now) spec_is_here (lexing state.now input.old rested.old) [] (lexing state.now input.new rested.new) (token ∷ []) rested.new turns.Emitted) }
+    ensures here { IfSome result (λ token. spec_is_here state.now.machine.state ≡ true) }
+    ensures none { IfNone result ((input.new ≡ input.old) × (rested.new ≡ rested.old)) }
+    ensures held { held state.now ≤ input.new.place }
+{
+    let _names = names;
+    match state.machine.state {
+        State::Data => {
+            let token = hp_tokens::next_text::<Rows, DataText>(state, input, rested)?;
+            Some(token)
+        }
+        _ => None,
+    }
 }
 
 /// Makes the moves of the end of input behind what was read ahead, and appends what they emit. After `NoMemory` the state is

@@ -1,11 +1,10 @@
 -- Adoption, the second half of a link's start, and the flush of table text thin the stack.
-use Rattle.std.proofs.Common.{◌≡◌, ℕ, zero, suc, ◌+◌, ◌-◌, ◌≤◌, ◌<◌, ◌==◌, List, [], ◌∷◌, ◌++◌, take, drop, length, Bool, true, false, ◌&&◌, Option, Some, None, refl, sym, ap, ◌∙◌, subst, arith, nat_lt}
+use Rattle.std.proofs.Common.{◌≡◌, ℕ, zero, suc, ◌+◌, ◌≤◌, ◌<◌, ◌==◌, List, [], ◌∷◌, ◌++◌, take, drop, Bool, true, false, Option, Some, None, refl, ap, subst, arith, nat_lt}
 use Rattle.std.specs.Prelude.{if◌then◌else◌, IfSome, All}
 use Rattle.std.specs.List.{list_all}
 use Rattle.std.specs.Option.{option_map}
 use Rattle.std.specs.Str.{bytes_eq}
-use Rattle.std.proofs.lemmas.Bool.{eqb-true}
-use Rattle.std.proofs.lemmas.List.Elements.{All-nil, All-cons, All-head, All-tail}
+use Rattle.std.proofs.lemmas.List.Elements.{All-nil, All-head, All-tail}
 use Rattle.hp_elements.specs.Names.{text_of}
 use Rattle.hp_elements.specs.Sets.{in_set}
 use Rattle.hp_elements.specs.declared.kinds.Kinds.TheVariants as kinds
@@ -14,22 +13,21 @@ use Rattle.hp_elements.specs.declared.sets.SetName.TheVariants as sets
 use Rattle.hp_elements.specs.declared.tag.Tag.{Tag}
 use Rattle.hp_control.specs.declared.edit.Child.{Child}
 use Rattle.hp_control.specs.declared.edit.Child.TheVariants as child
-use Rattle.hp_control.specs.declared.edit.Ref.{Ref}
 use Rattle.hp_control.specs.declared.edit.Ref.TheVariants.{Fixed}
 use Rattle.hp_control.specs.declared.element.OpenElement.{OpenElement}
 use Rattle.hp_control.specs.declared.element.FormattingEntry.{FormattingEntry}
 use Rattle.hp_control.specs.declared.element.FormattingEntry.TheVariants.{Marker, Element}
-use Rattle.hp_control.specs.Acts.{element_for, pop, pop_by, walk, put_here, frameset_not_ok, take_off, place as insertion_place}
-use Rattle.hp_control.specs.Adoption.{Spot, Seat, Case, Unlisted, Closed, Hidden, Alone, Tangled, lower, find_name, find_id, edit_at, hides, Climbed, at_block, renewed, pass_listed, pass, pass_all, settled, closed, adopted, between as nodes_between, adopt_once, nearer, furthest, block_case, open_case, entry_case, case_of, strike, turn_in, turn, turns, goes_on, is_plain, adopt, reconstruct}
+use Rattle.hp_control.specs.Acts.{element_for, pop, pop_by, put_here, frameset_not_ok, take_off}
+use Rattle.hp_control.specs.Adoption.{Spot, Seat, Hidden, lower, find_name, find_id, edit_at, hides, Climbed, at_block, renewed, pass_listed, pass, pass_all, settled, between as nodes_between, adopt_once, nearer, furthest, block_case, open_case, entry_case, strike, turn_in, turn, turns, goes_on, is_plain, adopt, reconstruct}
 use Rattle.hp_control.specs.Composed.{drop_entry, close_link, close_link_of, is_white, foster_character, foster_characters, put_characters}
 use Rattle.hp_control.specs.KindTests.{within as is_within}
-use Rattle.hp_control.specs.Outcome.{Act, and_then, choose, nothing_done}
-use Rattle.hp_control.specs.States.{ControlState, AreIds, IsId, IsFormatting, entry_ids, is_rooted, is_template}
+use Rattle.hp_control.specs.Outcome.{and_then, nothing_done}
+use Rattle.hp_control.specs.States.{ControlState, AreIds, IsFormatting, entry_ids, is_template}
 use Rattle.hp_control.specs.Walks.{open_at}
-use Rattle.hp_model.proofs.Tally.{one, tally, tally-nil, tally-cons, tally-yes, tally-no, tally-tail, tally-append, tally-split, tally-drop, tally-drop_more}
+use Rattle.hp_model.proofs.Tally.{one, tally, tally-nil, tally-cons, tally-yes, tally-tail, tally-append, tally-split, tally-drop_more}
 use Rattle.hp_model.proofs.Ids.{between, between-then, eqb-same, within}
-use Rattle.hp_model.proofs.Stacks.{Keeps, keeps_all, has_id, is_counted, formatting-uncounted, formatting-no_template, rooted-append, rooted-under}
-use Rattle.hp_model.proofs.Thins.{Ready, Thins, Thinning, Alike, alike_all, thins_all, thinning_nothing, thinning_then, thinning_choose, entry_is, tally-entries}
+use Rattle.hp_model.proofs.Stacks.{keeps_all, has_id, is_counted, formatting-uncounted, formatting-no_template, rooted-append, rooted-under}
+use Rattle.hp_model.proofs.Thins.{Ready, Thins, Thinning, thins_all, thinning_nothing, thinning_then, thinning_choose, entry_is, tally-entries}
 use Rattle.hp_model.proofs.Thinning.{thinning_pop, thinning_pop_by, thinning_walk, thinning_strike, thinning_drop_entry, thinning_take_off, thinning_reconstruct, edited-few, edited-formatting, entry_new, one_entry, one_new, not_root}
 
 mapped : {X Y : Type 0} (f : X → Y) (o : Option X) (y : Y) → option_map f o ≡ Some y → (x : X) × ((o ≡ Some x) × (f x ≡ y))
@@ -67,26 +65,26 @@ id-found wanted [] spot h a = absurd (none_found spot h)
 id-found wanted (Marker ∷ es) spot h a =
     let (x, found) = mapped lower (find_id wanted es) spot h in
     subst (λ s. IsEntry s (Marker ∷ es)) found.1 (is_entry_later x Marker es (id-found wanted es x found.0 (All-tail IsFormatting Marker es a)))
-id-found wanted (Element id tag ∷ es) spot h a = go (id == wanted) h
+id-found wanted (Element id tag ∷ es) spot h a = go (id == wanted) h (λ x found. id-found wanted es x found (All-tail IsFormatting (Element id tag) es a))
   where
-    go : (b : Bool) → (if b then Some (record { depth = 0; id = id; tag = tag }) else option_map lower (find_id wanted es)) ≡ Some spot → IsEntry spot (Element id tag ∷ es)
-    go true k = subst (λ s. IsEntry s (Element id tag ∷ es)) (same_spot (record { depth = 0; id = id; tag = tag }) spot k)
+    go : (b : Bool) → (if b then Some (record { depth = 0; id = id; tag = tag }) else option_map lower (find_id wanted es)) ≡ Some spot → ((x : Spot) → find_id wanted es ≡ Some x → IsEntry x es) → IsEntry spot (Element id tag ∷ es)
+    go true k later = subst (λ s. IsEntry s (Element id tag ∷ es)) (same_spot (record { depth = 0; id = id; tag = tag }) spot k)
         (record { formatting = All-head IsFormatting (Element id tag) es a; listed = entry_here id tag es })
-    go false k =
+    go false k later =
         let (x, found) = mapped lower (find_id wanted es) spot k in
-        subst (λ s. IsEntry s (Element id tag ∷ es)) found.1 (is_entry_later x (Element id tag) es (id-found wanted es x found.0 (All-tail IsFormatting (Element id tag) es a)))
+        subst (λ s. IsEntry s (Element id tag ∷ es)) found.1 (is_entry_later x (Element id tag) es (later x found.0))
 
 pub name-found : (name : List ℕ) (es : List FormattingEntry) (spot : Spot) → find_name name es ≡ Some spot → All IsFormatting es → IsEntry spot es
 name-found name [] spot h a = absurd (none_found spot h)
 name-found name (Marker ∷ es) spot h a = absurd (none_found spot h)
-name-found name (Element id tag ∷ es) spot h a = go (bytes_eq name tag.name) h
+name-found name (Element id tag ∷ es) spot h a = go (bytes_eq name tag.name) h (λ x found. name-found name es x found (All-tail IsFormatting (Element id tag) es a))
   where
-    go : (b : Bool) → (if b then Some (record { depth = 0; id = id; tag = tag }) else option_map lower (find_name name es)) ≡ Some spot → IsEntry spot (Element id tag ∷ es)
-    go true k = subst (λ s. IsEntry s (Element id tag ∷ es)) (same_spot (record { depth = 0; id = id; tag = tag }) spot k)
+    go : (b : Bool) → (if b then Some (record { depth = 0; id = id; tag = tag }) else option_map lower (find_name name es)) ≡ Some spot → ((x : Spot) → find_name name es ≡ Some x → IsEntry x es) → IsEntry spot (Element id tag ∷ es)
+    go true k later = subst (λ s. IsEntry s (Element id tag ∷ es)) (same_spot (record { depth = 0; id = id; tag = tag }) spot k)
         (record { formatting = All-head IsFormatting (Element id tag) es a; listed = entry_here id tag es })
-    go false k =
+    go false k later =
         let (x, found) = mapped lower (find_name name es) spot k in
-        subst (λ s. IsEntry s (Element id tag ∷ es)) found.1 (is_entry_later x (Element id tag) es (name-found name es x found.0 (All-tail IsFormatting (Element id tag) es a)))
+        subst (λ s. IsEntry s (Element id tag ∷ es)) found.1 (is_entry_later x (Element id tag) es (later x found.0))
 
 -- its id isn't the root's
 pub entry-id : (next : ℕ) (spot : Spot) (es : List FormattingEntry) → AreIds 1 next (entry_ids es) → IsEntry spot es → 1 < spot.id
@@ -121,26 +119,26 @@ climbs_then node nodes j k l f g =
     record {
       next = omega arith;
       counted =
-        let a : tally is_counted k.kept ≤ tally is_counted j.kept + tally is_counted (node ∷ []) = f.counted in
-        let b : tally is_counted l.kept ≤ tally is_counted k.kept + tally is_counted nodes = g.counted in
-        let e : tally is_counted (node ∷ nodes) ≡ tally is_counted (node ∷ []) + tally is_counted nodes = nodes_more is_counted node nodes in
-        omega arith;
+          let a : tally is_counted k.kept ≤ tally is_counted j.kept + tally is_counted (node ∷ []) = f.counted in
+          let b : tally is_counted l.kept ≤ tally is_counted k.kept + tally is_counted nodes = g.counted in
+          let e : tally is_counted (node ∷ nodes) ≡ tally is_counted (node ∷ []) + tally is_counted nodes = nodes_more is_counted node nodes in
+          omega arith;
       templates =
-        let a : tally is_template k.kept ≤ tally is_template j.kept + tally is_template (node ∷ []) = f.templates in
-        let b : tally is_template l.kept ≤ tally is_template k.kept + tally is_template nodes = g.templates in
-        let e : tally is_template (node ∷ nodes) ≡ tally is_template (node ∷ []) + tally is_template nodes = nodes_more is_template node nodes in
-        omega arith;
+          let a : tally is_template k.kept ≤ tally is_template j.kept + tally is_template (node ∷ []) = f.templates in
+          let b : tally is_template l.kept ≤ tally is_template k.kept + tally is_template nodes = g.templates in
+          let e : tally is_template (node ∷ nodes) ≡ tally is_template (node ∷ []) + tally is_template nodes = nodes_more is_template node nodes in
+          omega arith;
       ids = λ i.
-        let a : tally (has_id i) k.kept ≤ tally (has_id i) j.kept + tally (has_id i) (node ∷ []) + between j.next k.next i = f.ids i in
-        let b : tally (has_id i) l.kept ≤ tally (has_id i) k.kept + tally (has_id i) nodes + between k.next l.next i = g.ids i in
-        let e : tally (has_id i) (node ∷ nodes) ≡ tally (has_id i) (node ∷ []) + tally (has_id i) nodes = nodes_more (has_id i) node nodes in
-        let w : between j.next k.next i + between k.next l.next i ≤ between j.next l.next i = between-then j.next k.next l.next i m n in
-        omega arith;
+          let a : tally (has_id i) k.kept ≤ tally (has_id i) j.kept + tally (has_id i) (node ∷ []) + between j.next k.next i = f.ids i in
+          let b : tally (has_id i) l.kept ≤ tally (has_id i) k.kept + tally (has_id i) nodes + between k.next l.next i = g.ids i in
+          let e : tally (has_id i) (node ∷ nodes) ≡ tally (has_id i) (node ∷ []) + tally (has_id i) nodes = nodes_more (has_id i) node nodes in
+          let w : between j.next k.next i + between k.next l.next i ≤ between j.next l.next i = between-then j.next k.next l.next i m n in
+          omega arith;
       list = λ i.
-        let a : tally (entry_is i) k.formatting ≤ tally (entry_is i) j.formatting + between j.next k.next i = f.list i in
-        let b : tally (entry_is i) l.formatting ≤ tally (entry_is i) k.formatting + between k.next l.next i = g.list i in
-        let w : between j.next k.next i + between k.next l.next i ≤ between j.next l.next i = between-then j.next k.next l.next i m n in
-        omega arith;
+          let a : tally (entry_is i) k.formatting ≤ tally (entry_is i) j.formatting + between j.next k.next i = f.list i in
+          let b : tally (entry_is i) l.formatting ≤ tally (entry_is i) k.formatting + between k.next l.next i = g.list i in
+          let w : between j.next k.next i + between k.next l.next i ≤ between j.next l.next i = between-then j.next k.next l.next i m n in
+          omega arith;
       formatting = g.formatting;
     }
 
@@ -156,21 +154,21 @@ climbs_renewed : (block : ℕ) (node : OpenElement) (tag : Tag) (k : Climbed) �
 climbs_renewed block node tag k a h f = record {
   next = omega arith;
   counted =
-    let e : tally is_counted (k.kept ++ element_for k.next tag ∷ []) ≡ tally is_counted k.kept + one (is_counted (element_for k.next tag)) = kept_more is_counted k.kept (element_for k.next tag) in
-    let g : one (is_counted (element_for k.next tag)) ≡ 0 = ap one (formatting-uncounted k.next tag h) in
-    omega arith;
+      let e : tally is_counted (k.kept ++ element_for k.next tag ∷ []) ≡ tally is_counted k.kept + one (is_counted (element_for k.next tag)) = kept_more is_counted k.kept (element_for k.next tag) in
+      let g : one (is_counted (element_for k.next tag)) ≡ 0 = ap one (formatting-uncounted k.next tag h) in
+      omega arith;
   templates =
-    let e : tally is_template (k.kept ++ element_for k.next tag ∷ []) ≡ tally is_template k.kept + one (is_template (element_for k.next tag)) = kept_more is_template k.kept (element_for k.next tag) in
-    let g : one (is_template (element_for k.next tag)) ≡ 0 = ap one (formatting-no_template k.next tag h) in
-    omega arith;
+      let e : tally is_template (k.kept ++ element_for k.next tag ∷ []) ≡ tally is_template k.kept + one (is_template (element_for k.next tag)) = kept_more is_template k.kept (element_for k.next tag) in
+      let g : one (is_template (element_for k.next tag)) ≡ 0 = ap one (formatting-no_template k.next tag h) in
+      omega arith;
   ids = λ i.
-    let e : tally (has_id i) (k.kept ++ element_for k.next tag ∷ []) ≡ tally (has_id i) k.kept + one (k.next == i) = kept_more (has_id i) k.kept (element_for k.next tag) in
-    let g : one (k.next == i) ≤ between k.next (k.next + 1) i = one_new k.next k.next refl i in
-    omega arith;
+      let e : tally (has_id i) (k.kept ++ element_for k.next tag ∷ []) ≡ tally (has_id i) k.kept + one (k.next == i) = kept_more (has_id i) k.kept (element_for k.next tag) in
+      let g : one (k.next == i) ≤ between k.next (k.next + 1) i = one_new k.next k.next refl i in
+      omega arith;
   list = λ i.
-    let e : tally (entry_is i) (edit_at node.id 1 (Element k.next tag ∷ []) k.formatting) ≤ tally (entry_is i) k.formatting + tally (entry_is i) (Element k.next tag ∷ []) = edited-few (entry_is i) node.id 1 (Element k.next tag ∷ []) k.formatting in
-    let g : tally (entry_is i) (Element k.next tag ∷ []) ≤ between k.next (k.next + 1) i = entry_new k.next tag i in
-    omega arith;
+      let e : tally (entry_is i) (edit_at node.id 1 (Element k.next tag ∷ []) k.formatting) ≤ tally (entry_is i) k.formatting + tally (entry_is i) (Element k.next tag ∷ []) = edited-few (entry_is i) node.id 1 (Element k.next tag ∷ []) k.formatting in
+      let g : tally (entry_is i) (Element k.next tag ∷ []) ≤ between k.next (k.next + 1) i = entry_new k.next tag i in
+      omega arith;
   formatting = edited-formatting node.id 1 (Element k.next tag ∷ []) k.formatting (one_entry k.next tag f) a;
 }
 
@@ -181,9 +179,9 @@ climbs_struck node k a = record {
   templates = omega arith;
   ids = λ i. omega arith;
   list = λ i.
-    let e : tally (entry_is i) (edit_at node.id 1 [] k.formatting) ≤ tally (entry_is i) k.formatting + tally (entry_is i) [] = edited-few (entry_is i) node.id 1 [] k.formatting in
-    let z : tally (entry_is i) [] ≡ 0 = tally-nil (entry_is i) in
-    omega arith;
+      let e : tally (entry_is i) (edit_at node.id 1 [] k.formatting) ≤ tally (entry_is i) k.formatting + tally (entry_is i) [] = edited-few (entry_is i) node.id 1 [] k.formatting in
+      let z : tally (entry_is i) [] ≡ 0 = tally-nil (entry_is i) in
+      omega arith;
   formatting = edited-formatting node.id 1 [] k.formatting (All-nil IsFormatting) a;
 }
 
@@ -224,7 +222,7 @@ block-parts p [] block h = absurd (none h)
   where
     none : None ≡ Some block → ⊥
     none k = cc
-block-parts p (e ∷ es) block h = go (furthest es) refl h
+block-parts p (e ∷ es) block h = go (furthest es) refl h (block-parts p es)
   where
     same : (a b : Seat) → Some a ≡ Some b → a ≡ b
     same a b k = cc
@@ -237,10 +235,10 @@ block-parts p (e ∷ es) block h = go (furthest es) refl h
         (let z : tally p [] ≡ 0 = tally-nil p in let f : tally p (e ∷ es) ≡ one (p e) + tally p es = tally-cons p e es in omega arith)
     here false k = absurd (none k)
 
-    go : (o : Option Seat) → furthest es ≡ o → nearer e o ≡ Some block → tally p (take block.depth (e ∷ es)) + one (p block.element) + tally p (drop (block.depth + 1) (e ∷ es)) ≤ tally p (e ∷ es)
-    go None g k = here (is_within (kinds.Set sets.Special) e) k
-    go (Some seat) g k = subst (λ (s : Seat). tally p (take s.depth (e ∷ es)) + one (p s.element) + tally p (drop (s.depth + 1) (e ∷ es)) ≤ tally p (e ∷ es)) (same (record { depth = suc seat.depth; element = seat.element }) block k)
-        (let rest : tally p (take seat.depth es) + one (p seat.element) + tally p (drop (seat.depth + 1) es) ≤ tally p es = block-parts p es seat g in
+    go : (o : Option Seat) → furthest es ≡ o → nearer e o ≡ Some block → ((seat : Seat) → furthest es ≡ Some seat → tally p (take seat.depth es) + one (p seat.element) + tally p (drop (seat.depth + 1) es) ≤ tally p es) → tally p (take block.depth (e ∷ es)) + one (p block.element) + tally p (drop (block.depth + 1) (e ∷ es)) ≤ tally p (e ∷ es)
+    go None g k later = here (is_within (kinds.Set sets.Special) e) k
+    go (Some seat) g k later = subst (λ (s : Seat). tally p (take s.depth (e ∷ es)) + one (p s.element) + tally p (drop (s.depth + 1) (e ∷ es)) ≤ tally p (e ∷ es)) (same (record { depth = suc seat.depth; element = seat.element }) block k)
+        (let rest : tally p (take seat.depth es) + one (p seat.element) + tally p (drop (seat.depth + 1) es) ≤ tally p es = later seat g in
         let f : tally p (e ∷ es) ≡ one (p e) + tally p es = tally-cons p e es in
         let t : tally p (e ∷ take seat.depth es) ≡ one (p e) + tally p (take seat.depth es) = tally-cons p e (take seat.depth es) in
         let j : suc seat.depth + 1 ≡ suc (seat.depth + 1) = omega arith in
@@ -286,32 +284,32 @@ module _ (fostering : Bool) (entry : Spot) (depth : ℕ) (block : Seat) (c : Con
     next = let n : c.next ≤ climbed.next = climb.next in omega arith;
     stack = record {
       counted =
-        let k : tally is_counted climbed.kept ≤ tally is_counted (block.element ∷ []) + tally is_counted (drop (block.depth + 1) (take depth c.stack)) = climb.counted in
-        let f : tally is_counted (take block.depth (take depth c.stack)) + tally is_counted climbed.kept + tally is_counted (drop (depth + 1) c.stack) ≤ tally is_counted c.stack + 0 = fewer is_counted (tally is_counted climbed.kept) 0 (omega arith) in
-        let s : tally is_counted ((take block.depth (take depth c.stack) ++ element_for climbed.next entry.tag ∷ climbed.kept) ++ drop (depth + 1) c.stack) ≡ tally is_counted (take block.depth (take depth c.stack)) + (one (is_counted (element_for climbed.next entry.tag)) + tally is_counted climbed.kept) + tally is_counted (drop (depth + 1) c.stack) = new_stack is_counted (take block.depth (take depth c.stack)) climbed.kept (drop (depth + 1) c.stack) (element_for climbed.next entry.tag) in
-        let g : one (is_counted (element_for climbed.next entry.tag)) ≡ 0 = ap one (formatting-uncounted climbed.next entry.tag found.formatting.1) in
-        omega arith;
+          let k : tally is_counted climbed.kept ≤ tally is_counted (block.element ∷ []) + tally is_counted (drop (block.depth + 1) (take depth c.stack)) = climb.counted in
+          let f : tally is_counted (take block.depth (take depth c.stack)) + tally is_counted climbed.kept + tally is_counted (drop (depth + 1) c.stack) ≤ tally is_counted c.stack + 0 = fewer is_counted (tally is_counted climbed.kept) 0 (omega arith) in
+          let s : tally is_counted ((take block.depth (take depth c.stack) ++ element_for climbed.next entry.tag ∷ climbed.kept) ++ drop (depth + 1) c.stack) ≡ tally is_counted (take block.depth (take depth c.stack)) + (one (is_counted (element_for climbed.next entry.tag)) + tally is_counted climbed.kept) + tally is_counted (drop (depth + 1) c.stack) = new_stack is_counted (take block.depth (take depth c.stack)) climbed.kept (drop (depth + 1) c.stack) (element_for climbed.next entry.tag) in
+          let g : one (is_counted (element_for climbed.next entry.tag)) ≡ 0 = ap one (formatting-uncounted climbed.next entry.tag found.formatting.1) in
+          omega arith;
       templates =
-        let k : tally is_template climbed.kept ≤ tally is_template (block.element ∷ []) + tally is_template (drop (block.depth + 1) (take depth c.stack)) = climb.templates in
-        let f : tally is_template (take block.depth (take depth c.stack)) + tally is_template climbed.kept + tally is_template (drop (depth + 1) c.stack) ≤ tally is_template c.stack + 0 = fewer is_template (tally is_template climbed.kept) 0 (omega arith) in
-        let s : tally is_template ((take block.depth (take depth c.stack) ++ element_for climbed.next entry.tag ∷ climbed.kept) ++ drop (depth + 1) c.stack) ≡ tally is_template (take block.depth (take depth c.stack)) + (one (is_template (element_for climbed.next entry.tag)) + tally is_template climbed.kept) + tally is_template (drop (depth + 1) c.stack) = new_stack is_template (take block.depth (take depth c.stack)) climbed.kept (drop (depth + 1) c.stack) (element_for climbed.next entry.tag) in
-        let g : one (is_template (element_for climbed.next entry.tag)) ≡ 0 = ap one (formatting-no_template climbed.next entry.tag found.formatting.1) in
-        omega arith;
+          let k : tally is_template climbed.kept ≤ tally is_template (block.element ∷ []) + tally is_template (drop (block.depth + 1) (take depth c.stack)) = climb.templates in
+          let f : tally is_template (take block.depth (take depth c.stack)) + tally is_template climbed.kept + tally is_template (drop (depth + 1) c.stack) ≤ tally is_template c.stack + 0 = fewer is_template (tally is_template climbed.kept) 0 (omega arith) in
+          let s : tally is_template ((take block.depth (take depth c.stack) ++ element_for climbed.next entry.tag ∷ climbed.kept) ++ drop (depth + 1) c.stack) ≡ tally is_template (take block.depth (take depth c.stack)) + (one (is_template (element_for climbed.next entry.tag)) + tally is_template climbed.kept) + tally is_template (drop (depth + 1) c.stack) = new_stack is_template (take block.depth (take depth c.stack)) climbed.kept (drop (depth + 1) c.stack) (element_for climbed.next entry.tag) in
+          let g : one (is_template (element_for climbed.next entry.tag)) ≡ 0 = ap one (formatting-no_template climbed.next entry.tag found.formatting.1) in
+          omega arith;
       rooted = λ h. rooted-append (take block.depth (take depth c.stack) ++ element_for climbed.next entry.tag ∷ climbed.kept) (drop (depth + 1) c.stack) (rooted-under entry.id depth c.stack opened (not_root entry.id (entry-id c.next entry c.formatting r.list_ids found)) h);
       ids = λ i.
-        let k : tally (has_id i) climbed.kept ≤ tally (has_id i) (block.element ∷ []) + tally (has_id i) (drop (block.depth + 1) (take depth c.stack)) + between c.next climbed.next i = climb.ids i in
-        let f : tally (has_id i) (take block.depth (take depth c.stack)) + tally (has_id i) climbed.kept + tally (has_id i) (drop (depth + 1) c.stack) ≤ tally (has_id i) c.stack + between c.next climbed.next i = fewer (has_id i) (tally (has_id i) climbed.kept) (between c.next climbed.next i) k in
-        let s : tally (has_id i) ((take block.depth (take depth c.stack) ++ element_for climbed.next entry.tag ∷ climbed.kept) ++ drop (depth + 1) c.stack) ≡ tally (has_id i) (take block.depth (take depth c.stack)) + (one (climbed.next == i) + tally (has_id i) climbed.kept) + tally (has_id i) (drop (depth + 1) c.stack) = new_stack (has_id i) (take block.depth (take depth c.stack)) climbed.kept (drop (depth + 1) c.stack) (element_for climbed.next entry.tag) in
-        let g : one (climbed.next == i) ≤ between climbed.next (climbed.next + 1) i = one_new climbed.next climbed.next refl i in
-        let w : between c.next climbed.next i + between climbed.next (climbed.next + 1) i ≤ between c.next (climbed.next + 1) i = between-then c.next climbed.next (climbed.next + 1) i climb.next (omega arith) in
-        omega arith;
+          let k : tally (has_id i) climbed.kept ≤ tally (has_id i) (block.element ∷ []) + tally (has_id i) (drop (block.depth + 1) (take depth c.stack)) + between c.next climbed.next i = climb.ids i in
+          let f : tally (has_id i) (take block.depth (take depth c.stack)) + tally (has_id i) climbed.kept + tally (has_id i) (drop (depth + 1) c.stack) ≤ tally (has_id i) c.stack + between c.next climbed.next i = fewer (has_id i) (tally (has_id i) climbed.kept) (between c.next climbed.next i) k in
+          let s : tally (has_id i) ((take block.depth (take depth c.stack) ++ element_for climbed.next entry.tag ∷ climbed.kept) ++ drop (depth + 1) c.stack) ≡ tally (has_id i) (take block.depth (take depth c.stack)) + (one (climbed.next == i) + tally (has_id i) climbed.kept) + tally (has_id i) (drop (depth + 1) c.stack) = new_stack (has_id i) (take block.depth (take depth c.stack)) climbed.kept (drop (depth + 1) c.stack) (element_for climbed.next entry.tag) in
+          let g : one (climbed.next == i) ≤ between climbed.next (climbed.next + 1) i = one_new climbed.next climbed.next refl i in
+          let w : between c.next climbed.next i + between climbed.next (climbed.next + 1) i ≤ between c.next (climbed.next + 1) i = between-then c.next climbed.next (climbed.next + 1) i climb.next (omega arith) in
+          omega arith;
     };
     list = λ i.
-      let k : tally (entry_is i) climbed.formatting ≤ tally (entry_is i) c.formatting + between c.next climbed.next i = climb.list i in
-      let s : tally (entry_is i) (settled climbed.bookmark entry.id (Element climbed.next entry.tag) climbed.formatting) ≤ tally (entry_is i) climbed.formatting + tally (entry_is i) (Element climbed.next entry.tag ∷ []) = settled-few (entry_is i) climbed.bookmark entry.id (Element climbed.next entry.tag) climbed.formatting in
-      let g : tally (entry_is i) (Element climbed.next entry.tag ∷ []) ≤ between climbed.next (climbed.next + 1) i = entry_new climbed.next entry.tag i in
-      let w : between c.next climbed.next i + between climbed.next (climbed.next + 1) i ≤ between c.next (climbed.next + 1) i = between-then c.next climbed.next (climbed.next + 1) i climb.next (omega arith) in
-      omega arith;
+        let k : tally (entry_is i) climbed.formatting ≤ tally (entry_is i) c.formatting + between c.next climbed.next i = climb.list i in
+        let s : tally (entry_is i) (settled climbed.bookmark entry.id (Element climbed.next entry.tag) climbed.formatting) ≤ tally (entry_is i) climbed.formatting + tally (entry_is i) (Element climbed.next entry.tag ∷ []) = settled-few (entry_is i) climbed.bookmark entry.id (Element climbed.next entry.tag) climbed.formatting in
+        let g : tally (entry_is i) (Element climbed.next entry.tag ∷ []) ≤ between climbed.next (climbed.next + 1) i = entry_new climbed.next entry.tag i in
+        let w : between c.next climbed.next i + between climbed.next (climbed.next + 1) i ≤ between c.next (climbed.next + 1) i = between-then c.next climbed.next (climbed.next + 1) i climb.next (omega arith) in
+        omega arith;
     formatting = settled-formatting climbed.bookmark entry.id (Element climbed.next entry.tag) climbed.formatting (one_entry climbed.next entry.tag found.formatting) climb.formatting;
     form = same c.form;
     alike = record { mode = refl; original = refl; pending = refl; templates = refl; head = refl; lex = refl };

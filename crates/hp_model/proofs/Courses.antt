@@ -6,14 +6,12 @@ use Rattle.std.specs.Option.{is_some, option_map}
 use Rattle.std.specs.Str.{bytes_eq}
 use Rattle.std.proofs.lemmas.Bool.{and_parts, and_from, true≢false, eqb-true}
 use Rattle.std.proofs.lemmas.Slice.Eq.{bytes_eq-Decides}
-use Rattle.std.proofs.lemmas.List.Elements.{All-nil, All-cons, All-head, All-tail}
+use Rattle.std.proofs.lemmas.List.Elements.{All-cons, All-tail}
 use Rattle.hp_elements.specs.Kinds.{is_html as is_html_space}
 use Rattle.hp_elements.specs.Names.{is_among, text_of}
-use Rattle.hp_elements.specs.Sets.{in_set, members}
+use Rattle.hp_elements.specs.Sets.{members}
 use Rattle.hp_elements.specs.declared.kinds.Kinds.TheVariants as kinds
-use Rattle.hp_elements.specs.declared.kinds.Point.TheVariants as point
 use Rattle.hp_elements.specs.declared.known.Known.TheVariants as known
-use Rattle.hp_elements.specs.declared.sets.Namespace.TheVariants.{Html}
 use Rattle.hp_elements.specs.declared.sets.SetName.TheVariants as sets
 use Rattle.hp_elements.specs.declared.tag.Tag.{Tag}
 use Rattle.hp_elements.specs.declared.token.Mode.{Mode}
@@ -23,13 +21,13 @@ use Rattle.hp_control.specs.declared.element.FormattingEntry.{FormattingEntry}
 use Rattle.hp_control.specs.declared.element.FormattingEntry.TheVariants.{Marker, Element}
 use Rattle.hp_control.specs.Acts.{current_id, element_for, head_element, popped_by, replaced_first, take_off, taken_off, through_named, with_it, without}
 use Rattle.hp_control.specs.KindTests.{within as is_within}
-use Rattle.hp_control.specs.States.{ControlState, AreIds, IsId, IsNew, IsFormatting, LexFits, entry_ids, is_html, is_named, is_rooted, is_settled, is_tall, is_template, is_template_mode}
+use Rattle.hp_control.specs.States.{ControlState, AreIds, IsId, IsNew, IsFormatting, LexFits, entry_ids, is_html, is_named, is_rooted, is_tall, is_template, is_template_mode}
 use Rattle.hp_control.specs.Walks.{open_at, reach, seen, run_of, cleared as cleared_list}
-use Rattle.hp_model.proofs.Tally.{one, tally, tally-nil, tally-cons, tally-yes, tally-no, tally-tail, tally-most}
+use Rattle.hp_model.proofs.Tally.{tally, tally-yes, tally-no, tally-tail, tally-most}
 use Rattle.hp_model.proofs.Ids.{eqb-same}
-use Rattle.hp_model.proofs.Stacks.{Keeps, counted, is_counted, has_id, refused, rooted-cons, rooted-drop, rooted-some, rooted-without, deeper}
-use Rattle.hp_model.proofs.Thins.{Ready, Thins, thins_all, ready_after, ready_next, next-more, stack-grown, list-grown, id_later, entry_is, ids_of}
-use Rattle.hp_model.proofs.Thinning.{one_new, not_root}
+use Rattle.hp_model.proofs.Stacks.{counted, is_counted, refused, rooted-cons, rooted-without, deeper}
+use Rattle.hp_model.proofs.Thins.{Ready, Thins, ready_after, next-more, id_later, entry_is, ids_of}
+use Rattle.hp_model.proofs.Thinning.{not_root}
 use Rattle.hp_model.proofs.Course as course
 use Rattle.hp_model.proofs.Course.{Course, Along, Base, bare, rooted, tall, alien, Count, fell, kept, unknown, Where, at, anywhere, left, Room, lacking, enough, spare, BaseIs, CountIs, PlaceIs, RoomIs, ThereIs, OriginalIs, PendingIs, IsMade, IsOther, MadeIs, is_standing, is_bare, is_above, less, loose, less_room, more_room, has_room, has_spare, thinner, higher, through_course, fallen, without_select, is_there, keep_template, is_select, is_a_template}
 
@@ -199,7 +197,7 @@ push_html tag v n s g h named uncounted plain =
 -- an element that isn't open has a new id
 pub open-none : (id : ℕ) (es : List OpenElement) → open_at id es ≡ None → IsNew id (ids_of es)
 open-none id [] h = tt
-open-none id (e ∷ es) h = go (e.id == id) refl h
+open-none id (e ∷ es) h = go (e.id == id) refl h (open-none id es)
   where
     none_mapped : (o : Option ℕ) → option_map suc o ≡ None → o ≡ None
     none_mapped None k = refl
@@ -208,9 +206,9 @@ open-none id (e ∷ es) h = go (e.id == id) refl h
     apart : (a b : ℕ) → (a == b) ≡ false → b ≡ a → ⊥
     apart a b f k = true≢false (sym (eqb-same b) ∙ (ap (λ z. z == b) k ∙ f))
 
-    go : (b : Bool) → (e.id == id) ≡ b → (if b then Some 0 else option_map suc (open_at id es)) ≡ None → IsNew id (ids_of (e ∷ es))
-    go true f k = absurd (cc)
-    go false f k = (apart e.id id f, open-none id es (none_mapped (open_at id es) k))
+    go : (b : Bool) → (e.id == id) ≡ b → (if b then Some 0 else option_map suc (open_at id es)) ≡ None → (open_at id es ≡ None → IsNew id (ids_of es)) → IsNew id (ids_of (e ∷ es))
+    go true f k later = absurd (cc)
+    go false f k later = (apart e.id id f, later (none_mapped (open_at id es) k))
 
 pub push_head_along : (v : Course) (n : ℕ) (s : ControlState) (id : ℕ) → Along v n s → is_standing v.base ≡ true → IsId s.next id → open_at id s.stack ≡ None → Along (thinner v) n (record s { stack = head_element id ∷ s.stack })
 push_head_along v n s id g h i k =
@@ -256,17 +254,14 @@ is_some_mapped (Some k) = refl
 -- what is seen is what stands somewhere
 pub seen-any : (name : List ℕ) (es : List OpenElement) → seen (kinds.Html name) kinds.Nothing es ≡ list_any (named name) es
 seen-any name [] = refl
-seen-any name (e ∷ es) = go (is_html e) (bytes_eq name e.name) (bytes_eq e.name name) (bytes_eq-swap name e.name)
+seen-any name (e ∷ es) = go (is_html e) (bytes_eq name e.name) (bytes_eq e.name name) (bytes_eq-swap name e.name) (is_some_mapped (reach (kinds.Html name) kinds.Nothing es) ∙ seen-any name es)
   where
-    rest : is_some (option_map suc (reach (kinds.Html name) kinds.Nothing es)) ≡ list_any (named name) es
-    rest = is_some_mapped (reach (kinds.Html name) kinds.Nothing es) ∙ seen-any name es
-
-    go : (a b d : Bool) → b ≡ d → is_some (if a && b then Some 0 else option_map suc (reach (kinds.Html name) kinds.Nothing es)) ≡ ((a && d) || list_any (named name) es)
-    go true true true s = refl
-    go true false false s = rest
-    go true true false s = absurd (true≢false s)
-    go true false true s = absurd (true≢false (sym s))
-    go false b d s = rest
+    go : (a b d : Bool) → b ≡ d → is_some (option_map suc (reach (kinds.Html name) kinds.Nothing es)) ≡ list_any (named name) es → is_some (if a && b then Some 0 else option_map suc (reach (kinds.Html name) kinds.Nothing es)) ≡ ((a && d) || list_any (named name) es)
+    go true true true s rest = refl
+    go true false false s rest = rest
+    go true true false s rest = absurd (true≢false s)
+    go true false true s rest = absurd (true≢false (sym s))
+    go false b d s rest = rest
 
 -- through an element that is there and isn't the root
 module _ (name : List ℕ) (other : bytes_eq (text_of known.Html) name ≡ false) (q : OpenElement → Bool) (counts : (e : OpenElement) → is_within (kinds.Html name) e ≡ true → q e ≡ true) where
@@ -290,16 +285,17 @@ module _ (name : List ℕ) (other : bytes_eq (text_of known.Html) name ≡ false
       go : (b : Bool) → is_within (kinds.Html name) e ≡ b → (if b then Some 0 else option_map suc (reach (kinds.Html name) kinds.Nothing [])) ≡ Some k → (k + 1 < length (e ∷ [])) × (tally q (drop (k + 1) (e ∷ [])) < tally q (e ∷ []))
       go true f g = absurd (root_other e r f)
       go false f g = absurd (none_some k g)
-  reach-falls (e ∷ f ∷ es) k h r = go (is_within (kinds.Html name) e) refl h
+  reach-falls (e ∷ f ∷ es) k h r = go (is_within (kinds.Html name) e) refl h (λ j there. reach-falls (f ∷ es) j there r)
     where
       go : (b : Bool) → is_within (kinds.Html name) e ≡ b → (if b then Some 0 else option_map suc (reach (kinds.Html name) kinds.Nothing (f ∷ es))) ≡ Some k
+          → ((j : ℕ) → reach (kinds.Html name) kinds.Nothing (f ∷ es) ≡ Some j → (j + 1 < length (f ∷ es)) × (tally q (drop (j + 1) (f ∷ es)) < tally q (f ∷ es)))
           → (k + 1 < length (e ∷ f ∷ es)) × (tally q (drop (k + 1) (e ∷ f ∷ es)) < tally q (e ∷ f ∷ es))
-      go true d g =
+      go true d g later =
           let t : tally q (e ∷ f ∷ es) ≡ tally q (f ∷ es) + 1 = tally-yes q e (f ∷ es) (counts e d) in
           subst (λ j. (j + 1 < length (e ∷ f ∷ es)) × (tally q (drop (j + 1) (e ∷ f ∷ es)) < tally q (e ∷ f ∷ es))) (sym (zero_found 0 k g)) (omega arith, omega arith)
-      go false d g =
+      go false d g later =
           let (j, there) = deeper (reach (kinds.Html name) kinds.Nothing (f ∷ es)) k g in
-          let rest = reach-falls (f ∷ es) j there.0 r in
+          let rest = later j there.0 in
           let short : j + 1 < length (f ∷ es) = rest.0 in
           let few : tally q (drop (j + 1) (f ∷ es)) < tally q (f ∷ es) = rest.1 in
           let t : tally q (f ∷ es) ≤ tally q (e ∷ f ∷ es) = tally-tail q e (f ∷ es) in
@@ -402,15 +398,15 @@ thorough-apart e h = second (is_html e) (bytes_eq (text_of known.Template) e.nam
 seen-run : (k : ℕ) (es : List OpenElement) → k ≤ run_of (kinds.Set sets.ThoroughlyImplied) es → seen (kinds.Html (text_of known.Template)) kinds.Nothing es ≡ true → seen (kinds.Html (text_of known.Template)) kinds.Nothing (drop k es) ≡ true
 seen-run zero es h s = s
 seen-run (suc k) [] h s = absurd (omega arith)
-seen-run (suc k) (e ∷ es) h s = go (is_within (kinds.Set sets.ThoroughlyImplied) e) refl h
+seen-run (suc k) (e ∷ es) h s = go (is_within (kinds.Set sets.ThoroughlyImplied) e) refl h (seen-run k es)
   where
     passed : (b : Bool) → b ≡ false → is_some (if b then Some 0 else option_map suc (reach (kinds.Html (text_of known.Template)) kinds.Nothing es)) ≡ true → seen (kinds.Html (text_of known.Template)) kinds.Nothing es ≡ true
     passed true f x = absurd (true≢false f)
     passed false f x = sym (is_some_mapped (reach (kinds.Html (text_of known.Template)) kinds.Nothing es)) ∙ x
 
-    go : (b : Bool) → is_within (kinds.Set sets.ThoroughlyImplied) e ≡ b → suc k ≤ (if b then suc (run_of (kinds.Set sets.ThoroughlyImplied) es) else 0) → seen (kinds.Html (text_of known.Template)) kinds.Nothing (drop k es) ≡ true
-    go true f m = seen-run k es (omega arith) (passed (is_within (kinds.Html (text_of known.Template)) e) (thorough-apart e f) s)
-    go false f m = absurd (omega arith)
+    go : (b : Bool) → is_within (kinds.Set sets.ThoroughlyImplied) e ≡ b → suc k ≤ (if b then suc (run_of (kinds.Set sets.ThoroughlyImplied) es) else 0) → (k ≤ run_of (kinds.Set sets.ThoroughlyImplied) es → seen (kinds.Html (text_of known.Template)) kinds.Nothing es ≡ true → seen (kinds.Html (text_of known.Template)) kinds.Nothing (drop k es) ≡ true) → seen (kinds.Html (text_of known.Template)) kinds.Nothing (drop k es) ≡ true
+    go true f m later = later (omega arith) (passed (is_within (kinds.Html (text_of known.Template)) e) (thorough-apart e f) s)
+    go false f m later = absurd (omega arith)
 
 pub template-stays : (there : Option (List ℕ)) (es : List OpenElement) → ThereIs there es → ThereIs (keep_template there) (popped_by (run_of (kinds.Set sets.ThoroughlyImplied) es) es)
 template-stays None es h = tt

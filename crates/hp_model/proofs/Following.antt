@@ -1,10 +1,11 @@
 -- Each act leads from its course to the course after it: the one lemma beneath the test over the table.
-use Rattle.std.proofs.Common.{◌≡◌, ℕ, zero, suc, ◌+◌, ◌≤◌, ◌<◌, List, [], ◌∷◌, length, Bool, true, false, ◌||◌, ◌&&◌, not, refl, sym, ap, ◌∙◌, subst, arith, inl, inr, Option, None, Some, nat_le}
-use Rattle.std.specs.Prelude.{if◌then◌else◌, All, IfSome, drop}
+use Rattle.std.proofs.Common.{◌≡◌, ℕ, ◌+◌, ◌≤◌, List, [], ◌∷◌, length, Bool, true, false, ◌||◌, ◌&&◌, not, refl, sym, ap, ◌∙◌, subst, arith, inl, inr, Option, None, Some, nat_le}
+use Rattle.std.specs.Prelude.{if◌then◌else◌, All, IfSome}
+use Rattle.std.specs.List.{list_all}
 use Rattle.std.specs.Option.{is_some, unwrap_or}
 use Rattle.std.specs.Str.{bytes_eq}
 use Rattle.std.proofs.lemmas.Bool.{and_parts, and_from, true≢false}
-use Rattle.std.proofs.lemmas.List.Elements.{All-cons, All-tail}
+use Rattle.std.proofs.lemmas.List.Elements.{All-cons}
 use Rattle.hp_elements.specs.Kinds.{is_html as is_html_space}
 use Rattle.hp_elements.specs.Names.{is_among, text_of, known_of}
 use Rattle.hp_elements.specs.Quirks.{gives_quirks}
@@ -21,7 +22,6 @@ use Rattle.hp_elements.specs.declared.sets.Namespace.TheVariants.{Html, MathMl, 
 use Rattle.hp_elements.specs.declared.sets.SetName.TheVariants as sets
 use Rattle.hp_elements.specs.declared.tag.Tag.{Tag}
 use Rattle.hp_elements.specs.declared.token.DoctypeParts.{DoctypeParts}
-use Rattle.hp_elements.specs.declared.token.Kind.{Kind}
 use Rattle.hp_elements.specs.declared.token.Kind.TheVariants.{Start}
 use Rattle.hp_elements.specs.declared.token.Mode.{Mode}
 use Rattle.hp_elements.specs.declared.token.Token.{Token}
@@ -31,41 +31,41 @@ use Rattle.hp_elements.proofs.NameLemmas.{found_text, known_of_text}
 use Rattle.hp_control.specs.declared.element.OpenElement.{OpenElement}
 use Rattle.hp_control.specs.declared.element.FormattingEntry.{FormattingEntry}
 use Rattle.hp_control.specs.declared.element.FormattingEntry.TheVariants.{Marker, Element}
-use Rattle.hp_control.specs.Acts.{append_entry, append_to_list, current_id, element_for, empty_pending, equal_ids, make_room, push_head_of, remove_earliest, remove_entry, set_quirks, take_head_off_of, take_off, through_named, with_list, with_stack, head_element, insert, pop, without_entry}
-use Rattle.hp_control.specs.Adoption.{Spot, find_name, adopt}
+use Rattle.hp_control.specs.Acts.{append_entry, append_to_list, current_id, element_for, equal_ids, push_head_of, remove_earliest, set_quirks, take_head_off_of, take_off, with_stack, head_element, insert, pop, without_entry}
+use Rattle.hp_control.specs.Adoption.{Spot, find_name}
 use Rattle.hp_control.specs.Composed.{is_white, put_characters, foster_characters, drop_entry}
-use Rattle.hp_control.specs.Foreign.{attribute_in, current_namespace, insert_in, name_in, opened_namespace, tag_in}
+use Rattle.hp_control.specs.Foreign.{current_namespace, insert_in, opened_namespace, tag_in}
 use Rattle.hp_control.specs.Outcome.{Act as ControlAct, and_then, becomes, nothing_done}
-use Rattle.hp_control.specs.States.{ControlState, AreIds, IsId, IsNew, IsFormatting, IsSettled, entry_ids, is_html, is_named, is_rooted, is_settled, is_tall, is_template, is_template_mode}
-use Rattle.hp_control.specs.Walks.{open_at, run_of, reset_mode}
+use Rattle.hp_control.specs.States.{ControlState, AreIds, IsId, IsNew, IsFormatting, entry_ids, is_html, is_named, is_rooted, is_settled, is_tall, is_template, is_template_mode}
+use Rattle.hp_control.specs.Walks.{cleared as cleared_list, open_at, reset_mode}
 use Rattle.hp_model.specs.Steps.{implied_but_for, quirks_of, step, take_off_entry}
-use Rattle.hp_model.specs.Tokens.{bare as bare_tag, name_of, parts_of, tag_of}
+use Rattle.hp_model.specs.Tokens.{bare as bare_tag, is_self_closing, name_for, name_of, parts_of, tag_of}
 use Rattle.hp_model.specs.Whole.{IsRead}
 use Rattle.hp_model.proofs.Tally.{tally}
 use Rattle.hp_model.proofs.Ids.{are_ids, between, between-none, is_id, new-none, none-new, once, within}
-use Rattle.hp_model.proofs.Stacks.{Keeps, counted, is_counted, has_id, pushed-keeps, keeps_all}
-use Rattle.hp_model.proofs.Thins.{Ready, Thins, Thinning, entry_is, tally-entries, thins_all, thins_list, thins_then, thinning_nothing, thinning_then, ready_after}
-use Rattle.hp_model.proofs.Thinning.{thinning_pop, thinning_pop_run, thinning_pop_to, thinning_pop_to_first, thinning_through, thinning_through_named, thinning_walk, thinning_implied, thinning_implied_except, thinning_implied_thoroughly, thinning_close_paragraph, thinning_close_item, thinning_close_description, thinning_end_form, thinning_take_off, thinning_remove_entry, thinning_reconstruct, one_new}
+use Rattle.hp_model.proofs.Stacks.{counted, is_counted, pushed-keeps}
+use Rattle.hp_model.proofs.Thins.{Ready, Thins, Thinning, entry_is, tally-entries, thins_all, thins_list, thinning_nothing, thinning_then, ready_after}
+use Rattle.hp_model.proofs.Thinning.{thinning_pop, thinning_pop_to, thinning_pop_to_first, thinning_through, thinning_through_named, thinning_walk, thinning_implied, thinning_implied_except, thinning_implied_thoroughly, thinning_close_paragraph, thinning_close_item, thinning_close_description, thinning_end_form, thinning_take_off, thinning_remove_entry, thinning_reconstruct, one_new}
 use Rattle.hp_model.proofs.Adopting.{thinning_adopt, thinning_close_link, thinning_flushed, thinning_taken, name-found, entry-id}
 use Rattle.hp_model.proofs.Resetting.{reset-settled, reset-no_select}
 use Rattle.hp_model.proofs.Course as course
 use Rattle.hp_model.proofs.Course.{Course, Along, Base, bare, rooted, tall, alien, Count, fell, kept, unknown, Where, at, anywhere, left, Room, BaseIs, CountIs, PlaceIs, RoomIs, OriginalIs, IsMade, MadeIs, is_standing, is_bare, is_above, is_alien, thinner, higher, after_reset, is_settled_at, is_a_template, is_foreign_top, kind_is_template, kind_is_html, is_start, is_formatting_start, has_room, after, fits}
-use Rattle.hp_model.proofs.Courses.{standing-rooted, ready, thin, push, push_html, push_head_along, through_along, template-stays, taken_off-tall, cleared-few, cleared-formatting, replaced-modes, replaced-room, dropped-modes, dropped-room, room-more, bytes_eq-swap}
+use Rattle.hp_model.proofs.Courses.{standing-rooted, ready, thin, push, push_html, push_head_along, through_along, template-stays, taken_off-tall, cleared-few, cleared-formatting, replaced-modes, replaced-room, dropped-modes, dropped-room, room-more}
 
 -- what a known name says of a text
 template-told : (id : ℕ) (tag : Tag) → is_html_space tag.namespace ≡ true → is_template (element_for id tag) ≡ kind_is_template (Start (known_of tag.name))
 template-told id tag h = rw h (go (known_of tag.name) refl)
   where
-    go : (o : Option Known) → known_of tag.name ≡ o → bytes_eq tag.name (text_of known.Template) ≡ kind_is_template (Start o)
-    go (Some k) e = ap (λ t. bytes_eq t (text_of known.Template)) (sym (found_text tag.name k e))
-    go None e = unknown_name e (bytes_eq tag.name (text_of known.Template)) refl
-
     none_some : None ≡ Some known.Template → ⊥
     none_some k = cc
 
     unknown_name : known_of tag.name ≡ None → (b : Bool) → bytes_eq tag.name (text_of known.Template) ≡ b → b ≡ false
     unknown_name e false f = refl
     unknown_name e true f = absurd (none_some (sym e ∙ (ap known_of (equal_bytes true tag.name (text_of known.Template) (sym f) refl) ∙ known_of_text known.Template)))
+
+    go : (o : Option Known) → known_of tag.name ≡ o → bytes_eq tag.name (text_of known.Template) ≡ kind_is_template (Start o)
+    go (Some k) e = ap (λ t. bytes_eq t (text_of known.Template)) (sym (found_text tag.name k e))
+    go None e = unknown_name e (bytes_eq tag.name (text_of known.Template)) refl
 
 formatting-told : (name : List ℕ) → is_formatting_start (Start (known_of name)) ≡ true → in_set sets.Formatting Html name ≡ true
 formatting-told name h = go (known_of name) refl h
@@ -107,7 +107,7 @@ insert_along fostering (token.Start self_closing tag) read v n s g h =
     let parts = and_parts (is_standing v.base) _ h in
     let inner = and_parts (is_start (Start (known_of tag.name))) _ parts.1 in
     push true (kind_is_template (Start (known_of tag.name))) tag v n s g parts.0 (ap is_html_space read) (λ e. absurd (true≢false e)) (template-told s.next tag (ap is_html_space read)) inner.1
-insert_along fostering t read v n s g h = absurd (true≢false (sym (and_parts (is_start (kind_of t)) _ (and_parts (is_standing v.base) _ h).1).0))
+insert_along fostering t read v n s g h = absurd (true≢false (sym (and_parts (is_start (kind_of t)) (not (kind_is_template (kind_of t)) || has_room v.room) (and_parts (is_standing v.base) (is_start (kind_of t) && (not (kind_is_template (kind_of t)) || has_room v.room)) h).1).0))
 
 insert_html_along : (t : Token) → IsRead t → (v : Course) (n : ℕ) (s : ControlState) → Along v n s → fits (kind_of t) act.InsertHtml v ≡ true → Along (after (kind_of t) act.InsertHtml v) n (record s { stack = element_for s.next (tag_of t) ∷ s.stack; next = s.next + 1 })
 insert_html_along (token.Start self_closing tag) read v n s g h =
@@ -216,16 +216,16 @@ removed_thins (id ∷ other ∷ ids) = removed_thins (other ∷ ids)
 fewer_ids : (low next : ℕ) (old new : List FormattingEntry) → ((i : ℕ) → tally (entry_is i) new ≤ tally (entry_is i) old) → AreIds low next (entry_ids old) → AreIds low next (entry_ids new)
 fewer_ids low next old new few a = are_ids low next (entry_ids new)
     (λ i.
-      let e : tally (is_id i) (entry_ids old) ≡ tally (entry_is i) old = tally-entries i old in
-      let f : tally (is_id i) (entry_ids new) ≡ tally (entry_is i) new = tally-entries i new in
-      let k : tally (entry_is i) new ≤ tally (entry_is i) old = few i in
-      let o : tally (is_id i) (entry_ids old) ≤ 1 = once low next (entry_ids old) i a in
-      omega arith)
+    let e : tally (is_id i) (entry_ids old) ≡ tally (entry_is i) old = tally-entries i old in
+    let f : tally (is_id i) (entry_ids new) ≡ tally (entry_is i) new = tally-entries i new in
+    let k : tally (entry_is i) new ≤ tally (entry_is i) old = few i in
+    let o : tally (is_id i) (entry_ids old) ≤ 1 = once low next (entry_ids old) i a in
+    omega arith)
     (λ i p.
-      let e : tally (is_id i) (entry_ids old) ≡ tally (entry_is i) old = tally-entries i old in
-      let f : tally (is_id i) (entry_ids new) ≡ tally (entry_is i) new = tally-entries i new in
-      let k : tally (entry_is i) new ≤ tally (entry_is i) old = few i in
-      within low next (entry_ids old) i a (omega arith))
+    let e : tally (is_id i) (entry_ids old) ≡ tally (entry_is i) old = tally-entries i old in
+    let f : tally (is_id i) (entry_ids new) ≡ tally (entry_is i) new = tally-entries i new in
+    let k : tally (entry_is i) new ≤ tally (entry_is i) old = few i in
+    within low next (entry_ids old) i a (omega arith))
 
 unlisted_still : (id : ℕ) (old new : List FormattingEntry) → tally (entry_is id) new ≤ tally (entry_is id) old → IsNew id (entry_ids old) → IsNew id (entry_ids new)
 unlisted_still id old new few h =
@@ -261,6 +261,10 @@ append_along v n s tag g h m f = go (nat_le 3 (length (equal_ids tag s.formattin
 made_made : (b : Bool) (st : List OpenElement) (list : List FormattingEntry) (hd : Option ℕ) (next : ℕ) → b ≡ true → MadeIs b st list hd next → IsMade st list hd next
 made_made true st list hd next h m = m
 made_made false st list hd next h m = absurd (true≢false (sym h))
+
+made_marked : (b : Bool) (st : List OpenElement) (list : List FormattingEntry) (hd : Option ℕ) (next : ℕ) → MadeIs b st list hd next → MadeIs b st (Marker ∷ list) hd next
+made_marked true st list hd next m = record { above = m.above; below = m.below; unlisted = m.unlisted; not_head = m.not_head }
+made_marked false st list hd next m = tt
 
 formatting_entry : (t : Token) (id : ℕ) → IsRead t → is_formatting_start (kind_of t) ≡ true → IsFormatting (Element id (tag_of t))
 formatting_entry (token.Start self_closing tag) id read h = (read, subst (λ space. in_set sets.Formatting space tag.name ≡ true) (sym read) (formatting-told tag.name h))
@@ -325,33 +329,33 @@ act_along fostering t read act.Insert v n s g h = insert_along fostering t read 
 act_along fostering t read (act.InsertBare k) v n s g h = let parts = and_parts (is_standing v.base) (not (is_a_template (text_of k))) h in bare_along fostering k v n s g parts.0 parts.1
 act_along fostering t read act.InsertHtml v n s g h = insert_html_along t read v n s g h
 act_along fostering t read act.InsertBareHtml v n s g h = push_html (bare_tag (text_of known.Html)) v n s g h (λ id. refl) (λ id. refl) (λ id. refl)
-act_along fostering t read act.InsertForeign v n s g h = thin_by v n s _ h g (foreign_thins (opened_namespace (name_of t)) fostering _ (tag_of t) (opened-foreign (name_of t)))
-act_along fostering t read act.InsertAsCurrent v n s g h = thin_by v n s _ (alien-standing v.base h) g (foreign_thins (current_namespace s.stack) fostering _ (tag_of t) (alien-foreign v.base s.stack s.next h g.base))
+act_along fostering t read act.InsertForeign v n s g h = thin_by v n s (step fostering t act.InsertForeign) h g (foreign_thins (opened_namespace (name_of t)) fostering (is_self_closing t) (tag_of t) (opened-foreign (name_of t)))
+act_along fostering t read act.InsertAsCurrent v n s g h = thin_by v n s (insert_in (current_namespace s.stack) fostering (is_self_closing t) (tag_of t)) (alien-standing v.base h) g (foreign_thins (current_namespace s.stack) fostering (is_self_closing t) (tag_of t) (alien-foreign v.base s.stack s.next h g.base))
 act_along fostering t read act.PushHead v n s g h = head_pushed v n s g h s.head g.head
-act_along fostering t read act.Reconstruct v n s g h = thin_by v n s _ h g (thinning_reconstruct fostering)
-act_along fostering t read act.Pop v n s g h = thin_by v n s _ h g thinning_pop
-act_along fostering t read (act.PopTo names) v n s g h = thin_by v n s _ h g (thinning_pop_to _)
-act_along fostering t read act.PopToFirst v n s g h = thin_by v n s _ h g thinning_pop_to_first
-act_along fostering t read act.PopToPoint v n s g h = thin_by v n s _ h g (thinning_pop_to _)
-act_along fostering t read (act.Through Its) v n s g h = thin_by v n s _ h g (thinning_through_named _)
+act_along fostering t read act.Reconstruct v n s g h = thin_by v n s (step fostering t act.Reconstruct) h g (thinning_reconstruct fostering)
+act_along fostering t read act.Pop v n s g h = thin_by v n s (step fostering t act.Pop) h g thinning_pop
+act_along fostering t read (act.PopTo names) v n s g h = thin_by v n s (step fostering t (act.PopTo names)) h g (thinning_pop_to (kinds.Set names))
+act_along fostering t read act.PopToFirst v n s g h = thin_by v n s (step fostering t act.PopToFirst) h g thinning_pop_to_first
+act_along fostering t read act.PopToPoint v n s g h = thin_by v n s (step fostering t act.PopToPoint) h g (thinning_pop_to kinds.HtmlOrPoint)
+act_along fostering t read (act.Through Its) v n s g h = thin_by v n s (step fostering t (act.Through Its)) h g (thinning_through_named (name_for t Its))
 act_along fostering t read (act.Through (Named k)) v n s g h = let parts = and_parts (is_standing v.base) (not (bytes_eq (text_of known.Html) (text_of k))) h in through_along (text_of k) (was_not (bytes_eq (text_of known.Html) (text_of k)) parts.1) v n s parts.0 g (thinning_through_named (text_of k) s (ready v n s parts.0 g))
-act_along fostering t read (act.ThroughFirstOf names) v n s g h = thin_by v n s _ h g (thinning_through _ _)
-act_along fostering t read act.ThroughForeign v n s g h = thin_by v n s _ h g (thinning_through _ _)
-act_along fostering t read act.Implied v n s g h = thin_by v n s _ h g thinning_implied
-act_along fostering t read (act.ImpliedExcept which) v n s g h = thin_by v n s _ h g (implied_but_thins _)
-act_along fostering t read act.ImpliedThoroughly v n s g h = let w = thin_by v n s _ h g thinning_implied_thoroughly in record { base = w.base; count = w.count; place = w.place; original = w.original; pending = w.pending; room = w.room; there = template-stays v.there s.stack g.there; made = w.made; template_modes = w.template_modes; formatting = w.formatting; stack_ids = w.stack_ids; list_ids = w.list_ids; head = w.head; form = w.form; lex = w.lex }
-act_along fostering t read act.CloseParagraph v n s g h = thin_by v n s _ h g thinning_close_paragraph
-act_along fostering t read act.CloseItem v n s g h = thin_by v n s _ h g thinning_close_item
-act_along fostering t read act.CloseDescription v n s g h = thin_by v n s _ h g thinning_close_description
-act_along fostering t read act.Walk v n s g h = thin_by v n s _ h g (thinning_walk _)
+act_along fostering t read (act.ThroughFirstOf names) v n s g h = thin_by v n s (step fostering t (act.ThroughFirstOf names)) h g (thinning_through (kinds.Set names) kinds.Nothing)
+act_along fostering t read act.ThroughForeign v n s g h = thin_by v n s (step fostering t act.ThroughForeign) h g (thinning_through (kinds.Foreign (name_of t)) kinds.AnyHtml)
+act_along fostering t read act.Implied v n s g h = thin_by v n s (step fostering t act.Implied) h g thinning_implied
+act_along fostering t read (act.ImpliedExcept which) v n s g h = thin_by v n s (step fostering t (act.ImpliedExcept which)) h g (implied_but_thins (known_of (name_for t which)))
+act_along fostering t read act.ImpliedThoroughly v n s g h = let w = thin_by v n s (step fostering t act.ImpliedThoroughly) h g thinning_implied_thoroughly in record { base = w.base; count = w.count; place = w.place; original = w.original; pending = w.pending; room = w.room; there = template-stays v.there s.stack g.there; made = w.made; template_modes = w.template_modes; formatting = w.formatting; stack_ids = w.stack_ids; list_ids = w.list_ids; head = w.head; form = w.form; lex = w.lex }
+act_along fostering t read act.CloseParagraph v n s g h = thin_by v n s (step fostering t act.CloseParagraph) h g thinning_close_paragraph
+act_along fostering t read act.CloseItem v n s g h = thin_by v n s (step fostering t act.CloseItem) h g thinning_close_item
+act_along fostering t read act.CloseDescription v n s g h = thin_by v n s (step fostering t act.CloseDescription) h g thinning_close_description
+act_along fostering t read act.Walk v n s g h = thin_by v n s (step fostering t act.Walk) h g (thinning_walk (name_of t))
 act_along fostering t read act.TakeHeadOff v n s g h = take_head_off_along v n s g h
-act_along fostering t read (act.TakeOff which) v n s g h = take_off_named_along v n s _ h g
-act_along fostering t read act.EndForm v n s g h = thin_by v n s _ h g thinning_end_form
-act_along fostering t read act.CloseLink v n s g h = thin_by v n s _ h g (thinning_close_link fostering)
-act_along fostering t read (act.Adopt which) v n s g h = thin_by v n s _ h g (thinning_adopt fostering _)
+act_along fostering t read (act.TakeOff which) v n s g h = take_off_named_along v n s (name_for t which) h g
+act_along fostering t read act.EndForm v n s g h = thin_by v n s (step fostering t act.EndForm) h g thinning_end_form
+act_along fostering t read act.CloseLink v n s g h = thin_by v n s (step fostering t act.CloseLink) h g (thinning_close_link fostering)
+act_along fostering t read (act.Adopt which) v n s g h = thin_by v n s (step fostering t (act.Adopt which)) h g (thinning_adopt fostering (name_for t which))
 act_along fostering t read act.AppendToList v n s g h = let parts = and_parts (is_formatting_start (kind_of t)) (is_above v.base && v.made) h in let inner = and_parts (is_above v.base) v.made parts.1 in append_along v n s (tag_of t) g (above-standing v.base inner.0) (made_made v.made s.stack s.formatting s.head s.next inner.1 g.made) (formatting_entry t (current_id s.stack) read parts.0)
-act_along fostering t read act.Marker v n s g h = record { base = g.base; count = g.count; place = g.place; original = g.original; pending = g.pending; room = g.room; there = g.there; made = g.made; template_modes = g.template_modes; formatting = All-cons IsFormatting Marker s.formatting tt g.formatting; stack_ids = g.stack_ids; list_ids = g.list_ids; head = g.head; form = g.form; lex = g.lex }
-act_along fostering t read act.ClearToMarker v n s g h = clear_along v n s _ h g (λ i. cleared-few i s.formatting) (cleared-formatting s.formatting g.formatting)
+act_along fostering t read act.Marker v n s g h = record { base = g.base; count = g.count; place = g.place; original = g.original; pending = g.pending; room = g.room; there = g.there; made = made_marked v.made s.stack s.formatting s.head s.next g.made; template_modes = g.template_modes; formatting = All-cons IsFormatting Marker s.formatting tt g.formatting; stack_ids = g.stack_ids; list_ids = g.list_ids; head = g.head; form = g.form; lex = g.lex }
+act_along fostering t read act.ClearToMarker v n s g h = clear_along v n s (cleared_list s.formatting) h g (λ i. cleared-few i s.formatting) (cleared-formatting s.formatting g.formatting)
 act_along fostering t read act.HeadPointer v n s g h = let m = made_made v.made s.stack s.formatting s.head s.next (and_parts (is_above v.base) v.made h).1 g.made in record { base = g.base; count = g.count; place = g.place; original = g.original; pending = g.pending; room = g.room; there = g.there; made = tt; template_modes = g.template_modes; formatting = g.formatting; stack_ids = g.stack_ids; list_ids = g.list_ids; head = (m.above, m.below); form = g.form; lex = g.lex }
 act_along fostering t read act.FormPointer v n s g h = let m = made_made v.made s.stack s.formatting s.head s.next (and_parts (is_above v.base) v.made h).1 g.made in record { base = g.base; count = g.count; place = g.place; original = g.original; pending = g.pending; room = g.room; there = g.there; made = g.made; template_modes = g.template_modes; formatting = g.formatting; stack_ids = g.stack_ids; list_ids = g.list_ids; head = g.head; form = (m.above, m.below); lex = g.lex }
 act_along fostering t read act.Reset v n s g h = record { base = g.base; count = g.count; place = reset-place v.count n s.stack s.templates (is_some s.head) g.template_modes g.count; original = g.original; pending = g.pending; room = g.room; there = g.there; made = g.made; template_modes = g.template_modes; formatting = g.formatting; stack_ids = g.stack_ids; list_ids = g.list_ids; head = g.head; form = g.form; lex = g.lex }
@@ -363,5 +367,5 @@ act_along fostering t read (act.ReplaceTemplateMode mode) v n s g h = record { b
 act_along fostering t read act.PopTemplateMode v n s g h = record { base = g.base; count = g.count; place = g.place; original = g.original; pending = g.pending; room = dropped-room v.room (tally is_template s.stack) s.templates h g.room; there = g.there; made = g.made; template_modes = dropped-modes s.templates g.template_modes; formatting = g.formatting; stack_ids = g.stack_ids; list_ids = g.list_ids; head = g.head; form = g.form; lex = g.lex }
 act_along fostering t read act.EmptyPending v n s g h = record { base = g.base; count = g.count; place = g.place; original = g.original; pending = refl; room = g.room; there = g.there; made = g.made; template_modes = g.template_modes; formatting = g.formatting; stack_ids = g.stack_ids; list_ids = g.list_ids; head = g.head; form = g.form; lex = g.lex }
 act_along fostering t read act.AppendPending v n s g h = record { base = g.base; count = g.count; place = g.place; original = g.original; pending = tt; room = g.room; there = g.there; made = g.made; template_modes = g.template_modes; formatting = g.formatting; stack_ids = g.stack_ids; list_ids = g.list_ids; head = g.head; form = g.form; lex = g.lex }
-act_along fostering t read act.Flush v n s g h = flush_along v n s _ h g (thinning_flushed s.pending)
+act_along fostering t read act.Flush v n s g h = flush_along v n s (if list_all is_white s.pending then put_characters s.pending else foster_characters s.pending) h g (thinning_flushed s.pending)
 act_along fostering t read _ v n s g h = g

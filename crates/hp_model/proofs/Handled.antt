@@ -1,6 +1,6 @@
 -- Handling a token ends, and leaves a valid state.
-use Rattle.std.proofs.Common.{◌≡◌, ℕ, zero, suc, ◌+◌, ◌*◌, ◌≤◌, ◌<◌, List, [], ◌∷◌, map, length, Bool, true, false, ◌&&◌, ◌||◌, not, refl, sym, ap, ◌∙◌, subst, arith, Option, None, Some, IsSome}
-use Rattle.std.specs.Prelude.{if◌then◌else◌, All, IfSome}
+use Rattle.std.proofs.Common.{◌≡◌, ℕ, zero, suc, ◌+◌, ◌*◌, ◌≤◌, ◌<◌, List, [], ◌∷◌, map, length, Bool, true, false, ◌&&◌, ◌||◌, not, refl, sym, ap, ◌∙◌, subst, arith, Option, Some, IsSome}
+use Rattle.std.specs.Prelude.{if◌then◌else◌}
 use Rattle.std.specs.List.{count_by}
 use Rattle.std.specs.Option.{unwrap_or}
 use Rattle.std.proofs.lemmas.Bool.{and_parts, true≢false}
@@ -13,20 +13,19 @@ use Rattle.hp_elements.specs.declared.token.Mode.TheVariants as mode
 use Rattle.hp_elements.specs.declared.token.Token.{Token}
 use Rattle.hp_elements.specs.declared.token.Token.TheVariants as token
 use Rattle.hp_control.specs.declared.element.OpenElement.{OpenElement}
-use Rattle.hp_control.specs.Foreign.{enters, is_annotation, is_end_of_input, is_foreign, is_foreign_at, is_svg_start}
+use Rattle.hp_control.specs.Foreign.{enters, is_annotation, is_end_of_input, is_foreign, is_svg_start}
 use Rattle.hp_control.specs.States.{ControlState, IsValid, StackFits, OriginalFits, PendingFits, is_html, is_rooted, is_settled, is_tall, is_template}
 use Rattle.hp_rules_rest.specs.Foreign.{foreign}
-use Rattle.hp_rules_rest.specs.Whole.{every_mode_rows}
-use Rattle.hp_model.specs.Handling.{all_turns, bound, handle, handle_all, handle_each, handle_piece, settled}
-use Rattle.hp_model.specs.Rows.{carry_plan, entering, foreign_turn, mode_turn, rules, turn}
-use Rattle.hp_model.specs.Tokens.{is_line_feed, pieces}
-use Rattle.hp_model.specs.Turns.{Handled, Turn, goes_on, done, again, after_turn, before, before_all, joined, left_by, turns, unchanged}
+use Rattle.hp_model.specs.Handling.{all_turns, bound, handle, handle_all, handle_piece, settled}
+use Rattle.hp_model.specs.Rows.{entering, foreign_turn, mode_turn, rules, turn}
+use Rattle.hp_model.specs.Tokens.{is_line_feed}
+use Rattle.hp_model.specs.Turns.{Handled, Turn, goes_on, done, again, after_turn, before_all, joined, left_by, turns, unchanged}
 use Rattle.hp_model.specs.Whole.{IsRead}
 use Rattle.hp_model.proofs.Tally.{tally, tally-count_by, tally-length}
 use Rattle.hp_model.proofs.Stacks.{is_counted}
-use Rattle.hp_model.proofs.Course.{Course, Along, Base, bare, rooted, tall, alien, Where, at, anywhere, left, Room, lacking, enough, spare, BaseIs, OriginalIs, PendingIs, PlaceIs, RoomIs, is_standing, has_room, is_foreign_top}
+use Rattle.hp_model.proofs.Course.{Course, Along, Base, bare, tall, alien, Where, at, anywhere, left, Room, lacking, enough, spare, BaseIs, OriginalIs, PendingIs, PlaceIs, RoomIs, is_standing, has_room, is_foreign_top}
 use Rattle.hp_model.proofs.Courses.{standing-rooted}
-use Rattle.hp_model.proofs.Passes.{rank, rules_pass, plan_passes, mode_passes, foreign_passes, base_fits, returns, collects, same, good, good_at, base_of, start, goes_foreign, falls}
+use Rattle.hp_model.proofs.Passes.{rank, rules_pass, mode_passes, foreign_passes, base_fits, returns, collects, same, good, good_at, base_of, start, goes_foreign, falls}
 use Rattle.hp_model.proofs.Tests.{each_mode, each_foreign}
 use Rattle.hp_model.proofs.Walking.{Meets, meets_before, plan_meets, rules_meet}
 use Rattle.hp_model.proofs.Weights.{weight, top, weight-below, top_at_most, falls-weight}
@@ -52,7 +51,7 @@ room-start s v =
     let f : count_by is_template s.stack ≤ length s.templates = v.templates in
     omega arith
 
-along-start : (s : ControlState) → IsValid s → Along (start s.mode) (tally is_counted s.stack) s
+pub along-start : (s : ControlState) → IsValid s → Along (start s.mode) (tally is_counted s.stack) s
 along-start s v = record {
   base = base-start s.mode s v.stack;
   count = omega arith;
@@ -173,7 +172,7 @@ not_or true b c d h = absurd (true≢false (sym h))
 not_or false true c d h = absurd (true≢false (sym h))
 not_or false false c d h = refl
 
-foreign-top : (kind : Kind) (st : List OpenElement) → is_foreign kind st ≡ true → is_foreign_top st ≡ true
+pub foreign-top : (kind : Kind) (st : List OpenElement) → is_foreign kind st ≡ true → is_foreign_top st ≡ true
 foreign-top kind [] h = absurd (true≢false (sym h))
 foreign-top kind (e ∷ es) h = ap not (not_or (is_end_of_input kind) (is_html e) (enters e.point kind) (is_annotation e && is_svg_start kind) h)
 
@@ -182,19 +181,19 @@ tall-not_foreign [] h = refl
 tall-not_foreign (e ∷ []) h = absurd (true≢false (sym h))
 tall-not_foreign (e ∷ f ∷ es) h = ap not h
 
-foreign-standing : (kind : Kind) (m : Mode) (s : ControlState) → StackFits m s → is_foreign kind s.stack ≡ true → goes_foreign (base_of m) ≡ true
+pub foreign-standing : (kind : Kind) (m : Mode) (s : ControlState) → StackFits m s → is_foreign kind s.stack ≡ true → goes_foreign (base_of m) ≡ true
 foreign-standing kind mode.Initial s h e = absurd (true≢false (sym e ∙ ap (is_foreign kind) h.0))
 foreign-standing kind mode.BeforeHtml s h e = absurd (true≢false (sym e ∙ ap (is_foreign kind) h.0))
 foreign-standing kind mode.Text s h e = absurd (true≢false (sym (foreign-top kind s.stack e) ∙ tall-not_foreign s.stack h.1))
 foreign-standing kind _ s h e = refl
 
-foreign-base : (m : Mode) (s : ControlState) → StackFits m s → goes_foreign (base_of m) ≡ true → is_rooted s.stack ≡ true
+pub foreign-base : (m : Mode) (s : ControlState) → StackFits m s → goes_foreign (base_of m) ≡ true → is_rooted s.stack ≡ true
 foreign-base mode.Initial s h e = absurd (true≢false (sym e))
 foreign-base mode.BeforeHtml s h e = absurd (true≢false (sym e))
 foreign-base mode.Text s h e = absurd (true≢false (sym e))
 foreign-base _ s h e = h
 
-along-foreign : (s : ControlState) → IsValid s → is_rooted s.stack ≡ true → is_foreign_top s.stack ≡ true → Along (record (start s.mode) { base = alien }) (tally is_counted s.stack) s
+pub along-foreign : (s : ControlState) → IsValid s → is_rooted s.stack ≡ true → is_foreign_top s.stack ≡ true → Along (record (start s.mode) { base = alien }) (tally is_counted s.stack) s
 along-foreign s v r f = record {
   base = (r, f);
   count = omega arith;
@@ -213,7 +212,7 @@ along-foreign s v r f = record {
   lex = v.lex;
 }
 
-or_second : (a b : Bool) → a ≡ true → (not a || b) ≡ true → b ≡ true
+pub or_second : (a b : Bool) → a ≡ true → (not a || b) ≡ true → b ≡ true
 or_second true b h k = k
 or_second false b h k = absurd (true≢false (sym h))
 

@@ -14,3 +14,5 @@ pub mod Tests
 pub mod Walking
 pub mod Weights
 pub mod Handled
+pub mod Finding
+pub mod Running

@@ -1,9 +1,9 @@
 -- Which modes reset gives.
-use Rattle.std.proofs.Common.{◌≡◌, List, [], ◌∷◌, Bool, true, false, ◌&&◌, ◌||◌, not, Option, Some, None, refl, sym, ap, ◌∙◌}
+use Rattle.std.proofs.Common.{◌≡◌, List, [], ◌∷◌, Bool, true, false, ◌&&◌, ◌||◌, not, Option, Some, refl, sym}
 use Rattle.std.specs.Prelude.{if◌then◌else◌, All}
 use Rattle.std.specs.List.{list_any}
 use Rattle.std.specs.Option.{unwrap_or}
-use Rattle.std.proofs.lemmas.Bool.{and_parts, or_parts, true≢false}
+use Rattle.std.proofs.lemmas.Bool.{and_parts, true≢false}
 use Rattle.std.proofs.lemmas.List.Elements.{All-head}
 use Rattle.hp_elements.specs.declared.known.Known.TheVariants as known
 use Rattle.hp_elements.specs.declared.kinds.Kinds.TheVariants as kinds
@@ -13,7 +13,7 @@ use Rattle.hp_elements.specs.declared.token.Mode.TheVariants as mode
 use Rattle.hp_control.specs.declared.element.OpenElement.{OpenElement}
 use Rattle.hp_control.specs.KindTests.{within}
 use Rattle.hp_control.specs.States.{is_named, is_settled, is_template_mode}
-use Rattle.hp_control.specs.Walks.{is_cell, is_last, last_template_mode, select_mode, table_comes, html_mode, mode_of, mode_at, reset_mode}
+use Rattle.hp_control.specs.Walks.{is_cell, is_last, last_template_mode, select_mode, table_comes, html_mode, mode_of, reset_mode}
 use Rattle.hp_model.proofs.Course.{is_select, is_select_mode}
 
 settled-template_mode : (m : Mode) → is_template_mode m ≡ true → (is_settled m && not (is_select_mode m)) ≡ true
@@ -70,17 +70,17 @@ module _ (p : Mode → Bool) (modes : List Mode) (has_head : Bool) (at_template 
 
   pub reset-passes_without : (st : List OpenElement) → list_any is_select st ≡ false → p (reset_mode has_head modes st) ≡ true
   reset-passes_without [] h = passes.7
-  reset-passes_without (e ∷ es) h = go (is_named known.Select e) h
+  reset-passes_without (e ∷ es) h = go (is_named known.Select e) h (reset-passes_without es)
     where
-      go : (b : Bool) → (b || list_any is_select es) ≡ false → p (unwrap_or (
+      go : (b : Bool) → (b || list_any is_select es) ≡ false → (list_any is_select es ≡ false → p (reset_mode has_head modes es) ≡ true) → p (unwrap_or (
           if b then Some (select_mode (table_comes es))
           else if is_cell e && not (is_last es) then Some mode.InCell
           else if is_named known.Template e then Some (last_template_mode modes)
           else if is_named known.Head e && not (is_last es) then Some mode.InHead
           else if is_named known.Html e then Some (html_mode has_head)
           else mode_of e) (reset_mode has_head modes es)) ≡ true
-      go true k = absurd (true≢false k)
-      go false k = beyond_select e es (reset-passes_without es k)
+      go true k later = absurd (true≢false k)
+      go false k later = beyond_select e es (later k)
 
 pub reset-settled : (modes : List Mode) (has_head : Bool) (st : List OpenElement) → All (λ m. is_template_mode m ≡ true) modes → is_settled (reset_mode has_head modes st) ≡ true
 reset-settled modes has_head st h =

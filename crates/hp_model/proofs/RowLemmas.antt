@@ -7,7 +7,6 @@ use Rattle.hp_elements.specs.Rules.{Plan, Row, ends, ◌⨾◌, when, unless, ac
 use Rattle.hp_elements.specs.Tokens.{kind_of}
 use Rattle.hp_elements.specs.declared.act.Act.{Act}
 use Rattle.hp_elements.specs.declared.act.Act.TheVariants.{If, Unless}
-use Rattle.hp_elements.specs.declared.act.Test.{Test}
 use Rattle.hp_elements.specs.declared.token.Kind.{Kind}
 use Rattle.hp_elements.specs.declared.token.Mode.{Mode}
 use Rattle.hp_elements.specs.declared.token.Mode.TheVariants as mode
@@ -191,14 +190,11 @@ module _ (follow : Bool → Mode → ControlState → Turn) (present : ControlSt
 -- the plans of some rows have plain acts, and so has the one that is taken
 plain-for : (rows : List Row) (kind : Kind) → list_all (λ row. has_plain_acts row.plan) rows ≡ true → has_plain_acts (plan_for rows kind) ≡ true
 plain-for [] kind h = refl
-plain-for (row ∷ rows) kind h = go (is_for row.tokens kind)
+plain-for (row ∷ rows) kind h = go (is_for row.tokens kind) (plain-for rows kind (and_parts (has_plain_acts row.plan) (list_all (λ r. has_plain_acts r.plan) rows) h).1)
   where
-    parts : (has_plain_acts row.plan ≡ true) × (list_all (λ r. has_plain_acts r.plan) rows ≡ true)
-    parts = and_parts (has_plain_acts row.plan) (list_all (λ r. has_plain_acts r.plan) rows) h
-
-    go : (b : Bool) → has_plain_acts (if b then row.plan else plan_for rows kind) ≡ true
-    go true = parts.0
-    go false = plain-for rows kind parts.1
+    go : (b : Bool) → has_plain_acts (plan_for rows kind) ≡ true → has_plain_acts (if b then row.plan else plan_for rows kind) ≡ true
+    go true later = (and_parts (has_plain_acts row.plan) (list_all (λ r. has_plain_acts r.plan) rows) h).0
+    go false later = later
 
 plain_mode : (m : Mode) → list_all (λ row. has_plain_acts row.plan) (every_mode_rows m) ≡ true
 unfolding every_mode_rows

@@ -1,10 +1,10 @@
 -- What acts keep of a stack: the elements that weigh, the templates, the root, and the ids.
-use Rattle.std.proofs.Common.{◌≡◌, ℕ, zero, suc, ◌+◌, ◌-◌, ◌≤◌, ◌<◌, ◌==◌, List, [], ◌∷◌, ◌++◌, map, take, drop, length, min, Bool, true, false, not, ◌&&◌, ◌||◌, Option, Some, None, refl, sym, ap, ◌∙◌, subst, arith, add-one}
+use Rattle.std.proofs.Common.{◌≡◌, ℕ, zero, suc, ◌+◌, ◌-◌, ◌≤◌, ◌<◌, ◌==◌, List, [], ◌∷◌, ◌++◌, take, drop, length, min, Bool, true, false, not, ◌&&◌, ◌||◌, Option, Some, None, refl, sym, ap, ◌∙◌, subst, arith}
 use Rattle.std.specs.Prelude.{if◌then◌else◌}
 use Rattle.std.specs.Option.{option_map}
 use Rattle.std.specs.List.{list_all, list_any}
 use Rattle.std.specs.Str.{bytes_eq}
-use Rattle.std.proofs.lemmas.Bool.{and_parts, true≢false, eqb-true, or_cases}
+use Rattle.std.proofs.lemmas.Bool.{and_parts, true≢false, eqb-true}
 use Rattle.hp_elements.specs.Names.{text_of, is_among, words}
 use Rattle.hp_elements.specs.Sets.{Elements, in_set, is_member, members, same_namespace}
 use Rattle.hp_elements.specs.declared.known.Known.TheVariants as known
@@ -16,7 +16,7 @@ use Rattle.hp_control.specs.declared.element.OpenElement.{OpenElement}
 use Rattle.hp_control.specs.Acts.{popped_by, without, element_for}
 use Rattle.hp_control.specs.States.{is_html, is_named, is_rooted, is_template}
 use Rattle.hp_control.specs.Walks.{open_at}
-use Rattle.hp_model.proofs.Tally.{one, tally, tally-nil, tally-cons, tally-yes, tally-no, tally-tail, tally-append, tally-split, tally-drop, tally-drop_more}
+use Rattle.hp_model.proofs.Tally.{one, tally, tally-cons, tally-yes, tally-no, tally-tail, tally-append, tally-split, tally-drop, tally-drop_more}
 use Rattle.hp_model.proofs.Ids.{between, between-then}
 
 -- the elements that the weight counts
@@ -45,10 +45,10 @@ keeps_then n m l a b c h k f g = record {
   templates = let d : tally is_template b ≤ tally is_template a = f.templates in let e : tally is_template c ≤ tally is_template b = g.templates in omega arith;
   rooted = λ r. g.rooted (f.rooted r);
   ids = λ i.
-    let d : tally (has_id i) b ≤ tally (has_id i) a + between n m i = f.ids i in
-    let e : tally (has_id i) c ≤ tally (has_id i) b + between m l i = g.ids i in
-    let w : between n m i + between m l i ≤ between n l i = between-then n m l i h k in
-    omega arith;
+      let d : tally (has_id i) b ≤ tally (has_id i) a + between n m i = f.ids i in
+      let e : tally (has_id i) c ≤ tally (has_id i) b + between m l i = g.ids i in
+      let w : between n m i + between m l i ≤ between n l i = between-then n m l i h k in
+      omega arith;
 }
 
 -- where none is tallied more often, the rest is the root
@@ -124,16 +124,16 @@ rooted-under id k (e ∷ []) h d r = go (e.id == id) refl h
         let same : e.id ≡ id = eqb-true e.id id f in
         absurd (d (sym same ∙ one))
     go false f g = absurd (none_some k g)
-rooted-under id k (e ∷ f ∷ es) h d r = go (e.id == id) refl h
+rooted-under id k (e ∷ f ∷ es) h d r = go (e.id == id) refl h (λ j there. rooted-under id j (f ∷ es) there d r)
   where
     same : (a b : ℕ) → Some a ≡ Some b → b ≡ a
     same a b g = cc
 
-    go : (b : Bool) → (e.id == id) ≡ b → (if b then Some 0 else option_map suc (open_at id (f ∷ es))) ≡ Some k → is_rooted (drop (k + 1) (e ∷ f ∷ es)) ≡ true
-    go true g q = subst (λ j. is_rooted (drop (j + 1) (e ∷ f ∷ es)) ≡ true) (sym (same 0 k q)) r
-    go false g q =
+    go : (b : Bool) → (e.id == id) ≡ b → (if b then Some 0 else option_map suc (open_at id (f ∷ es))) ≡ Some k → ((j : ℕ) → open_at id (f ∷ es) ≡ Some j → is_rooted (drop (j + 1) (f ∷ es)) ≡ true) → is_rooted (drop (k + 1) (e ∷ f ∷ es)) ≡ true
+    go true g q under = subst (λ j. is_rooted (drop (j + 1) (e ∷ f ∷ es)) ≡ true) (sym (same 0 k q)) r
+    go false g q under =
         let (j, there) = deeper (open_at id (f ∷ es)) k q in
-        let rest : is_rooted (drop (j + 1) (f ∷ es)) ≡ true = rooted-under id j (f ∷ es) there.0 d r in
+        let rest : is_rooted (drop (j + 1) (f ∷ es)) ≡ true = under j there.0 in
         let more : suc (j + 1) ≡ k + 1 = omega (arith, there.1) in
         subst (λ i. is_rooted (drop i (e ∷ f ∷ es)) ≡ true) more rest
 
@@ -156,19 +156,16 @@ pushed-keeps n m e es c t h = record {
 -- a name of a set whose names the test refuses is refused
 pub refused : (q : List ℕ → Bool) (elements : Elements) (space : Namespace) (name : List ℕ) → list_all (λ e. not (q e.1)) elements ≡ true → is_member elements space name ≡ true → q name ≡ false
 refused q [] space name h k = absurd (true≢false (sym k))
-refused q (e ∷ es) space name h k = go (same_namespace space e.0) (bytes_eq name e.1) refl k
+refused q (e ∷ es) space name h k = go (same_namespace space e.0) (bytes_eq name e.1) refl k (refused q es space name (and_parts (not (q e.1)) (list_all (λ e. not (q e.1)) es) h).1)
   where
-    rest : list_all (λ e. not (q e.1)) es ≡ true
-    rest = (and_parts (not (q e.1)) (list_all (λ e. not (q e.1)) es) h).1
-
     here : (b : Bool) → q e.1 ≡ b → not b ≡ true → q e.1 ≡ false
     here true f g = absurd (true≢false (sym g))
     here false f g = f
 
-    go : (a b : Bool) → bytes_eq name e.1 ≡ b → ((a && b) || list_any (λ e. same_namespace space e.0 && bytes_eq name e.1) es) ≡ true → q name ≡ false
-    go true true f g = ap q (equal_bytes true name e.1 (sym f) refl) ∙ here (q e.1) refl (and_parts (not (q e.1)) (list_all (λ e. not (q e.1)) es) h).0
-    go true false f g = refused q es space name rest g
-    go false b f g = refused q es space name rest g
+    go : (a b : Bool) → bytes_eq name e.1 ≡ b → ((a && b) || list_any (λ e. same_namespace space e.0 && bytes_eq name e.1) es) ≡ true → (is_member es space name ≡ true → q name ≡ false) → q name ≡ false
+    go true true f g rest = ap q (equal_bytes true name e.1 (sym f) refl) ∙ here (q e.1) refl (and_parts (not (q e.1)) (list_all (λ e. not (q e.1)) es) h).0
+    go true false f g rest = rest g
+    go false b f g rest = rest g
 
 -- an element made for the tag of a formatting element doesn't weigh
 pub formatting-uncounted : (id : ℕ) (tag : Tag) → in_set Formatting tag.namespace tag.name ≡ true → is_counted (element_for id tag) ≡ false

@@ -94,11 +94,11 @@ tally-map p f (x ∷ xs) =
 
 pub tally-any : {X : Type 0} (p : X → Bool) (xs : List X) → list_any p xs ≡ true → 0 < tally p xs
 tally-any p [] h = absurd (cc)
-tally-any p (x ∷ xs) h = go (p x) refl h
+tally-any p (x ∷ xs) h = go (p x) refl h (tally-any p xs)
   where
-    go : (b : Bool) → p x ≡ b → (b || list_any p xs) ≡ true → 0 < tally p (x ∷ xs)
-    go true e k = let f : tally p (x ∷ xs) ≡ tally p xs + 1 = tally-yes p x xs e in omega arith
-    go false e k =
+    go : (b : Bool) → p x ≡ b → (b || list_any p xs) ≡ true → (list_any p xs ≡ true → 0 < tally p xs) → 0 < tally p (x ∷ xs)
+    go true e k rest = let f : tally p (x ∷ xs) ≡ tally p xs + 1 = tally-yes p x xs e in omega arith
+    go false e k rest =
         let f : tally p (x ∷ xs) ≡ tally p xs = tally-no p x xs e in
-        let g : 0 < tally p xs = tally-any p xs k in
+        let g : 0 < tally p xs = rest k in
         omega arith

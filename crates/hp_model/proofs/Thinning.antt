@@ -1,9 +1,7 @@
 -- The acts of tree construction that thin the stack.
-use Rattle.std.proofs.Common.{◌≡◌, ℕ, zero, suc, ◌+◌, ◌-◌, ◌≤◌, ◌<◌, ◌==◌, List, [], ◌∷◌, ◌++◌, take, drop, length, min, Bool, true, false, ◌&&◌, Option, Some, None, refl, sym, ap, ◌∙◌, subst, arith}
+use Rattle.std.proofs.Common.{◌≡◌, ℕ, zero, suc, ◌+◌, ◌≤◌, ◌<◌, ◌==◌, List, [], ◌∷◌, ◌++◌, take, drop, length, Bool, true, false, Option, Some, None, refl, subst, arith}
 use Rattle.std.specs.Prelude.{if◌then◌else◌, IfSome, All, slice_get}
-use Rattle.std.specs.Option.{option_map}
-use Rattle.std.specs.Str.{bytes_eq}
-use Rattle.std.proofs.lemmas.Bool.{and_parts, eqb-true}
+use Rattle.std.proofs.lemmas.Bool.{eqb-true}
 use Rattle.std.proofs.lemmas.List.Elements.{All-nil, All-cons, All-head, All-tail, All-take, All-drop, All-append}
 use Rattle.hp_elements.specs.Names.{text_of}
 use Rattle.hp_elements.specs.Sets.{in_set}
@@ -18,15 +16,15 @@ use Rattle.hp_control.specs.declared.element.OpenElement.{OpenElement}
 use Rattle.hp_control.specs.declared.element.FormattingEntry.{FormattingEntry}
 use Rattle.hp_control.specs.declared.element.FormattingEntry.TheVariants.{Marker, Element}
 use Rattle.hp_control.specs.Acts.{pop_by, pop, pop_run, pop_to, pop_to_first, popped_by, through, through_named, with_it, walk, take_off, taken_off, without, without_entry, remove_entry, empty_form, element_for, insert}
-use Rattle.hp_control.specs.Adoption.{Spot, lower, find_name, find_id, spliced, spliced_at, edit_at, relist, renew, renew_entry, renew_down, reconstruct, stale, strike}
-use Rattle.hp_control.specs.Composed.{implied, implied_except, implied_thoroughly, close, close_paragraph, close_item, close_description, end_form, end_form_of, end_form_in_template, is_open_form, named_in_scope, is_item, template_in_stack, drop_entry}
-use Rattle.hp_control.specs.Outcome.{Act, and_then, choose, nothing_done}
-use Rattle.hp_control.specs.States.{ControlState, AreIds, IsId, IsFormatting, entry_ids, is_rooted}
+use Rattle.hp_control.specs.Adoption.{Spot, find_id, spliced, spliced_at, edit_at, relist, renew, renew_entry, renew_down, reconstruct, stale, strike}
+use Rattle.hp_control.specs.Composed.{implied, implied_but, implied_except, implied_thoroughly, close, close_paragraph, close_item, close_description, end_form, end_form_of, end_form_in_template, is_open_form, named_in_scope, is_item, template_in_stack, drop_entry}
+use Rattle.hp_control.specs.Outcome.{and_then, choose, nothing_done}
+use Rattle.hp_control.specs.States.{ControlState, IsId, IsFormatting}
 use Rattle.hp_control.specs.Walks.{open_at, seen, reach, has_entry}
-use Rattle.hp_model.proofs.Tally.{one, tally, tally-nil, tally-cons, tally-yes, tally-no, tally-tail, tally-append, tally-split, tally-drop}
-use Rattle.hp_model.proofs.Ids.{between, between-inside, between-below, between-above, Place, place, below, inside, above, within}
-use Rattle.hp_model.proofs.Stacks.{Keeps, keeps_all, keeps_then, pushed-keeps, popped_by-keeps, without-keeps, has_id, formatting-uncounted, formatting-no_template}
-use Rattle.hp_model.proofs.Thins.{Ready, Thins, Thinning, Alike, thins_all, thins_then, thins_stack, thins_list, thinning_nothing, thinning_then, thinning_choose, ready_after, ready_next, entry_is, tally-entries, ids_of}
+use Rattle.hp_model.proofs.Tally.{one, tally, tally-nil, tally-cons, tally-tail, tally-append, tally-split, tally-drop}
+use Rattle.hp_model.proofs.Ids.{between, between-inside}
+use Rattle.hp_model.proofs.Stacks.{Keeps, keeps_all, pushed-keeps, popped_by-keeps, without-keeps, formatting-uncounted, formatting-no_template}
+use Rattle.hp_model.proofs.Thins.{Ready, Thins, Thinning, thins_all, thins_stack, thins_list, thinning_nothing, thinning_then, thinning_choose, entry_is}
 
 pub thinning_pop_by : (count : ℕ) → Thinning (pop_by count)
 thinning_pop_by count c r = thins_stack c (popped_by count c.stack) r (popped_by-keeps c.next c.next count c.stack)
@@ -56,7 +54,7 @@ pub thinning_implied : Thinning implied
 thinning_implied = thinning_pop_run (kinds.Set sets.Implied)
 
 pub thinning_implied_except : (name : Known) → Thinning (implied_except name)
-thinning_implied_except name = thinning_pop_run _
+thinning_implied_except name = thinning_pop_run (kinds.Set (implied_but name))
 
 pub thinning_implied_thoroughly : Thinning implied_thoroughly
 thinning_implied_thoroughly = thinning_pop_run (kinds.Set sets.ThoroughlyImplied)
@@ -94,27 +92,26 @@ without_entry-few i id (Marker ∷ es) =
     let f : tally (entry_is i) (Marker ∷ es) ≡ 0 + tally (entry_is i) es = tally-cons (entry_is i) Marker es in
     let g : tally (entry_is i) (without_entry id es) ≤ tally (entry_is i) es = without_entry-few i id es in
     omega arith
-without_entry-few i id (Element other tag ∷ es) = go (other == id)
+without_entry-few i id (Element other tag ∷ es) = go (other == id) (without_entry-few i id es)
   where
-    go : (b : Bool) → tally (entry_is i) (if b then es else Element other tag ∷ without_entry id es) ≤ tally (entry_is i) (Element other tag ∷ es)
-    go true = tally-tail (entry_is i) (Element other tag) es
-    go false =
+    go : (b : Bool) → tally (entry_is i) (without_entry id es) ≤ tally (entry_is i) es → tally (entry_is i) (if b then es else Element other tag ∷ without_entry id es) ≤ tally (entry_is i) (Element other tag ∷ es)
+    go true rest = tally-tail (entry_is i) (Element other tag) es
+    go false rest =
         let e : tally (entry_is i) (Element other tag ∷ without_entry id es) ≡ one (other == i) + tally (entry_is i) (without_entry id es) = tally-cons (entry_is i) (Element other tag) (without_entry id es) in
         let f : tally (entry_is i) (Element other tag ∷ es) ≡ one (other == i) + tally (entry_is i) es = tally-cons (entry_is i) (Element other tag) es in
-        let g : tally (entry_is i) (without_entry id es) ≤ tally (entry_is i) es = without_entry-few i id es in
         omega arith
 
 without_entry-formatting : (id : ℕ) (es : List FormattingEntry) → All IsFormatting es → All IsFormatting (without_entry id es)
 without_entry-formatting id [] h = h
 without_entry-formatting id (Marker ∷ es) h = All-cons IsFormatting Marker (without_entry id es) tt (without_entry-formatting id es (All-tail IsFormatting Marker es h))
-without_entry-formatting id (Element other tag ∷ es) h = go (other == id)
+without_entry-formatting id (Element other tag ∷ es) h = go (other == id) (without_entry-formatting id es (All-tail IsFormatting (Element other tag) es h))
   where
     rest : All IsFormatting es
     rest = All-tail IsFormatting (Element other tag) es h
 
-    go : (b : Bool) → All IsFormatting (if b then es else Element other tag ∷ without_entry id es)
-    go true = rest
-    go false = All-cons IsFormatting (Element other tag) (without_entry id es) (All-head IsFormatting (Element other tag) es h) (without_entry-formatting id es rest)
+    go : (b : Bool) → All IsFormatting (without_entry id es) → All IsFormatting (if b then es else Element other tag ∷ without_entry id es)
+    go true fewer = rest
+    go false fewer = All-cons IsFormatting (Element other tag) (without_entry id es) (All-head IsFormatting (Element other tag) es h) fewer
 
 pub thinning_remove_entry : (id : ℕ) → Thinning (remove_entry id)
 thinning_remove_entry id c r = thins_list c (without_entry id c.formatting) (λ i. without_entry-few i id c.formatting) (without_entry-formatting id c.formatting r.formatting)
@@ -204,9 +201,9 @@ renewing fostering depth id tag h c r = record {
   next = omega arith;
   stack = formatting_pushed c.next c.next tag c.stack refl h.1;
   list = λ i.
-    let e : tally (entry_is i) (spliced depth 1 (Element c.next tag ∷ []) c.formatting) ≤ tally (entry_is i) c.formatting + tally (entry_is i) (Element c.next tag ∷ []) = spliced-few (entry_is i) depth 1 (Element c.next tag ∷ []) c.formatting in
-    let f : tally (entry_is i) (Element c.next tag ∷ []) ≤ between c.next (c.next + 1) i = entry_new c.next tag i in
-    omega arith;
+      let e : tally (entry_is i) (spliced depth 1 (Element c.next tag ∷ []) c.formatting) ≤ tally (entry_is i) c.formatting + tally (entry_is i) (Element c.next tag ∷ []) = spliced-few (entry_is i) depth 1 (Element c.next tag ∷ []) c.formatting in
+      let f : tally (entry_is i) (Element c.next tag ∷ []) ≤ between c.next (c.next + 1) i = entry_new c.next tag i in
+      omega arith;
   formatting = spliced-formatting depth 1 (Element c.next tag ∷ []) c.formatting (one_entry c.next tag h) r.formatting;
   form = same c.form;
   alike = record { mode = refl; original = refl; pending = refl; templates = refl; head = refl; lex = refl };
@@ -247,7 +244,7 @@ thinning_reconstruct fostering c r = thinning_renew_down fostering (stale c.stac
 pub thinning_strike : (entry : Spot) → Thinning (strike entry)
 thinning_strike entry c r = thins_list c (edit_at entry.id 1 [] c.formatting)
     (λ i.
-      let e : tally (entry_is i) (edit_at entry.id 1 [] c.formatting) ≤ tally (entry_is i) c.formatting + tally (entry_is i) [] = edited-few (entry_is i) entry.id 1 [] c.formatting in
-      let z : tally (entry_is i) [] ≡ 0 = tally-nil (entry_is i) in
-      omega arith)
+    let e : tally (entry_is i) (edit_at entry.id 1 [] c.formatting) ≤ tally (entry_is i) c.formatting + tally (entry_is i) [] = edited-few (entry_is i) entry.id 1 [] c.formatting in
+    let z : tally (entry_is i) [] ≡ 0 = tally-nil (entry_is i) in
+    omega arith)
     (edited-formatting entry.id 1 [] c.formatting (All-nil IsFormatting) r.formatting)

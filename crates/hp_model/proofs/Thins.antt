@@ -1,8 +1,6 @@
 -- Acts that take elements off the stack, or add some that don't weigh, and leave the modes as they are.
-use Rattle.std.proofs.Common.{◌≡◌, ℕ, zero, suc, ◌+◌, ◌≤◌, ◌<◌, ◌==◌, List, [], ◌∷◌, map, length, Bool, true, false, Option, Some, None, refl, sym, ap, ◌∙◌, subst, arith}
+use Rattle.std.proofs.Common.{◌≡◌, ℕ, ◌+◌, ◌≤◌, ◌<◌, ◌==◌, List, [], ◌∷◌, map, Bool, true, false, Option, Some, None, refl, sym, ◌∙◌, subst, arith}
 use Rattle.std.specs.Prelude.{if◌then◌else◌, IfSome, All}
-use Rattle.hp_elements.specs.declared.token.Mode.{Mode}
-use Rattle.hp_tokens.specs.declared.lexing.LexState.{LexState}
 use Rattle.hp_control.specs.declared.element.OpenElement.{OpenElement}
 use Rattle.hp_control.specs.declared.element.FormattingEntry.{FormattingEntry}
 use Rattle.hp_control.specs.declared.element.FormattingEntry.TheVariants.{Marker, Element}
@@ -87,10 +85,10 @@ thins_then b c d f g =
       next = omega arith;
       stack = keeps_then b.next c.next d.next b.stack c.stack d.stack h k f.stack g.stack;
       list = λ i.
-        let p : tally (entry_is i) c.formatting ≤ tally (entry_is i) b.formatting + between b.next c.next i = f.list i in
-        let q : tally (entry_is i) d.formatting ≤ tally (entry_is i) c.formatting + between c.next d.next i = g.list i in
-        let w : between b.next c.next i + between c.next d.next i ≤ between b.next d.next i = between-then b.next c.next d.next i h k in
-        omega arith;
+          let p : tally (entry_is i) c.formatting ≤ tally (entry_is i) b.formatting + between b.next c.next i = f.list i in
+          let q : tally (entry_is i) d.formatting ≤ tally (entry_is i) c.formatting + between c.next d.next i = g.list i in
+          let w : between b.next c.next i + between c.next d.next i ≤ between b.next d.next i = between-then b.next c.next d.next i h k in
+          omega arith;
       formatting = g.formatting;
       form = form_then b.form c.form d.form f.form g.form;
       alike = alike_then b c d f.alike g.alike;
@@ -139,19 +137,19 @@ form_later n m o (Some id) h k f = id_later n m (Some id) h (subst (λ p. IfSome
 pub stack-grown : (n m : ℕ) (old new : List OpenElement) → 0 < n → n ≤ m → ((i : ℕ) → tally (has_id i) new ≤ tally (has_id i) old + between n m i) → AreIds 0 n (ids_of old) → AreIds 0 m (ids_of new)
 stack-grown n m old new l k h a = grown 0 n m (ids_of old) (ids_of new) l k
     (λ i.
-      let e : tally (is_id i) (ids_of old) ≡ tally (has_id i) old = tally-stack i old in
-      let f : tally (is_id i) (ids_of new) ≡ tally (has_id i) new = tally-stack i new in
-      let g : tally (has_id i) new ≤ tally (has_id i) old + between n m i = h i in
-      omega arith)
+    let e : tally (is_id i) (ids_of old) ≡ tally (has_id i) old = tally-stack i old in
+    let f : tally (is_id i) (ids_of new) ≡ tally (has_id i) new = tally-stack i new in
+    let g : tally (has_id i) new ≤ tally (has_id i) old + between n m i = h i in
+    omega arith)
     a
 
 pub list-grown : (n m : ℕ) (old new : List FormattingEntry) → 1 < n → n ≤ m → ((i : ℕ) → tally (entry_is i) new ≤ tally (entry_is i) old + between n m i) → AreIds 1 n (entry_ids old) → AreIds 1 m (entry_ids new)
 list-grown n m old new l k h a = grown 1 n m (entry_ids old) (entry_ids new) l k
     (λ i.
-      let e : tally (is_id i) (entry_ids old) ≡ tally (entry_is i) old = tally-entries i old in
-      let f : tally (is_id i) (entry_ids new) ≡ tally (entry_is i) new = tally-entries i new in
-      let g : tally (entry_is i) new ≤ tally (entry_is i) old + between n m i = h i in
-      omega arith)
+    let e : tally (is_id i) (entry_ids old) ≡ tally (entry_is i) old = tally-entries i old in
+    let f : tally (is_id i) (entry_ids new) ≡ tally (entry_is i) new = tally-entries i new in
+    let g : tally (entry_is i) new ≤ tally (entry_is i) old + between n m i = h i in
+    omega arith)
     a
 
 pub ready_next : (c : ControlState) → Ready c → 1 < c.next

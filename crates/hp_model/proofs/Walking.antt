@@ -1,21 +1,20 @@
 -- A row that passes the test does what the test says: by each way through the row, and through the rows that it uses.
-use Rattle.std.proofs.Common.{◌≡◌, ℕ, zero, suc, Bool, true, false, refl, sym, ap, ◌∙◌, subst, List, [], ◌∷◌, Option, None, Some}
+use Rattle.std.proofs.Common.{◌≡◌, ℕ, zero, suc, Bool, true, false, refl, sym, ◌∙◌, subst, List, [], ◌∷◌, Option, None, Some}
 use Rattle.std.specs.Prelude.{if◌then◌else◌}
 use Rattle.std.specs.Option.{is_some, option_map}
 use Rattle.std.proofs.lemmas.Bool.{and_parts, true≢false}
-use Rattle.hp_elements.specs.Names.{text_of, known_of}
+use Rattle.hp_elements.specs.Names.{text_of}
 use Rattle.hp_elements.specs.Rules.{Plan, ends, ◌⨾◌, when, unless, plan_for}
 use Rattle.hp_elements.specs.Tokens.{kind_of}
 use Rattle.hp_elements.specs.declared.act.Act.{Act}
 use Rattle.hp_elements.specs.declared.act.Act.TheVariants as act
 use Rattle.hp_elements.specs.declared.act.Test.{Test}
 use Rattle.hp_elements.specs.declared.act.Test.TheVariants as test
-use Rattle.hp_elements.specs.declared.act.Which.TheVariants.{Its, Named}
+use Rattle.hp_elements.specs.declared.act.Which.TheVariants.{Named}
 use Rattle.hp_elements.specs.declared.kinds.Kinds.{Kinds}
 use Rattle.hp_elements.specs.declared.kinds.Kinds.TheVariants as kinds
 use Rattle.hp_elements.specs.declared.known.Known.TheVariants as known
 use Rattle.hp_elements.specs.declared.sets.Namespace.TheVariants.{Html}
-use Rattle.hp_elements.specs.declared.token.Kind.{Kind}
 use Rattle.hp_elements.specs.declared.token.Kind.TheVariants.{Start}
 use Rattle.hp_elements.specs.declared.token.Mode.{Mode}
 use Rattle.hp_elements.specs.declared.token.Token.{Token}
@@ -28,9 +27,9 @@ use Rattle.hp_control.specs.States.{ControlState}
 use Rattle.hp_control.specs.Walks.{reach, seen}
 use Rattle.hp_rules_rest.specs.Whole.{every_mode_rows}
 use Rattle.hp_model.specs.Rows.{carry, carry_plan, nothing_more, rules}
-use Rattle.hp_model.specs.Steps.{holds, step}
-use Rattle.hp_model.specs.Tokens.{as_start, tag_of}
-use Rattle.hp_model.specs.Turns.{Handled, Turn, goes_on, done, again, before, and_then, as_part, left_by, plainly, unchanged}
+use Rattle.hp_model.specs.Steps.{holds}
+use Rattle.hp_model.specs.Tokens.{tag_of}
+use Rattle.hp_model.specs.Turns.{Handled, Turn, goes_on, done, again, before, and_then, as_part, left_by, unchanged}
 use Rattle.hp_model.specs.Whole.{IsRead}
 use Rattle.hp_model.proofs.Course.{Course, Along, after, fits, assume}
 use Rattle.hp_model.proofs.Courses.{seen-any}
@@ -45,16 +44,16 @@ read_tag _ h = refl
 -- what no stop hides
 seen-more : (goals stops : Kinds) (es : List OpenElement) → seen goals stops es ≡ true → seen goals kinds.Nothing es ≡ true
 seen-more goals stops [] h = h
-seen-more goals stops (e ∷ es) h = go (is_within goals e) (is_within stops e) h
+seen-more goals stops (e ∷ es) h = go (is_within goals e) (is_within stops e) h (seen-more goals stops es)
   where
     mapped : (o : Option ℕ) → is_some (option_map suc o) ≡ is_some o
     mapped None = refl
     mapped (Some k) = refl
 
-    go : (a b : Bool) → is_some (if a then Some 0 else (if b then None else option_map suc (reach goals stops es))) ≡ true → is_some (if a then Some 0 else option_map suc (reach goals kinds.Nothing es)) ≡ true
-    go true b k = refl
-    go false true k = absurd (true≢false (sym k))
-    go false false k = mapped (reach goals kinds.Nothing es) ∙ seen-more goals stops es (sym (mapped (reach goals stops es)) ∙ k)
+    go : (a b : Bool) → is_some (if a then Some 0 else (if b then None else option_map suc (reach goals stops es))) ≡ true → (seen goals stops es ≡ true → seen goals kinds.Nothing es ≡ true) → is_some (if a then Some 0 else option_map suc (reach goals kinds.Nothing es)) ≡ true
+    go true b k later = refl
+    go false true k later = absurd (true≢false (sym k))
+    go false false k later = mapped (reach goals kinds.Nothing es) ∙ later (sym (mapped (reach goals stops es)) ∙ k)
 
 -- from: the rank at the turn's start; n: the count then
 module _ (from : Rank) (n : ℕ) where
@@ -81,7 +80,7 @@ module _ (from : Rank) (n : ℕ) where
   meets_part (again token h) next last m = m
 
   module _ (t : Token) (read : IsRead t) where
-    assumed : (test : Test) (v : Course) (s : ControlState) → Along v n s → holds t test s ≡ true → Along (assume test v) n s
+    pub assumed : (test : Test) (v : Course) (s : ControlState) → Along v n s → holds t test s ≡ true → Along (assume test v) n s
     assumed (test.InScope scope (Named k)) v s g h =
         record { base = g.base; count = g.count; place = g.place; original = g.original; pending = g.pending; room = g.room; there = seen-more (kinds.Html (text_of k)) (kinds.Set (ends_of scope)) s.stack h; made = g.made; template_modes = g.template_modes; formatting = g.formatting; stack_ids = g.stack_ids; list_ids = g.list_ids; head = g.head; form = g.form; lex = g.lex }
     assumed test.TemplateInStack v s g h =
@@ -93,7 +92,7 @@ module _ (from : Rank) (n : ℕ) where
         (follow_meets : (f : Bool) (m : Mode) (v : Course) (s : ControlState) (next : Course → Bool) → Along v n s → follow_passes m v next ≡ true → Meets next next (follow f m s))
         (present_meets : (v : Course) (s : ControlState) (next : Course → Bool) → Along v n s → present_passes v next ≡ true → Meets next next (present s))
         (fostering : Bool) where
-      act_meets : (a : Act) (v : Course) (s : ControlState) (next last : Course → Bool) → Along v n s → act_passes from (kind_of t) follow_passes present_passes a v next last ≡ true → Meets next last (carry follow present fostering t a s)
+      pub act_meets : (a : Act) (v : Course) (s : ControlState) (next last : Course → Bool) → Along v n s → act_passes from (kind_of t) follow_passes present_passes a v next last ≡ true → Meets next last (carry follow present fostering t a s)
       act_meets act.Done v s next last g h = (v, (g, h))
       act_meets act.Again v s next last g h = (v, (g, h, read))
       act_meets (act.AgainAs k) v s next last g h = (v, (g, subst (λ o. again_passes from (Start o) v ≡ true) (sym (known_of_text k)) h, read_tag t read))

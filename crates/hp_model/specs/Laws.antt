@@ -1,5 +1,5 @@
 -- The laws of the rules and of handling, on which the crates above stand.
-use Rattle.std.specs.Prelude.{◌≡◌, ℕ, suc, Bool, List}
+use Rattle.std.specs.Prelude.{◌≡◌, ℕ, suc, Bool, false}
 use Rattle.hp_elements.specs.Rules.{acts_for}
 use Rattle.hp_elements.specs.Tokens.{kind_of}
 use Rattle.hp_elements.specs.declared.token.Mode.{Mode}

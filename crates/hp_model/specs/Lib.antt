@@ -4,5 +4,7 @@ pub mod Steps
 pub mod Rows
 pub mod Handling
 pub mod Examples
+pub mod Finding
 pub mod Laws
 pub mod Whole
+pub mod Runs

@@ -4,7 +4,8 @@
 
 ghost use Rattle.hp_model.specs.Examples.{Examples};
 ghost use Rattle.hp_model.specs.Laws.{ForeignByActs, ModeByActs};
-ghost use Rattle.hp_model.specs.Whole.{HandedOn, StaysValid, TurnsEnd};
+ghost use Rattle.hp_model.specs.Runs.{OneRun, OneTree, RunsJoin, RunsStayValid};
+ghost use Rattle.hp_model.specs.Whole.{ActsFind, HandedOn, StaysValid, TurnsEnd};
 
 /// Short pages lead to the trees of the standard.
 pub fn pages_by_example()
@@ -17,10 +18,20 @@ pub fn rules_by_acts()
     ensures foreign { ForeignByActs }
 {}
 
-/// From a valid state, for a token as the lexer reads it: its turns end, a valid state is left, and a token that is handed
-/// on is handled from the state that the turn left.
+/// From a valid state, for a token as the lexer reads it: its turns end, a valid state is left, a token that is handed on is
+/// handled from the state that the turn left, and each act finds what it reads.
 pub fn handling()
     ensures ends { TurnsEnd }
     ensures valid { StaysValid }
     ensures handed_on { HandedOn }
+    ensures found { ActsFind }
+{}
+
+/// Over any rules of the lexer's states whose moves stay made when more text follows: the run over two texts in a row is the run
+/// over the second from where the first led. A text has one run and a page one tree, and runs keep states valid.
+pub fn runs()
+    ensures join { RunsJoin }
+    ensures one { OneRun }
+    ensures tree { OneTree }
+    ensures valid { RunsStayValid }
 {}

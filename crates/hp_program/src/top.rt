@@ -4,7 +4,10 @@ ghost use Rattle.std.specs.Io.KnownBytes.{append_known};
 ghost use Rattle.hp_text.specs.Device.{Rose, Gives};
 ghost use Rattle.hp_program.specs.Answers.{IsTooLarge, IsNotText, IsText, IsTreeText, ComesExactly, TakesPart, TakesTree, TakesTreePart};
 ghost use Rattle.hp_program.specs.Page.{page_text, has_markup as is_marked};
-ghost use Rattle.hp_program.specs.Plain.{printed_page};
+ghost use Rattle.hp_text.specs.Page.{text_of};
+ghost use Rattle.hp_print.specs.Print.{print};
+ghost use Rattle.std.specs.Str.{chars};
+ghost use Rattle.hp_program.specs.Plain.{plain, printed_page};
 
 use crate::gate::Gate;
 use crate::page_text::has_markup;
@@ -41,6 +44,17 @@ fn print_parsed(alloc: Global, page: Page<'_>) -> Result<Vec<u8>, NoMemory>
     print_tree(alloc, &tree)
 }
 
+/// The printed tree of a page. Of one without markup it is told which tree that is.
+fn print_page(alloc: Global, page: Page<'_>) -> Result<Vec<u8>, NoMemory>
+    ensures tree { IfOk result (λ text. IsTreeText text.items) }
+    ensures plain { IfOk result (λ text. is_marked (chars (text_of page)) ≡ false → text.items ≡ print (plain (chars (text_of page)))) }
+{
+    if has_markup(page.text()) {
+        return print_parsed(alloc, page);
+    }
+    print_plain(alloc, page)
+}
+
 /// What is written for the bytes of a page.
 fn answer(alloc: Global, bytes: &[u8]) -> Result<Vec<u8>, Status>
     requires { length bytes.now ≤ PAGE_LIMIT }
@@ -53,12 +67,7 @@ fn answer(alloc: Global, bytes: &[u8]) -> Result<Vec<u8>, Status>
     let Ok(page) = check_page(bytes) else {
         return Err(Status::NotUtf8);
     };
-    let printed = if has_markup(page.text()) {
-        print_parsed(alloc, page)
-    } else {
-        print_plain(alloc, page)
-    };
-    match printed {
+    match print_page(alloc, page) {
         Ok(text) => Ok(text),
         Err(_) => Err(Status::NoMemory),
     }

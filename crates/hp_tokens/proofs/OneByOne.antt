@@ -5,9 +5,12 @@ use Rattle.hp_elements.specs.declared.token.Token.{Token}
 use Rattle.hp_tokens.specs.declared.lexing.LexState.{LexState}
 use Rattle.hp_tokens.specs.Reading.{Unread}
 use Rattle.hp_tokens.specs.States.{is_resting}
+use Rattle.hp_tokens.specs.declared.state.State.{State}
+use Rattle.hp_tokens.specs.declared.rows.Step.TheVariants as steps
+use Rattle.hp_tokens.specs.declared.rows.Turn.TheVariants as turns
 use Rattle.hp_tokens.specs.Moves.{Lexing, Emitted, Move, Rules, move, needs_more, asks_cdata, asks_last_tag, makes, end_move, ends}
 use Rattle.hp_tokens.specs.Runs.{Leads, here, onward, Waits}
-use Rattle.hp_tokens.specs.Advancing.{place_of, lexing, single, singles, tokens_of, Began, AreRuns, Appends, Says, Goes, Advances, held, end_of_text, AlongEnd, Ends, Leaves}
+use Rattle.hp_tokens.specs.Advancing.{place_of, lexing, single, singles, tokens_of, Began, AreRuns, Appends, Says, Goes, Advances, held, end_of_text, AlongEnd, Ends, Leaves, Steps, Turned, at_rest}
 use Rattle.hp_tokens.proofs.Pieces.{Leads-join}
 
 tokens_of-append : (xs ys : List Emitted) → tokens_of (xs ++ ys) ≡ tokens_of xs ++ tokens_of ys
@@ -86,6 +89,19 @@ moved_on rules old old_tokens s input tokens r q h a = record {
   began = let P : List Emitted → Type 0 = λ es. Began es q in subst P (sym (silent a.es a.says)) tt;
   says = a.says;
 }
+
+-- a first step in a resting state that emits one token
+pub one_token : (rules : Rules) (own : State → Bool) (s : LexState) (old new : Unread) (taken : Token) (r place : ℕ)
+    → is_resting s.machine.state ≡ true → place ≡ place_of s old → Steps (move rules) s old [] s new (taken ∷ []) (steps.Made true)
+    → Turned rules own (lexing s old r) [] (lexing s new place) (taken ∷ []) place turns.Emitted
+one_token rules own s old new taken r place h at step =
+    let P : ℕ → Type 0 = λ p. p ≡ (lexing s old p).rested in
+    let settled : place ≡ (lexing s old place).rested = subst P (sym at) (settled_at_rest s old h) in
+    let Q : Lexing → Type 0 = λ l. Advances rules l [] (lexing s new place) (taken ∷ []) place true in (
+      subst Q (rests s old place r h) (one_more rules (lexing s old place) (lexing s old place) (lexing s new place) [] [] (taken ∷ []) place false true
+          (none_yet rules (lexing s old place) [] place) (step place settled) settled),
+      at_rest h,
+    )
 
 -- nothing changed
 pub stayed : (rules : Rules) (old mid new : Lexing) (old_tokens mid_tokens new_tokens : List Token) (rested : ℕ) (before now : Bool)

@@ -1,6 +1,6 @@
 -- A run of plain code points is that many moves.
 use Rattle.std.proofs.Common.{◌≡◌, ℕ, ◌+◌, ◌-◌, ◌<◌, List, [], ◌∷◌, ◌++◌, Bool, true, false, inl, inr, cond, length, map, refl, ap, ◌∙◌, sym, subst, arith, Option, None, Some, append-nil, append_assoc, length-append}
-use Rattle.std.specs.Prelude.{◌==◌, IsTrue, sum_by}
+use Rattle.std.specs.Prelude.{◌==◌, IsTrue, sum_by, MatchOption}
 use Rattle.std.specs.List.{list_all}
 use Rattle.std.specs.Char.{len_utf8}
 use Rattle.std.specs.Str.{chars}
@@ -22,7 +22,7 @@ use Rattle.hp_tokens.specs.declared.building.Part.TheVariants.{Name, Comment, At
 use Rattle.hp_tokens.specs.declared.state.State.{State}
 use Rattle.hp_tokens.specs.declared.machine.Machine.{Machine}
 use Rattle.hp_tokens.specs.declared.lexing.LexState.{LexState}
-use Rattle.hp_tokens.specs.Reading.{Unread, ReadsRun}
+use Rattle.hp_tokens.specs.Reading.{Unread, first, Reads, ReadsRun}
 use Rattle.hp_tokens.specs.States.{is_resting}
 use Rattle.hp_tokens.specs.Parts.{put, put_in_tag, put_in_name, put_in_comment, put_in_doctype, longer_name, longer_value, appended}
 use Rattle.hp_tokens.specs.Rows.{Row, is_blank, character, putting, putting_text}
@@ -173,15 +173,16 @@ module _ (has : State → Bool) (row : Machine → Option ℕ → Row) (next : L
         smaller = omega (arith, rank-below m.state (symbol_of u), length-append cs u);
       }
 
-      pub text_ran : (l : LexState) (old new : Unread) (old_tokens new_tokens : List Token) → l.machine.state ≡ s → l.machine.after_cr ≡ false
-          → l.ahead ≡ [] → TextTaken passes class old old_tokens new new_tokens → (rested : ℕ)
-          → Goes next (lexing l old rested) old_tokens (lexing l new rested) new_tokens true
-      text_ran l old new old_tokens new_tokens e cr ahead t rested =
-          let P : Lexing → Type 0 = λ x. Goes next x old_tokens (lexing l new rested) new_tokens true in
-          let Q : Lexing → Type 0 = λ x. Goes next (standing (cleared l.machine) old.place rested old.text) old_tokens x new_tokens true in
-          let R : List ℕ → Type 0 = λ u. Goes next (standing (cleared l.machine) old.place rested u) old_tokens (standing (cleared l.machine) new.place rested new.text) new_tokens true in
+      pub text_ran : (l : LexState) (old new : Unread) (taken : Token) (tokens : List Token) → l.machine.state ≡ s → l.machine.after_cr ≡ false
+          → l.ahead ≡ [] → TextTaken passes class old taken new → (rested : ℕ)
+          → Goes next (lexing l old rested) tokens (lexing l new rested) (tokens ++ taken ∷ []) true
+      text_ran l old new taken tokens e cr ahead t rested =
+          let P : Lexing → Type 0 = λ x. Goes next x tokens (lexing l new rested) (tokens ++ taken ∷ []) true in
+          let Q : Lexing → Type 0 = λ x. Goes next (standing (cleared l.machine) old.place rested old.text) tokens x (tokens ++ taken ∷ []) true in
+          let R : List ℕ → Type 0 = λ u. Goes next (standing (cleared l.machine) old.place rested u) tokens (standing (cleared l.machine) new.place rested new.text) (tokens ++ taken ∷ []) true in
           subst P (sym (lexing_clear l old rested cr ahead)) (subst Q (sym (lexing_clear l new rested cr ahead))
-          (subst R (sym t.reads.text) (text_goes l.machine old.place rested new.place t.run new.text old_tokens new_tokens e t.reads.passes t.some t.reads.place t.lone t.appended)))
+          (subst R (sym t.reads.text) (text_goes l.machine old.place rested new.place t.run new.text tokens (tokens ++ taken ∷ []) e t.reads.passes t.some t.reads.place t.lone
+          (ap (λ (x : Token). tokens ++ x ∷ []) t.is))))
 
   module _ (part : Part) (plain : PutsPlain row passes part s) where
     put_move : (m : Machine) (p r c : ℕ) (u : List ℕ) → m.state ≡ s → passes c ≡ true
@@ -259,15 +260,34 @@ module _ (has : State → Bool) (row : Machine → Option ℕ → Row) (next : L
 blank_white : (c : ℕ) → is_blank c ≡ true → class_of c ≡ White
 blank_white c h = grind arith
 
+-- a line feed alone
+pub line_feed_taken : (old new : Unread) (next : Option ℕ) (taken : Token) → first old.text ≡ Some 10
+    → MatchOption next ((old.text ≡ []) × (new ≡ old)) (λ c. Reads old c new) → taken ≡ Characters White (10 ∷ []) → TextTaken is_blank White old taken new
+line_feed_taken old new None taken f m is = let e : None ≡ Some 10 = sym (ap first m.0) ∙ f in cc
+line_feed_taken old new (Some c) taken f r is =
+    let e : Some c ≡ Some 10 = sym (ap first r.text) ∙ f in
+    let same : c ≡ 10 = cc in
+    record {
+      run = 10 ∷ [];
+      reads = record {
+        text = r.text ∙ ap (λ (x : ℕ). x ∷ new.text) same;
+        place = r.place ∙ (ap (λ (x : ℕ). old.place + len_utf8 x) same ∙ omega (arith, sum_by-cons len_utf8 10 []));
+        passes = refl;
+      };
+      some = omega arith;
+      lone = λ h. refl;
+      is = is;
+    }
+
 -- a run of text that was taken is moves
 pub text_answer : (has : State → Bool) (row : Machine → Option ℕ → Row) (passes : ℕ → Bool)
-    (no_cr : passes 13 ≡ false) (other : (c : ℕ) → passes c ≡ true → class_of c ≡ Other) (l : LexState) (old new : Unread) (old_tokens new_tokens : List Token)
-    (ran : Bool) → IsTrue (has l.machine.state) → EmitsPlain row is_blank l.machine.state → EmitsPlain row passes l.machine.state
-    → l.machine.after_cr ≡ false → l.ahead ≡ [] → MayTake passes old old_tokens new new_tokens ran → TextRan has row l old old_tokens new new_tokens ran
-text_answer has row passes no_cr other l old new old_tokens new_tokens false is blanks others cr ahead t = t
-text_answer has row passes no_cr other l old new old_tokens new_tokens true is blanks others cr ahead t = λ next rows rested settled. elim t [
-  | inl white ↦ text_ran has row next rows l.machine.state is is_blank refl blanks White blank_white l old new old_tokens new_tokens refl cr ahead white rested
-  | inr rest ↦ text_ran has row next rows l.machine.state is passes no_cr others Other other l old new old_tokens new_tokens refl cr ahead rest rested
+    (no_cr : passes 13 ≡ false) (other : (c : ℕ) → passes c ≡ true → class_of c ≡ Other) (l : LexState) (old new : Unread)
+    (answer : Option Token) → IsTrue (has l.machine.state) → EmitsPlain row is_blank l.machine.state → EmitsPlain row passes l.machine.state
+    → l.machine.after_cr ≡ false → l.ahead ≡ [] → MayTake passes old answer new → TextRan has row l old answer new
+text_answer has row passes no_cr other l old new None is blanks others cr ahead t = t
+text_answer has row passes no_cr other l old new (Some taken) is blanks others cr ahead t = λ next rows tokens rested settled. elim t [
+  | inl white ↦ text_ran has row next rows l.machine.state is is_blank refl blanks White blank_white l old new taken tokens refl cr ahead white rested
+  | inr rest ↦ text_ran has row next rows l.machine.state is passes no_cr others Other other l old new taken tokens refl cr ahead rest rested
 ]
 
 -- an empty run

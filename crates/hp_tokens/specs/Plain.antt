@@ -1,5 +1,5 @@
 -- Runs of plain code points: in some state each of them does the same, and the state stays.
-use Rattle.std.specs.Prelude.{◌≡◌, ℕ, ◌<◌, ◌==◌, ◌&&◌, not, ◌⊎◌, Bool, true, false, List, [], ◌∷◌, ◌++◌, length, Option, Some}
+use Rattle.std.specs.Prelude.{◌≡◌, ℕ, ◌<◌, ◌==◌, ◌&&◌, not, ◌⊎◌, Bool, true, false, List, [], ◌∷◌, ◌++◌, length, Option, Some, None}
 use Rattle.std.specs.Char.{is_ascii_uppercase}
 use Rattle.hp_elements.specs.declared.token.CharClass.{CharClass}
 use Rattle.hp_elements.specs.declared.token.CharClass.TheVariants.{White, Other}
@@ -76,30 +76,29 @@ pub record EmitsPlain (row : Machine → Option ℕ → Row) (passes : ℕ → B
 pub record PutsPlain (row : Machine → Option ℕ → Row) (passes : ℕ → Bool) (part : Part) (s : State) : Type 0 where
   pub stays : (m : Machine) (c : ℕ) → m.state ≡ s → passes c ≡ true → row m (Some c) ≡ stay (putting part c m)
 
--- a run was appended as one token, or it is empty and nothing was appended
-abbrev pub MayPush : CharClass → List ℕ → List Token → List Token → Bool → Type 0
-MayPush class run old_tokens new_tokens true = (0 < length run) × (new_tokens ≡ old_tokens ++ token.Characters class run ∷ [])
-MayPush class run old_tokens new_tokens false = (run ≡ []) × (new_tokens ≡ old_tokens)
+-- a run as one token, or it is empty
+abbrev pub IsOneToken : CharClass → List ℕ → Option Token → Type 0
+IsOneToken class run (Some taken) = (0 < length run) × (taken ≡ token.Characters class run)
+IsOneToken class run None = run ≡ []
 
--- a run of code points of one class was taken, and appended as one token
-pub record TextTaken (passes : ℕ → Bool) (class : CharClass) (old : Unread) (old_tokens : List Token) (new : Unread) (new_tokens : List Token) : Type 0 where
+-- a run of code points of one class was taken, and is that token
+pub record TextTaken (passes : ℕ → Bool) (class : CharClass) (old : Unread) (taken : Token) (new : Unread) : Type 0 where
   pub run : List ℕ
   pub reads : ReadsRun passes old run new
   pub some : 0 < length run
   pub lone : IsRunText run
-  pub appended : new_tokens ≡ old_tokens ++ token.Characters class run ∷ []
+  pub is : taken ≡ token.Characters class run
 
 -- white space was taken, or what passes; or there is no run, and nothing changed
-abbrev pub MayTake : (ℕ → Bool) → Unread → List Token → Unread → List Token → Bool → Type 0
-MayTake passes old old_tokens new new_tokens true =
-    TextTaken is_blank White old old_tokens new new_tokens ⊎ TextTaken passes Other old old_tokens new new_tokens
-MayTake passes old old_tokens new new_tokens false = (new ≡ old) × (new_tokens ≡ old_tokens)
+abbrev pub MayTake : (ℕ → Bool) → Unread → Option Token → Unread → Type 0
+MayTake passes old (Some taken) new = TextTaken is_blank White old taken new ⊎ TextTaken passes Other old taken new
+MayTake passes old None new = new ≡ old
 
--- the promise of a run of text: moves that appended one token, or nothing changed
-abbrev pub TextRan : (State → Bool) → (Machine → Option ℕ → Row) → LexState → Unread → List Token → Unread → List Token → Bool → Type 0
-TextRan has row s old old_tokens new new_tokens true =
-    (next : Lexing → Move) → MovesByRows next has row → Steps next s old old_tokens s new new_tokens (steps.Made true)
-TextRan has row s old old_tokens new new_tokens false = (new ≡ old) × (new_tokens ≡ old_tokens)
+-- the promise of a run of text: moves that emit one token, or nothing changed
+abbrev pub TextRan : (State → Bool) → (Machine → Option ℕ → Row) → LexState → Unread → Option Token → Unread → Type 0
+TextRan has row s old (Some taken) new =
+    (next : Lexing → Move) → MovesByRows next has row → (tokens : List Token) → Steps next s old tokens s new (tokens ++ taken ∷ []) (steps.Made true)
+TextRan has row s old None new = new ≡ old
 
 -- the promise of a run that is appended to what is built: moves that emit nothing, or nothing changed
 abbrev pub PutRan : (State → Bool) → (Machine → Option ℕ → Row) → LexState → Unread → LexState → Unread → Bool → Type 0

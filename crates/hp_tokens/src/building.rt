@@ -3,7 +3,7 @@ ghost use Rattle.std.specs.Prelude.{◌≡◌, OnOk, IfOk};
 
 use crate::NoMemory;
 use crate::owned::OwnedText;
-use hp_elements::{Attribute, AttributeSpace, Chain, Name, Text};
+use hp_elements::{Attribute, AttributeSpace, Chain, Name};
 use std::alloc::Global;
 
 /// A part of the token under construction, to which text is appended.
@@ -62,6 +62,7 @@ impl Building {
     ghost use Rattle.hp_tokens.specs.Parts.{put, attribute_begun, self_closed, quirks_forced};
 
     /// Appends text to a part; what is built has no such part: nothing.
+    #[inline]
     pub fn put(&mut self, alloc: Global, part: Part, text: &str) -> Result<(), NoMemory>
         ensures { OnOk result (self.new ≡ put part (chars text.now) self.old) }
     {
@@ -210,7 +211,7 @@ pub(crate) fn finish(
     let attribute = Attribute {
         space: AttributeSpace::Plain,
         name: Name::from_text(alloc, attribute.name.as_str())?,
-        value: Text::from_str(alloc, attribute.value.as_str())?,
+        value: attribute.value.into_text(alloc)?,
     };
     attributes.push(alloc, attribute)?;
     Ok(())

@@ -13,6 +13,7 @@ use hp_elements::{Token, Tokens};
 use std::alloc::Global;
 
 /// Whether the code point is what the standard calls whitespace: tab, line feed, form feed or space.
+#[inline]
 pub fn is_blank(c: char) -> bool
     ensures { result ≡ spec_is_blank c }
 {
@@ -27,6 +28,7 @@ pub fn replaced(c: char) -> char
 }
 
 /// The code point is consumed, and the lexer goes to a state.
+#[inline]
 pub fn go(machine: &mut Machine, state: State) -> Reads
     ensures reads { result ≡ reads.Consume }
     ensures to { machine.new ≡ enter state machine.old }
@@ -36,6 +38,7 @@ pub fn go(machine: &mut Machine, state: State) -> Reads
 }
 
 /// The code point is read again in a state.
+#[inline]
 pub fn again(machine: &mut Machine, state: State) -> Reads
     ensures reads { result ≡ reads.Again }
     ensures to { machine.new ≡ enter state machine.old }

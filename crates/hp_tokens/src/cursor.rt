@@ -66,6 +66,7 @@ impl<'p> Cursor<'p> {
     }
 
     /// The place of the first unread code point, in bytes from `ORIGIN`, which is the text's start.
+    #[inline(always)]
     pub fn place(&self) -> u64
         ensures place { result ≡ self.now.place }
         ensures origin { 2 ^ 32 ≤ result }
@@ -74,6 +75,7 @@ impl<'p> Cursor<'p> {
     }
 
     /// The next code point.
+    #[inline(always)]
     pub fn peek(&self) -> Option<char>
         ensures { result ≡ first self.now.text }
     {
@@ -81,6 +83,7 @@ impl<'p> Cursor<'p> {
     }
 
     /// Takes the next code point.
+    #[inline(always)]
     pub fn next(&mut self) -> Option<char>
         ensures { MatchOption result ((self.old.text ≡ []) × (self.new ≡ self.old)) (λ c. Reads self.old c self.new) }
     {
@@ -90,6 +93,7 @@ impl<'p> Cursor<'p> {
     }
 
     /// Takes the run of code points at the front that pass.
+    #[inline(always)]
     pub fn take_run<R: Run>(&mut self) -> &'p str
         ensures run { ReadsRun R.passes self.old (chars result.now) self.new }
     {
@@ -100,6 +104,7 @@ impl<'p> Cursor<'p> {
     }
 
     /// Takes the run of code points at the front that pass, as a part of the text, in which nothing is copied.
+    #[inline(always)]
     pub fn take_text<R: Run>(&mut self) -> Text<'p>
         ensures run { ReadsRun R.passes self.old result self.new }
     {
@@ -110,6 +115,7 @@ impl<'p> Cursor<'p> {
     }
 
     /// Takes the tabs, line feeds, form feeds and spaces at the front, as a part of the text.
+    #[inline(always)]
     pub fn take_blanks(&mut self) -> Text<'p>
         ensures run { ReadsRun is_blank self.old result self.new }
     {
@@ -123,6 +129,7 @@ impl<'p> Cursor<'p> {
 ghost use Rattle.hp_tokens.specs.Reading.{PassesFrom};
 
 /// How many bytes from `at` on pass.
+#[inline(always)]
 fn run_len<R: Run>(bytes: &[u8], at: usize) -> usize
     requires { at ≤ length bytes.now }
     ensures { PassesFrom R.passes bytes.now at result }
@@ -138,6 +145,7 @@ fn run_len<R: Run>(bytes: &[u8], at: usize) -> usize
 ghost use Rattle.hp_tokens.specs.Rows.{is_blank};
 
 /// How many bytes from `at` on are tabs, line feeds, form feeds or spaces.
+#[inline(always)]
 fn blanks_len(bytes: &[u8], at: usize) -> usize
     requires { at ≤ length bytes.now }
     ensures { PassesFrom is_blank bytes.now at result }

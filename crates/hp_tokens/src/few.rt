@@ -23,6 +23,7 @@ impl Model for Few {
 }
 
 impl Few {
+    #[inline]
     pub fn new() -> Few
         ensures { result ≡ [] }
     {
@@ -32,6 +33,7 @@ impl Few {
         }
     }
 
+    #[inline]
     pub fn len(&self) -> usize
         ensures len { result ≡ length self.now }
         ensures within { result ≤ 22 }
@@ -39,6 +41,7 @@ impl Few {
         self.len
     }
 
+    #[inline]
     pub fn as_slice(&self) -> &[u8]
         ensures items { result.now ≡ self.now }
         ensures within { length result.now ≤ 22 }
@@ -46,12 +49,14 @@ impl Few {
         &self.bytes[..self.len]
     }
 
+    #[inline]
     pub fn clear(&mut self)
         ensures { self.new ≡ [] }
     {
         self.len = 0;
     }
 
+    #[inline]
     pub fn push(&mut self, byte: u8)
         requires { length self.old < 22 }
         ensures { self.new ≡ self.old ++ byte ∷ [] }
@@ -60,6 +65,7 @@ impl Few {
         self.len += 1;
     }
 
+    #[inline]
     pub fn extend(&mut self, more: &[u8])
         requires { length self.old + length more.now ≤ 22 }
         ensures { self.new ≡ self.old ++ more.now }
@@ -69,6 +75,7 @@ impl Few {
         self.len = end;
     }
 
+    #[inline(never)]
     pub fn drop_front(&mut self, count: usize)
         requires { count ≤ length self.old }
         ensures { self.new ≡ drop count self.old }

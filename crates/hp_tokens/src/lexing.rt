@@ -42,6 +42,7 @@ impl LexState {
     }
 
     /// The next code point.
+    #[inline(always)]
     pub fn peek(&self, input: &Cursor<'_>) -> Option<char>
         ensures { result ≡ first (unread self.now input.now) }
     {
@@ -52,6 +53,7 @@ impl LexState {
     }
 
     /// Takes the next code point.
+    #[inline(always)]
     pub fn take(&mut self, input: &mut Cursor<'_>) -> Option<char>
         requires { held self.old ≤ input.old.place }
         ensures value { result ≡ first (unread self.old input.old) }
@@ -80,6 +82,7 @@ impl LexState {
     }
 
     /// The place of the first unread code point.
+    #[inline(always)]
     pub fn place(&self, input: &Cursor<'_>) -> u64
         requires { held self.now ≤ input.now.place }
         ensures { result ≡ place_of self.now input.now }

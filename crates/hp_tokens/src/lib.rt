@@ -31,7 +31,7 @@ pub use plain::{
     EscapedText, PlaintextText, RawText, SingleQuotedText, TagNameText, UnquotedText,
 };
 pub use rows::{EndStep, Reads, Step, Turn};
-pub use runs::{TextRun, put_run, step_in_part, step_in_text, text_run};
+pub use runs::{TextRun, next_text, put_run, step_in_part, step_in_text, text_run};
 pub use state::{Return, State};
 pub use std::alloc::AllocError as NoMemory;
 pub use steps::{Lexes, Table, advance, at_end, end_by_row, step_by_row};

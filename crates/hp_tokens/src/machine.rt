@@ -64,6 +64,7 @@ impl Machine {
     }
 
     /// Goes to a state. The parts that it does not use are emptied.
+    #[inline]
     pub fn enter(&mut self, state: State)
         ensures { self.new ≡ enter state self.old }
     {
@@ -83,6 +84,7 @@ impl Machine {
     }
 
     /// Appends a text to a part of what is built.
+    #[inline]
     pub fn put_text(&mut self, alloc: Global, part: Part, text: &str) -> Result<(), NoMemory>
         ensures { OnOk result (self.new ≡ putting_text part (chars text.now) self.old) }
     {
@@ -99,6 +101,7 @@ impl Machine {
     }
 
     /// Begins a start tag.
+    #[inline]
     pub fn begin_start_tag(&mut self)
         ensures { self.new ≡ new_start_tag self.old }
     {
@@ -111,6 +114,7 @@ impl Machine {
     }
 
     /// Begins an end tag.
+    #[inline]
     pub fn begin_end_tag(&mut self)
         ensures { self.new ≡ new_end_tag self.old }
     {
@@ -192,7 +196,7 @@ fn built_token<'p>(
             name: Name::from_text(alloc, name.as_str())?,
         },
         Building::Comment(comment) => {
-            let text = Text::from_str(alloc, comment.as_str())?;
+            let text = comment.into_text(alloc)?;
             Token::Comment { text }
         }
         Building::Doctype(doctype) => {
@@ -237,7 +241,7 @@ fn finished_part<'p>(alloc: Global, part: Option<OwnedText>) -> Result<Option<Te
 {
     match part {
         None => Ok(None),
-        Some(part) => Ok(Some(Text::from_str(alloc, part.as_str())?)),
+        Some(part) => Ok(Some(part.into_text(alloc)?)),
     }
 }
 

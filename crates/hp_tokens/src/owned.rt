@@ -3,6 +3,7 @@ ghost use Rattle.std.specs.Prelude.{◌≡◌, ◌↔◌, ℕ, List, [], ◌∷�
 
 use crate::NoMemory;
 use crate::few::{Few, ROOM};
+use hp_elements::Text;
 use std::alloc::Global;
 use std::marker::Model;
 
@@ -36,6 +37,7 @@ impl OwnedText {
     ghost use Rattle.hp_tokens.specs.Reading.{first};
 
     /// The empty text.
+    #[inline]
     pub fn new() -> OwnedText
         ensures { result ≡ [] }
     {
@@ -45,6 +47,7 @@ impl OwnedText {
     }
 
     /// The text, in UTF-8.
+    #[inline]
     pub fn as_str(&self) -> &str
         ensures { chars result.now ≡ self.now }
     {
@@ -55,6 +58,7 @@ impl OwnedText {
     }
 
     /// Empties the text.
+    #[inline]
     pub fn clear(&mut self)
         ensures { self.new ≡ [] }
     {
@@ -65,6 +69,7 @@ impl OwnedText {
     }
 
     /// Appends a text. An `Err` changes nothing.
+    #[inline]
     pub fn push_str(&mut self, alloc: Global, more: &str) -> Result<(), NoMemory>
         ensures ok { OnOk result (self.new ≡ self.old ++ chars more.now) }
         ensures err { OnErr result (self.new ≡ self.old) }
@@ -94,6 +99,7 @@ impl OwnedText {
     }
 
     /// How many bytes the text has in UTF-8.
+    #[inline]
     pub fn len_bytes(&self) -> u64
         ensures { result ≡ sum_by len_utf8 self.now }
     {
@@ -101,6 +107,7 @@ impl OwnedText {
     }
 
     /// Whether there is no code point.
+    #[inline]
     pub fn is_empty(&self) -> bool
         ensures { result ≡ (length self.now == 0) }
     {
@@ -108,6 +115,7 @@ impl OwnedText {
     }
 
     /// The first code point.
+    #[inline]
     pub fn first(&self) -> Option<char>
         ensures { result ≡ first self.now }
     {
@@ -115,6 +123,7 @@ impl OwnedText {
     }
 
     /// Takes the first code point.
+    #[inline]
     pub fn take_first(&mut self) -> Option<char>
         ensures { MatchOption result ((self.old ≡ []) × (self.new ≡ self.old)) (λ c. self.old ≡ c ∷ self.new) }
     {
@@ -138,6 +147,19 @@ impl OwnedText {
         Ok(copy)
     }
 
+    /// The text as a token has it. What stands on the heap is not copied.
+    pub fn into_text<'p>(self, alloc: Global) -> Result<Text<'p>, NoMemory>
+        ensures { IfOk result (λ text. text ≡ self) }
+    {
+        match self.store {
+            Store::Few(bytes) => {
+                let text = unsafe { std::str::from_utf8_unchecked(bytes.as_slice()) };
+                Text::from_str(alloc, text)
+            }
+            Store::Long(text) => Text::of_owned(alloc, text),
+        }
+    }
+
     /// Whether two texts are the same.
     pub fn same(&self, other: &OwnedText) -> bool
         ensures { IsTrue result ↔ (self.now ≡ other.now) }
@@ -146,17 +168,23 @@ impl OwnedText {
     }
 }
 
-/// The two texts, one behind the other, with room for more.
+/// The two texts, one behind the other: with room for more, where the first one is not empty.
+#[inline(never)]
 fn joined(alloc: Global, first: &[u8], second: &str) -> Result<String, NoMemory>
     requires { IsUtf8 first.now }
     ensures { IfOk result (λ text. string_bytes text ≡ first.now ++ second.now) }
 {
     let first = unsafe { std::str::from_utf8_unchecked(first) };
-    let mut text = String::with_capacity(
-        alloc,
-        first.len().saturating_add(second.len()).saturating_mul(2),
-    )?;
+    let mut text = String::with_capacity(alloc, room(first.len(), second.len()))?;
     text.push_str(first)?;
     text.push_str(second)?;
     Ok(text)
+}
+
+/// How many bytes get room for so many and then so many: no more, where the first are none.
+fn room(first: usize, second: usize) -> usize {
+    if first == 0 {
+        return second;
+    }
+    first.saturating_add(second).saturating_mul(2)
 }

@@ -1,12 +1,15 @@
 // Runs of plain code points, each of them many moves at once.
-ghost use Rattle.std.specs.Prelude.{◌≡◌, ℕ, ◌≤◌, ◌==◌, false, true, [], Some, IfOk, IsTrue};
+ghost use Rattle.std.specs.Prelude.{◌≡◌, ℕ, ◌≤◌, ◌==◌, false, true, [], ◌∷◌, Some, IfOk, IfSome, IfNone, IsTrue, Bool};
 ghost use Rattle.hp_elements.specs.Tokens.{class_of};
 ghost use Rattle.hp_elements.specs.declared.token.CharClass.TheVariants as classes;
 ghost use Rattle.hp_tokens.specs.Reading.{first, ReadsRun};
 ghost use Rattle.hp_tokens.specs.Moves.{Lexing, Move, Rules, move};
-ghost use Rattle.hp_tokens.specs.Advancing.{held, HasRows, MovesByRows, Steps};
+ghost use Rattle.hp_tokens.specs.Advancing.{held, lexing, HasRows, MovesByRows, Steps, Turned};
+ghost use Rattle.hp_tokens.specs.States.{is_resting};
+ghost use Rattle.hp_tokens.specs.declared.state.State.{State};
+ghost use Rattle.hp_tokens.specs.declared.rows.Turn.TheVariants as turns;
 ghost use Rattle.hp_tokens.specs.Rows.{is_blank};
-ghost use Rattle.hp_tokens.specs.Plain.{EmitsPlain, PutsPlain, MayTake, MayPush, TextRan, PutRan};
+ghost use Rattle.hp_tokens.specs.Plain.{EmitsPlain, PutsPlain, IsOneToken, TextTaken, MayTake, TextRan, PutRan};
 
 use crate::NoMemory;
 use crate::building::Part;
@@ -22,62 +25,64 @@ pub trait TextRun: Run {
     ghost other: { (c : ℕ) → Self.passes c ≡ true → class_of c ≡ classes.Other };
 }
 
-/// Appends a run of one class as one token, and answers whether there is one.
-fn push_run<'p>(
-    alloc: Global,
-    class: CharClass,
-    run: Text<'p>,
-    tokens: &mut Tokens<'p>,
-) -> Result<bool, NoMemory>
-    ensures { IfOk result (MayPush class run.entry tokens.old tokens.new) }
+/// A run of one class as one token; `None` where it is empty.
+#[inline]
+fn one_token<'p>(class: CharClass, run: Text<'p>) -> Option<Token<'p>>
+    ensures { IsOneToken class run.entry result }
 {
     if run.is_empty() {
-        return Ok(false);
+        return None;
     }
-    tokens.push(alloc, Token::Characters { class, text: run })?;
-    Ok(true)
+    Some(Token::Characters { class, text: run })
 }
 
-/// Takes the run at the front: white space, or code points that pass. One that begins with a line feed is left to the row.
-fn take_text<'p, R: TextRun>(
-    alloc: Global,
-    input: &mut Cursor<'p>,
-    tokens: &mut Tokens<'p>,
-) -> Result<bool, NoMemory>
-    ensures { IfOk result (MayTake R.passes input.old tokens.old input.new tokens.new) }
+/// Takes the line feed at the front, which is a token of its own.
+#[inline]
+fn take_line_feed<'p>(input: &mut Cursor<'p>) -> Token<'p>
+    requires { first input.old.text ≡ Some 10 }
+    ensures { TextTaken is_blank classes.White input.old result input.new }
+{
+    let _ = input.next();
+    Token::Characters {
+        class: CharClass::White,
+        text: Text::of_char('\n'),
+    }
+}
+
+/// Takes the run at the front: white space, or code points that pass. A line feed stands alone.
+#[inline]
+fn take_text<'p, R: TextRun>(input: &mut Cursor<'p>) -> Option<Token<'p>>
+    ensures { MayTake R.passes input.old result input.new }
 {
     match input.peek() {
-        None => Ok(false),
-        Some('\n') => Ok(false),
-        Some('\t' | '\x0c' | ' ') => {
-            push_run(alloc, CharClass::White, input.take_blanks(), tokens)
-        }
-        Some(_) => push_run(alloc, CharClass::Other, input.take_text::<R>(), tokens),
+        None => None,
+        Some('\n') => Some(take_line_feed(input)),
+        Some('\t' | '\x0c' | ' ') => one_token(CharClass::White, input.take_blanks()),
+        Some(_) => one_token(CharClass::Other, input.take_text::<R>()),
     }
 }
 
-/// Takes the run of text at the front, and answers whether there is one. It is one token, borrowed from the page.
+/// Takes the run of text at the front, as one token that is borrowed from the page; `None` where there is none.
+#[inline]
 pub fn text_run<'p, T: Table, R: TextRun>(
-    alloc: Global,
     state: &LexState,
     input: &mut Cursor<'p>,
-    tokens: &mut Tokens<'p>,
-) -> Result<bool, NoMemory>
+) -> Option<Token<'p>>
     requires row { IsTrue (T.has_row state.now.machine.state) }
     requires blanks { EmitsPlain T.row_of is_blank state.now.machine.state }
     requires others { EmitsPlain T.row_of R.passes state.now.machine.state }
     requires held { held state.now ≤ input.old.place }
-    ensures ran { IfOk result (TextRan T.has_row T.row_of state.now input.old tokens.old input.new tokens.new) }
-    ensures held { IfOk result (λ ran. held state.now ≤ input.new.place) }
+    ensures ran { TextRan T.has_row T.row_of state.now input.old result input.new }
+    ensures held { held state.now ≤ input.new.place }
 {
     if state.machine.after_cr || !state.ahead.is_empty() {
-        return Ok(false);
+        return None;
     }
-    let ran = take_text::<R>(alloc, input, tokens)?;
-    Ok(ran)
+    take_text::<R>(input)
 }
 
 /// One step in a state of text: a run of text where there is one, otherwise by the rows.
+#[inline]
 pub fn step_in_text<'p, T: Table, R: TextRun>(
     alloc: Global,
     state: &mut LexState,
@@ -91,8 +96,8 @@ pub fn step_in_text<'p, T: Table, R: TextRun>(
     ensures step { IfOk result (λ step. (rules : Rules) → HasRows rules T.has_row T.row_of → Steps (move rules) state.old input.old tokens.old state.new input.new tokens.new step) }
     ensures held { IfOk result (λ step. held state.new ≤ input.new.place) }
 {
-    let ran = text_run::<T, R>(alloc, state, input, tokens)?;
-    if ran {
+    if let Some(token) = text_run::<T, R>(state, input) {
+        tokens.push(alloc, token)?;
         return Ok(Step::Made { emitted: true });
     }
     let step = step_by_row::<T>(alloc, state, input, tokens)?;
@@ -100,6 +105,7 @@ pub fn step_in_text<'p, T: Table, R: TextRun>(
 }
 
 /// Appends the run at the front to a part of what is built, and answers whether there is one.
+#[inline]
 pub fn put_run<T: Table, R: Run>(
     alloc: Global,
     part: Part,
@@ -124,6 +130,7 @@ pub fn put_run<T: Table, R: Run>(
 }
 
 /// One step in a state that appends to what is built: a run where there is one, otherwise by the rows.
+#[inline]
 pub fn step_in_part<T: Table, R: Run>(
     alloc: Global,
     part: Part,
@@ -143,4 +150,27 @@ pub fn step_in_part<T: Table, R: Run>(
     }
     let step = step_by_row::<T>(alloc, state, input, tokens)?;
     Ok(step)
+}
+
+/// The run of text at the front as one token, in a resting state, where `rested` becomes the place of its start; `None` where
+/// there is none, and then nothing changes. It is what `advance` does there.
+#[inline]
+pub fn next_text<'p, T: Table, R: TextRun>(
+    state: &LexState,
+    input: &mut Cursor<'p>,
+    rested: &mut u64,
+) -> Option<Token<'p>>
+    requires row { IsTrue (T.has_row state.now.machine.state) }
+    requires blanks { EmitsPlain T.row_of is_blank state.now.machine.state }
+    requires others { EmitsPlain T.row_of R.passes state.now.machine.state }
+    requires resting { is_resting state.now.machine.state ≡ true }
+    requires held { held state.now ≤ input.old.place }
+    ensures turn { IfSome result (λ token. (rules : Rules) (here : State → Bool) → HasRows rules T.has_row T.row_of → Turned rules here (lexing state.now input.old rested.old) [] (lexing state.now input.new rested.new) (token ∷ []) rested.new turns.Emitted) }
+    ensures none { IfNone result ((input.new ≡ input.old) × (rested.new ≡ rested.old)) }
+    ensures held { held state.now ≤ input.new.place }
+{
+    let place = state.place(input);
+    let token = text_run::<T, R>(state, input)?;
+    *rested = place;
+    Some(token)
 }

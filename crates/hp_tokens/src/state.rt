@@ -171,6 +171,7 @@ impl State {
     }
 
     /// Whether no code point is held back here.
+    #[inline]
     pub fn is_resting(self) -> bool
         ensures { result ≡ is_resting self }
     {
@@ -192,6 +193,7 @@ impl State {
     }
 
     /// Whether a token is under construction here, or may be while a reference in its value is read.
+    #[inline]
     pub fn uses_token(self) -> bool
         ensures { result ≡ uses_token self }
     {
@@ -249,6 +251,7 @@ impl State {
     }
 
     /// Whether the buffer is read here.
+    #[inline]
     pub fn uses_buffer(self) -> bool
         ensures { result ≡ uses_buffer self }
     {
@@ -268,6 +271,7 @@ impl State {
     }
 
     /// Whether a character reference is read here.
+    #[inline]
     pub fn uses_return(self) -> bool
         ensures { result ≡ uses_return self }
     {
@@ -286,6 +290,7 @@ impl State {
     }
 
     /// Whether a numeric reference has a value here.
+    #[inline]
     pub fn uses_value(self) -> bool
         ensures { result ≡ uses_value self }
     {

@@ -2,6 +2,7 @@
 ghost use Rattle.std.specs.Prelude.{◌≡◌, ℕ, ◌≤◌, ◌^◌, ◌==◌, ◌&&◌, List, [], Option, Some, Bool, false, IfOk, IsTrue};
 ghost use Rattle.hp_tokens.specs.declared.state.State.{State};
 ghost use Rattle.hp_tokens.specs.declared.machine.Machine.{Machine};
+ghost use Rattle.hp_tokens.specs.declared.rows.Turn.TheVariants as turns;
 ghost use Rattle.hp_tokens.specs.Reading.{first};
 ghost use Rattle.hp_tokens.specs.Rows.{Row, Follows};
 ghost use Rattle.hp_tokens.specs.Moves.{Lexing, Move, Rules, move, end_move, read_as as spec_read_as};
@@ -37,6 +38,7 @@ pub trait Table {
 }
 
 /// CR is read as LF.
+#[inline]
 fn read_as(c: char) -> char
     ensures { result ≡ spec_read_as c }
 {
@@ -44,6 +46,7 @@ fn read_as(c: char) -> char
 }
 
 /// One code point, by the row of the state. Answers whether something was appended.
+#[inline]
 fn read<T: Table>(
     alloc: Global,
     c: char,
@@ -72,6 +75,7 @@ fn read<T: Table>(
 }
 
 /// One step by the rows: a code point, or the LF of a CR LF pair, which is dropped.
+#[inline(never)]
 pub fn step_by_row<T: Table>(
     alloc: Global,
     state: &mut LexState,
@@ -182,6 +186,7 @@ pub trait Lexes {
 
 /// Makes moves, from one rest to the next, and appends what they emit. `rested` is the last place at or before the first
 /// token that is appended where the lexer rested. After `NoMemory` the state is spent.
+#[inline]
 pub fn advance<'p, L: Lexes>(
     lexer: &L,
     alloc: Global,
@@ -238,10 +243,10 @@ pub fn at_end<L: Lexes>(
     Ok(Turn::Moved)
 }
 
-ghost use Rattle.hp_tokens.specs.declared.rows.Turn.TheVariants as turns;
 ghost use Rattle.std.specs.Prelude.{if◌then◌else◌};
 
 /// The answer, unless something was appended.
+#[inline]
 fn turned(emitted: bool, turn: Turn) -> Turn
     ensures { result ≡ (if emitted then turns.Emitted else turn) }
 {

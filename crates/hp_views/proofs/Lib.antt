@@ -1,3 +1,4 @@
 pub mod Ends
 pub mod Carrying
 pub mod Resetting
+pub mod Wholes

@@ -1,10 +1,14 @@
 -- That each plan means its act.
-use Rattle.std.specs.Prelude.{◌≡◌, true, [], Ok}
+use Rattle.std.specs.Prelude.{◌≡◌, true, [], Result, Ok}
 use Rattle.std.specs.Option.{unwrap_or}
 use Rattle.hp_control.specs.Acts.{push_head, take_head_off, take_off, remove_entry}
 use Rattle.hp_control.specs.Apply.{IsOlder}
 use Rattle.hp_control.specs.Composed.{end_form, is_second_body, is_foreign_now, has_modes}
-use Rattle.hp_control.specs.Plan.{end_by}
+use Rattle.hp_control.specs.Nothing.{nothing}
+use Rattle.hp_control.specs.Plan.{end_by, Heard, Runs}
+use Rattle.hp_control.specs.Steps.{Step}
+use Rattle.hp_control.specs.declared.question.Crossing.{Crossing}
+use Rattle.hp_views.specs.WholeLaws.{IsWhole, IsDoneWhole}
 use Rattle.hp_control.specs.States.{IsValid, is_rooted}
 use Rattle.hp_control.specs.Truth.{answer_of}
 use Rattle.hp_control.specs.declared.question.Question.TheVariants as ask
@@ -132,3 +136,7 @@ pub record RemovesMean : Type 0 where
 -- a view begins where its state is
 pub record BeginsMean : Type 0 where
   pub over : (s : ControlState) → IsValid s → IsOlder s → is_rooted s.stack ≡ true → IsResting (answer_of s ask.Entry) → StartsOver s (begins (answer_of s ask.Entry))
+
+-- over a known state each act is done as it is in that state, and none crosses
+abbrev pub WholeMeans : Type 0
+WholeMeans = (step : Step) (old new : Heard) (v : Split) (end : Result Split Crossing) → old.says ≡ answer_of nothing → Runs old new (step.plan v) end → StandsOn nothing v → IsWhole v.page → step.fits v ≡ true → IsDoneWhole v end (step.act (state_over v nothing))

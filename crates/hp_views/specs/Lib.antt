@@ -32,4 +32,5 @@ pub mod HeadLaws
 pub mod SecondLaws
 pub mod FormLaws
 pub mod BeginLaws
+pub mod WholeLaws
 pub mod Tests

@@ -31,10 +31,14 @@ abbrev pub id_walk : ℕ → List OpenElement → Walk
 id_walk id [] = PastAll
 id_walk id (e ∷ es) = if e.id == id then Found 0 else deeper 1 (id_walk id es)
 
--- down to the element of this id, or to the first that ends a scope
+-- down to the element of this id, or to the first stop
+abbrev pub id_stop_walk : Kinds → ℕ → List OpenElement → Walk
+id_stop_walk stops id [] = PastAll
+id_stop_walk stops id (e ∷ es) = if e.id == id then Found 0 else (if within stops e then Stopped else deeper 1 (id_stop_walk stops id es))
+
+-- the same to the first that ends a scope
 abbrev pub id_scope_walk : ℕ → List OpenElement → Walk
-id_scope_walk id [] = PastAll
-id_scope_walk id (e ∷ es) = if e.id == id then Found 0 else (if within scope_ends e then Stopped else deeper 1 (id_scope_walk id es))
+id_scope_walk id es = id_stop_walk scope_ends id es
 
 -- down to the entry of this id
 abbrev pub id_entry_walk : ℕ → List FormattingEntry → Walk

@@ -80,12 +80,41 @@ fn kept_of<P: Drop>(guess: Guess<P>) -> Assumptions
 }
 
 /// The change at its end.
-fn end_of(mut change: Change, lex: LexState, last_tag_set: bool) -> Change
-    ensures { result ≡ ended lex last_tag_set change.entry }
+fn end_of(change: Change, lex: LexState, last_tag_set: bool) -> Change
+    ensures { result ≡ ended lex last_tag_set change }
 {
-    change.lex = lex;
-    change.last_tag_set = last_tag_set;
-    change
+    let Change {
+        popped,
+        cuts,
+        stack,
+        formatting,
+        lex: _,
+        last_tag_set: _,
+        mode,
+        original,
+        templates,
+        form,
+        frameset_off,
+        pending,
+        skip_lf,
+        made,
+    } = change;
+    Change {
+        popped,
+        cuts,
+        stack,
+        formatting,
+        lex,
+        last_tag_set,
+        mode,
+        original,
+        templates,
+        form,
+        frameset_off,
+        pending,
+        skip_lf,
+        made,
+    }
 }
 
 impl<'p, P: Predictor + Drop> View<'p, Guess<P>> {

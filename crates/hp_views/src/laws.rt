@@ -1,7 +1,7 @@
 //! The laws of the plans, for the crates above. Each contract is one of them; the bodies do nothing.
 ghost use Rattle.hp_views.specs.Steps.{StepsAre};
 ghost use Rattle.hp_views.specs.Tests.{TestsAre};
-ghost use Rattle.hp_views.specs.Laws.{FieldsMean, ListMeans, TestsTell, PopsMean, PlacesMean, InsertsMean, ResetMeans, ClosingMeans, RemovesMean, BeginsMean};
+ghost use Rattle.hp_views.specs.Laws.{FieldsMean, ListMeans, TestsTell, PopsMean, PlacesMean, InsertsMean, ResetMeans, ClosingMeans, RemovesMean, BeginsMean, WholeMeans};
 
 /// The acts that set one field.
 pub fn fields_mean()
@@ -57,4 +57,9 @@ pub fn removes_mean()
 /// Where a view begins over an older state.
 pub fn begins_mean()
     ensures { BeginsMean }
+{}
+
+/// Over a known state no act crosses, and each is done as it is in that state.
+pub fn whole_means()
+    ensures { WholeMeans }
 {}

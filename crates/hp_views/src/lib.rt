@@ -28,7 +28,7 @@ pub use asking::{
 };
 pub use laws::{
     begins_mean, closing_means, fields_mean, inserts_mean, lists_mean, places_mean, pops_mean,
-    removes_mean, reset_means, steps_mean, tests_tell,
+    removes_mean, reset_means, steps_mean, tests_tell, whole_means,
 };
 pub use place::{a_table, a_template, first_id, second_id};
 pub use view::{PageFacts, View};

@@ -1,6 +1,6 @@
 //! Walks over a view's own stack and its own list, the top first.
 ghost use Rattle.std.specs.Prelude.{◌≡◌, drop};
-ghost use Rattle.hp_views.specs.Walks.{walk_of, run_walk, id_walk, id_scope_walk, id_entry_walk, marker_of, entry_walk, IsWithin, EndsAs};
+ghost use Rattle.hp_views.specs.Walks.{walk_of, run_walk, id_walk, id_scope_walk, id_stop_walk, id_entry_walk, marker_of, entry_walk, IsWithin, EndsAs};
 
 use hp_control::{FormattingEntry, OpenElement, Stack, is_within};
 use hp_elements::{Kinds, Name, SetName};
@@ -82,13 +82,20 @@ pub fn scope_walk(stack: &Stack<OpenElement>, id: u64) -> Walk
     ensures walk { result ≡ id_scope_walk id stack.now }
     ensures within { IsWithin result stack.now }
 {
-    let ends = Kinds::Set(SetName::DefaultScopeEnds);
+    id_walk_to(stack, id, &Kinds::Set(SetName::DefaultScopeEnds))
+}
+
+/// Walks down to the element of this id, or to the first that is a stop.
+fn id_walk_to(stack: &Stack<OpenElement>, id: u64, stops: &Kinds) -> Walk
+    ensures walk { result ≡ id_stop_walk stops.now id stack.now }
+    ensures within { IsWithin result stack.now }
+{
     for depth in 0..stack.len() {
         let element = stack.at(depth);
         if element.id == id {
             return Walk::Found(depth);
         }
-        if is_within(&ends, element) {
+        if is_within(stops, element) {
             return Walk::Stopped;
         }
     }

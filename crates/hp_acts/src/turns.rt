@@ -1,0 +1,265 @@
+//! One token, handled whole (13.2.6).
+ghost use Rattle.std.specs.Prelude.{◌≡◌, ◌<◌, [], ◌∷◌, true, None, Err, IfOk};
+ghost use Rattle.hp_control.specs.declared.change.Refusal.TheVariants.{Crossed};
+ghost use Rattle.hp_control.specs.declared.question.Crossing.TheVariants.{X4};
+ghost use Rattle.hp_elements.specs.declared.token.CharClass.{CharClass};
+ghost use Rattle.hp_elements.specs.declared.token.Token.TheVariants.{Characters};
+ghost use Rattle.hp_elements.specs.Rules.{goes_later};
+ghost use Rattle.hp_model.specs.Rows.{is_head_mode};
+ghost use Rattle.hp_views.specs.View.{split_of};
+ghost use Rattle.hp_acts.specs.Handling.{GoesBy, GoesLater, IsDropped};
+
+use crate::acts::{carry, carry_out};
+use crate::plain::{is_plain, put_plain};
+use crate::rows::{Row, foreign_row, row_in};
+use crate::token_parts::{Spending, after_line_feed, rename};
+use hp_control::{Below, Crossing, Refusal};
+use hp_elements::{Act, Mode, Rest, Test, Token};
+use hp_foreign::goes_to_foreign;
+use hp_views::View;
+use std::alloc::Global;
+
+/// How deep the rules of a mode use those of others, the mode's own counted.
+const NESTING: u32 = 4;
+
+/// What the handling of a token asks of the parser.
+#[derive(Clone, Copy, PartialEq, Eq)]
+pub struct Handled {
+    /// The state in which the lexer goes on, where it doesn't stay in its own.
+    pub switch: Option<Rest>,
+    /// Whether parsing stops.
+    pub stopped: bool,
+}
+
+/// Where nothing is asked of it.
+pub(crate) const NOTHING: Handled = Handled {
+    switch: None,
+    stopped: false,
+};
+
+/// A token in its turns.
+#[derive(Drop)]
+struct Turn<'p> {
+    token: Token<'p>,
+    handled: Handled,
+}
+
+/// Whether an act of a row from that place on reads the attributes of the token.
+fn is_read_from(row: Row, at: u32) -> bool {
+    let mut at = at;
+    while let Some(act) = row.act(at) {
+        if reads_attributes(act) {
+            return true;
+        }
+        at += 1;
+    }
+    false
+}
+
+fn reads_attributes(act: Act) -> bool {
+    match act {
+        Act::AppendToList => true,
+        Act::If { test, .. } | Act::Unless { test, .. } => is_of_attributes(test),
+        _ => false,
+    }
+}
+
+fn is_of_attributes(test: Test) -> bool {
+    match test {
+        Test::TypeIsHidden | Test::HasFontAttribute => true,
+        _ => false,
+    }
+}
+
+/// What becomes of the token's attributes at an act of a row: they are moved unless a later act reads them.
+fn spending_at(row: Row, at: u32, act: Act) -> Spending {
+    match act {
+        Act::Insert => {
+            if is_read_from(row, at + 1) {
+                Spending::Copies
+            } else {
+                Spending::Moves
+            }
+        }
+        _ => Spending::Moves,
+    }
+}
+
+/// How a row goes on after an act.
+enum Next {
+    /// With the act at that place.
+    At(u32),
+    /// With the rules of a mode, which are used with fostering on or off, and then with the act behind.
+    Rules(Mode, bool),
+    /// Not at all.
+    Done,
+    /// Not at all, and the token is handled again.
+    Again,
+}
+
+/// Carries out the acts of a row in order, and answers whether the token is to be handled again. `depth` says how deep it may
+/// use the rules of other modes.
+fn carry_row<'p, B: Below>(
+    alloc: Global,
+    view: &mut View<'p, B>,
+    turn: &mut Turn<'p>,
+    row: Row,
+    fostering: bool,
+    depth: u32,
+) -> Result<bool, Refusal> {
+    let mut at = 0;
+    while let Some(act) = row.act(at) {
+        match step(alloc, view, turn, row, at, act, fostering)? {
+            Next::At(next) => at = next,
+            Next::Done => return Ok(false),
+            Next::Again => return Ok(true),
+            Next::Rules(mode, fostering) => {
+                let used = row_in(mode, &turn.token);
+                if depth > 0 && carry_row(alloc, view, turn, used, fostering, depth - 1)? {
+                    return Ok(true);
+                }
+                at += 1;
+            }
+        }
+    }
+    Ok(false)
+}
+
+/// Carries out the act at a place of a row.
+fn step<'p, B: Below>(
+    alloc: Global,
+    view: &mut View<'p, B>,
+    turn: &mut Turn<'p>,
+    row: Row,
+    at: u32,
+    act: Act,
+    fostering: bool,
+) -> Result<Next, Refusal>
+    requires later { goes_later at act ≡ true }
+    requires short { at < 8 }
+    ensures later { IfOk result (λ next. GoesLater at next) }
+    ensures goes { IfOk result (λ next. GoesBy act at view.old.change.mode fostering next) }
+{
+    match act {
+        Act::Done => Ok(Next::Done),
+        Act::Again => Ok(Next::Again),
+        Act::AgainAs(name) => {
+            rename(&mut turn.token, name);
+            Ok(Next::Again)
+        }
+        Act::As(mode) => Ok(Next::Rules(mode, fostering)),
+        Act::AsFostered(mode) => Ok(Next::Rules(mode, true)),
+        Act::AsPresent => Ok(Next::Rules(view.change.mode, fostering)),
+        Act::If { otherwise, .. } | Act::Unless { otherwise, .. } => {
+            let goes_on = carry(
+                alloc,
+                view,
+                act,
+                &mut turn.token,
+                Spending::Copies,
+                fostering,
+            )?;
+            Ok(Next::At(if goes_on {
+                at + 1
+            } else {
+                u32::from(otherwise)
+            }))
+        }
+        Act::Stop => {
+            turn.handled.stopped = true;
+            Ok(Next::At(at + 1))
+        }
+        Act::Lexer(rest) => {
+            turn.handled.switch = Some(rest);
+            Ok(Next::At(at + 1))
+        }
+        _ => {
+            let spending = spending_at(row, at, act);
+            carry_out(alloc, view, act, &mut turn.token, spending, fostering)?;
+            Ok(Next::At(at + 1))
+        }
+    }
+}
+
+/// Whether the mode is one in which the page's head isn't done yet.
+fn is_of_head(mode: Mode) -> bool
+    ensures { result ≡ is_head_mode mode }
+{
+    match mode {
+        Mode::Initial
+        | Mode::BeforeHtml
+        | Mode::BeforeHead
+        | Mode::InHead
+        | Mode::InHeadNoscript
+        | Mode::AfterHead => true,
+        _ => false,
+    }
+}
+
+/// Handles the token once, by the rules of foreign content or by those of the mode, and answers whether it is to be handled
+/// again. In the modes up to after head no chunk handles one.
+fn take_turn<'p, B: Below>(
+    alloc: Global,
+    view: &mut View<'p, B>,
+    turn: &mut Turn<'p>,
+) -> Result<bool, Refusal>
+    ensures head { view.old.page ≡ None → is_head_mode view.old.change.mode ≡ true → result ≡ Err (Crossed X4) }
+{
+    let mode = view.change.mode;
+    if view.page.is_none() && is_of_head(mode) {
+        return Err(Refusal::Crossed(Crossing::X4));
+    }
+    if goes_to_foreign(alloc, view, &turn.token)? {
+        let row = foreign_row(&turn.token);
+        carry_row(alloc, view, turn, row, false, NESTING)
+    } else {
+        let row = row_in(mode, &turn.token);
+        carry_row(alloc, view, turn, row, false, NESTING - 1)
+    }
+}
+
+/// How often one token is handled at most, where so many elements are open.
+fn most_turns(open: usize) -> usize {
+    open.saturating_mul(16).saturating_add(32)
+}
+
+/// Handles a token until no rule asks for it again.
+fn take_turns<'p, B: Below>(
+    alloc: Global,
+    view: &mut View<'p, B>,
+    token: Token<'p>,
+) -> Result<Handled, Refusal> {
+    let mut turn = Turn {
+        token,
+        handled: NOTHING,
+    };
+    for _ in 0..most_turns(view.change.stack.len()) {
+        if !take_turn(alloc, view, &mut turn)? {
+            return Ok(turn.handled);
+        }
+    }
+    Err(Refusal::Crossed(Crossing::X3))
+}
+
+/// Handles one token whole: dispatch, the rows of the rules with their acts, and again where the rules say so. A line feed that
+/// is to be dropped isn't handled. After a refusal the view is spent.
+pub fn handle<'p, B: Below>(
+    alloc: Global,
+    view: &mut View<'p, B>,
+    token: Token<'p>,
+) -> Result<Handled, Refusal>
+    ensures dropped { (class : CharClass) → token.entry ≡ Characters class (0xA ∷ []) → view.old.change.skip_lf ≡ true → IsDropped result (split_of view.old) (split_of view.new) }
+{
+    if !view.change.skip_lf {
+        return if is_plain(view, &token) {
+            put_plain(alloc, view, token)
+        } else {
+            take_turns(alloc, view, token)
+        };
+    }
+    view.change.skip_lf = false;
+    match after_line_feed(alloc, token)? {
+        Some(token) => take_turns(alloc, view, token),
+        None => Ok(NOTHING),
+    }
+}

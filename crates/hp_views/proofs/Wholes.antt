@@ -1,0 +1,25 @@
+-- A state put together again of a view's parts, and a view of a state's parts.
+use Rattle.std.specs.Prelude.{◌≡◌, ℕ, Bool, not, Option}
+use Rattle.std.proofs.Common.{sym, ap, ◌∙◌}
+use Rattle.hp_tokens.specs.declared.lexing.LexState.{LexState}
+use Rattle.hp_control.specs.declared.change.FormChange.{FormChange}
+use Rattle.hp_control.specs.States.{ControlState}
+use Rattle.hp_control.specs.Nothing.{nothing}
+use Rattle.hp_control.specs.Apply.{applied}
+use Rattle.hp_control.specs.Faithful.{Split, state_over, with_page}
+use Rattle.hp_control.specs.Viewing.{state_of}
+use Rattle.hp_views.specs.Begins.{form_of, form_left, head_of, quirks_of, whole_change, whole_of, with_lexer}
+use Rattle.hp_views.specs.BeginLaws.{ended_whole, whole_again}
+
+abbrev pub parts : LexState → Split → Option ℕ → Option ℕ → Bool → ControlState
+parts lex v h f q = state_of lex v.change.mode v.change.original v.change.templates v.change.stack v.change.formatting h f (not v.change.frameset_off) q v.change.pending v.change.skip_lf v.change.made
+
+pub put_together : (lex : LexState) (v : Split) (h f : Option ℕ) (q : Bool) → h ≡ head_of v.page → f ≡ form_left v.change.form → q ≡ quirks_of v.page → parts lex v h f q ≡ with_lexer lex (state_over v nothing)
+put_together lex v h f q e d g =
+    ap (λ x. parts lex v x f q) e
+    ∙ (ap (λ x. parts lex v (head_of v.page) x q) d
+    ∙ (ap (λ x. parts lex v (head_of v.page) (form_left v.change.form) x) g
+    ∙ sym (ended_whole lex v)))
+
+pub begins_whole : (k c : ControlState) (f : FormChange) → f ≡ form_of k.form → k ≡ c → with_page (whole_of k).page (applied (record (whole_change k) { form = f }) nothing) ≡ c
+begins_whole k c f e h = ap (λ x. with_page (whole_of k).page (applied (record (whole_change k) { form = x }) nothing)) e ∙ (whole_again k ∙ h)
