@@ -6,9 +6,9 @@ use Rattle.hp_elements.specs.declared.token.Mode.{Mode}
 use Rattle.hp_control.specs.declared.change.Refusal.{Refusal}
 use Rattle.hp_control.specs.declared.change.Refusal.TheVariants.{NoMemory}
 use Rattle.hp_control.specs.Faithful.{Split}
-use Rattle.hp_acts.specs.declared.handle.Handled.{Handled}
-use Rattle.hp_acts.specs.declared.handle.Next.{Next}
-use Rattle.hp_acts.specs.declared.handle.Next.TheVariants.{At, Rules, Done, Again}
+use Rattle.hp_acts.specs.declared.turns.Handled.{Handled}
+use Rattle.hp_acts.specs.declared.turns.Next.{Next}
+use Rattle.hp_acts.specs.declared.turns.Next.TheVariants.{At, Rules, Done, Again}
 
 -- what comes next stands behind that place
 abbrev pub GoesLater : ℕ → Next → Type 0

@@ -1,9 +1,8 @@
 //! The handling of one token: dispatch, and the rules carried out act by act (13.2.6).
 #![tactic(auto)]
 
-mod carry;
+mod acts;
 mod characters;
-mod handle;
 mod inserts;
 mod laws;
 mod plain;
@@ -13,8 +12,9 @@ mod stack_acts;
 #[cfg(test)]
 mod tests;
 mod token_parts;
+mod turns;
 
-pub use carry::carry;
-pub use handle::{Handled, handle};
+pub use acts::carry;
 pub use laws::{acts_mean, tests_tell};
 pub use token_parts::Spending;
+pub use turns::{Handled, handle};

@@ -1,6 +1,6 @@
 //! Runs of text where the rules do nothing but put them into the current node: a short way to what the rows say (13.2.6.4.7,
 //! 13.2.6.4.8).
-use crate::handle::{Handled, NOTHING};
+use crate::turns::{Handled, NOTHING};
 use hp_control::{Below, Child, FormattingEntry, OpenElement, Refusal, Stack, is_html};
 use hp_elements::{CharClass, Mode, Text, Token};
 use hp_views::View;

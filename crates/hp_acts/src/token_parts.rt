@@ -21,6 +21,13 @@ pub enum Spending {
     Moves,
 }
 
+fn no_name(alloc: Global) -> Result<Name, NoMemory>
+    ensures { IfOk result (λ name. name ≡ []) }
+{
+    let name = Name::from_text(alloc, "")?;
+    Ok(name)
+}
+
 /// The token's own name; the empty one where it has none.
 fn own_name(alloc: Global, token: &Token<'_>) -> Result<Name, NoMemory>
     ensures { IfOk result (λ name. name ≡ name_of token.now) }
@@ -28,7 +35,10 @@ fn own_name(alloc: Global, token: &Token<'_>) -> Result<Name, NoMemory>
     match token {
         Token::Start { tag, .. } => tag.name.copy(alloc),
         Token::EndTag { name } => name.copy(alloc),
-        _ => Name::from_text(alloc, ""),
+        Token::Characters { .. } => no_name(alloc),
+        Token::Comment { .. } => no_name(alloc),
+        Token::Doctype { .. } => no_name(alloc),
+        Token::EndOfInput => no_name(alloc),
     }
 }
 

@@ -1,6 +1,8 @@
 -- Plans carried out step by step in loops.
-use Rattle.std.proofs.Common.{◌≡◌, ℕ, zero, suc, ◌+◌, ◌-◌, ◌<◌, List, [], ◌∷◌, ◌++◌, Option, Some, None, Result, Ok, Err, length, drop, slice_get, slice_set, slice_index_or, ap, sym, subst, refl, ◌∙◌, arith}
+use Rattle.std.proofs.Common.{◌≡◌, ℕ, zero, suc, ◌+◌, ◌-◌, ◌<◌, Bool, true, false, List, [], ◌∷◌, ◌++◌, Option, Some, None, Result, Ok, Err, length, drop, slice_get, slice_set, slice_index_or, ap, sym, subst, refl, ◌∙◌, arith}
 use Rattle.hp_elements.specs.declared.tag.Tag.{Tag}
+use Rattle.hp_control.specs.declared.change.Refusal.{Refusal}
+use Rattle.hp_control.specs.declared.change.Refusal.TheVariants.{Crossed, NoMemory}
 use Rattle.hp_control.specs.declared.edit.Place.{Place}
 use Rattle.hp_control.specs.declared.element.FormattingEntry.{FormattingEntry}
 use Rattle.hp_control.specs.declared.question.Crossing.{Crossing}
@@ -10,16 +12,21 @@ use Rattle.hp_control.specs.Faithful.{Split}
 use Rattle.hp_control.specs.Plan.{Plan, gives, crosses, asks, followed_by, end_by, Heard, Runs}
 use Rattle.hp_control.specs.Running.{Partway, runs_gives, runs_then, runs_crosses}
 use Rattle.hp_views.specs.PlacePlans.{insert_at}
+use Rattle.hp_views.specs.View.{Sight, Carries}
+use Rattle.hp_adoption.specs.AdoptPlans.{turn_plan, turns_on, turns_plan}
+use Rattle.hp_adoption.specs.ReconPlans.{renew_plan, renew_down_plan}
+use Rattle.hp_adoption.specs.Turning.{Turns}
 
 pub got : {X : Type 0} (xs : List X) (k : ℕ) (x : X) → k < length xs → x ≡ slice_index_or xs k x → slice_get xs k ≡ Some x
 got [] k x h e = absurd (omega (arith, h))
 got (y ∷ ys) zero x h e = ap Some (sym e)
 got (y ∷ ys) (suc k) x h e = got ys k x (omega (arith, h)) e
 
-pub put_back : {X : Type 0} (xs : List X) (k : ℕ) (x y : X) → k < length xs → x ≡ slice_index_or xs k x → slice_set (slice_set xs k y) k x ≡ xs
-put_back [] k x y h e = absurd (omega (arith, h))
-put_back (z ∷ zs) zero x y h e = ap (λ v. v ∷ zs) e
-put_back (z ∷ zs) (suc k) x y h e = ap (λ l. z ∷ l) (put_back zs k x y (omega (arith, h)) e)
+-- an item put back in its place
+pub put_back : {X : Type 0} (xs : List X) (k : ℕ) (x : X) → k < length xs → x ≡ slice_index_or xs k x → slice_set xs k x ≡ xs
+put_back [] k x h e = absurd (omega (arith, h))
+put_back (z ∷ zs) zero x h e = ap (λ v. v ∷ zs) e
+put_back (z ∷ zs) (suc k) x h e = ap (λ l. z ∷ l) (put_back zs k x (omega (arith, h)) e)
 
 abbrev list_in : Result Split Crossing → List FormattingEntry
 list_in (Ok w) = w.change.formatting
@@ -31,9 +38,48 @@ insert_keeps says (gives x) tag v w e = sym (ap list_in e)
 insert_keeps says (crosses x) tag v w e = absurd (cc)
 insert_keeps says (asks q go) tag v w e = insert_keeps says (go (says q)) tag v w e
 
--- one more step of a loop over acts
-pub step_on : {X : Type 0} {start now next : Heard} {whole : Plan X} {p : Plan Split} {w : Split} (rest : Split → Plan X) → Partway start now whole (followed_by p rest) → Runs now next p (Ok w) → Partway start next whole (rest w)
-step_on {X} {start} {now} {next} {whole} {p} {w} rest part run = λ new end r. part new end (runs_then rest run r)
+-- a loop begins with the whole
+pub partway_start : {X : Type 0} (h : Heard) (p q : Plan X) → p ≡ q → Partway h h p q
+partway_start {X} h p q e = λ new end r. let P : Plan X → Type 0 = λ x. Runs h new x end in subst P (sym e) r
 
-pub step_crosses : {X : Type 0} {start now next : Heard} {whole : Plan X} {p : Plan Split} {crossing : Crossing} (rest : Split → Plan X) → Partway start now whole (followed_by p rest) → Runs now next p (Err crossing) → Runs start next whole (Err crossing)
-step_crosses {X} {start} {now} {next} {whole} {p} {crossing} rest part run = part next (Err crossing) (runs_crosses rest run)
+-- reconstruction: one more entry
+pub down_step : (start now next : Heard) (whole : Plan Split) (fostering : Bool) (n m k : ℕ) (v w : Split) → n ≡ suc m → k ≡ m → Partway start now whole (renew_down_plan fostering n v) → Runs now next (renew_plan fostering k v) (Ok w) → Partway start next whole (renew_down_plan fostering m w)
+down_step start now next whole fostering n m k v w e f part run =
+    let P : ℕ → Type 0 = λ x. Partway start now whole (renew_down_plan fostering x v) in
+    let Q : ℕ → Type 0 = λ x. Runs now next (renew_plan fostering x v) (Ok w) in
+    λ new end r. (subst P e part) new end (runs_then (renew_down_plan fostering m) (subst Q f run) r)
+
+pub down_refused : (result : Refusal) (start : Heard) (mid new : Sight) (whole : Plan Split) (fostering : Bool) (n m k : ℕ) → n ≡ suc m → k ≡ m → Partway start mid.heard whole (renew_down_plan fostering n mid.split) → Carries (Err result) mid new (renew_plan fostering k) → Carries (Err result) (record { heard = start; split = mid.split }) new (λ v. whole)
+down_refused NoMemory start mid new whole fostering n m k e f part run = tt
+down_refused (Crossed crossing) start mid new whole fostering n m k e f part run =
+    let P : ℕ → Type 0 = λ x. Partway start mid.heard whole (renew_down_plan fostering x mid.split) in
+    let Q : ℕ → Type 0 = λ x. Runs mid.heard new.heard (renew_plan fostering x mid.split) (Err crossing) in
+    (subst P e part) new.heard (Err crossing) (runs_crosses (renew_down_plan fostering m) (subst Q f run))
+
+pub down_done : (start now : Heard) (whole : Plan Split) (fostering : Bool) (n : ℕ) (v : Split) → n ≡ 0 → Partway start now whole (renew_down_plan fostering n v) → Runs start now whole (Ok v)
+down_done start now whole fostering n v e part =
+    let P : ℕ → Type 0 = λ x. Partway start now whole (renew_down_plan fostering x v) in
+    (subst P e part) now (Ok v) (runs_gives now v)
+
+-- adoption: one more turn
+pub turn_step : (start now next : Heard) (whole : Plan Split) (fostering : Bool) (name : List ℕ) (n m : ℕ) (v w : Split) → n ≡ suc m → Partway start now whole (turns_plan n fostering name v) → Runs now next (turn_plan fostering name v) (Ok (record { split = w; goes_on = true })) → Partway start next whole (turns_plan m fostering name w)
+turn_step start now next whole fostering name n m v w e part run =
+    let P : ℕ → Type 0 = λ x. Partway start now whole (turns_plan x fostering name v) in
+    λ new end r. (subst P e part) new end (runs_then (λ t. turns_on (turns_plan m fostering name) t.split t.goes_on) run r)
+
+-- the last one
+pub turn_ends : (start now next : Heard) (whole : Plan Split) (fostering : Bool) (name : List ℕ) (n m : ℕ) (v w : Split) → n ≡ suc m → Partway start now whole (turns_plan n fostering name v) → Runs now next (turn_plan fostering name v) (Ok (record { split = w; goes_on = false })) → Runs start next whole (Ok w)
+turn_ends start now next whole fostering name n m v w e part run =
+    let P : ℕ → Type 0 = λ x. Partway start now whole (turns_plan x fostering name v) in
+    (subst P e part) next (Ok w) (runs_then (λ t. turns_on (turns_plan m fostering name) t.split t.goes_on) run (runs_gives next w))
+
+pub turn_refused : (result : Refusal) (start : Heard) (mid new : Sight) (whole : Plan Split) (fostering : Bool) (name : List ℕ) (n m : ℕ) → n ≡ suc m → Partway start mid.heard whole (turns_plan n fostering name mid.split) → Turns (Err result) mid new (turn_plan fostering name) → Carries (Err result) (record { heard = start; split = mid.split }) new (λ v. whole)
+turn_refused NoMemory start mid new whole fostering name n m e part run = tt
+turn_refused (Crossed crossing) start mid new whole fostering name n m e part run =
+    let P : ℕ → Type 0 = λ x. Partway start mid.heard whole (turns_plan x fostering name mid.split) in
+    (subst P e part) new.heard (Err crossing) (runs_crosses (λ t. turns_on (turns_plan m fostering name) t.split t.goes_on) run)
+
+pub turns_done : (start now : Heard) (whole : Plan Split) (fostering : Bool) (name : List ℕ) (n : ℕ) (v : Split) → n ≡ 0 → Partway start now whole (turns_plan n fostering name v) → Runs start now whole (Ok v)
+turns_done start now whole fostering name n v e part =
+    let P : ℕ → Type 0 = λ x. Partway start now whole (turns_plan x fostering name v) in
+    (subst P e part) now (Ok v) (runs_gives now v)

@@ -45,7 +45,7 @@ fn take_apart(
 ) -> Result<Over, NoMemory>
     requires block { tangle.block < tangle.depth }
     requires inside { tangle.depth < length stack.old }
-    ensures above { IfOk result (λ over. over.above ≡ take tangle.block stack.old) }
+    ensures above { IfOk result (λ over. over.above ≡ take tangle.block (take tangle.depth stack.old)) }
     ensures block { IfOk result (λ over. slice_get stack.old tangle.block ≡ Some over.block) }
     ensures between { IfOk result (λ over. over.between ≡ drop (tangle.block + 1) (take tangle.depth stack.old)) }
     ensures rest { IfOk result (λ _. stack.new ≡ drop (tangle.depth + 1) stack.old) }

@@ -1,5 +1,5 @@
 -- The moves of a part of the table are moves of the table.
-use Rattle.std.proofs.Common.{◌≡◌, ℕ, List, [], ◌∷◌, Bool, true, false, cond, ◌⊎◌, inl, inr, refl, ap, ◌∙◌, sym}
+use Rattle.std.proofs.Common.{◌≡◌, ℕ, List, [], ◌∷◌, Bool, true, false, cond, ◌⊎◌, inl, inr, refl, ap, ◌∙◌, sym, subst}
 use Rattle.std.specs.Prelude.{◌==◌, ◌&&◌}
 use Rattle.hp_elements.specs.declared.token.Token.{Token}
 use Rattle.hp_names.specs.References.{Reference}
@@ -225,3 +225,16 @@ in_its_part s = at (either (tags.is_here s)) (either (raw.is_here s))
     at (inl h) k = ap (λ (p : State → Bool). p s) (part-tags s h) ∙ h
     at (inr h) (inl k) = ap (λ (p : State → Bool). p s) (part-raw s k) ∙ k
     at (inr h) (inr k) = ap (λ (p : State → Bool). p s) (part-markup s h k) ∙ markup-else s h k
+
+-- what a part emits at once, the table emits
+pub text_in_tags : (names : List Reference) (s : State) (old new : Lexing) (tokens : List Token) (rested : ℕ) → tags.is_here s ≡ true
+    → Turned (tags.tag_rules names) tags.is_here old [] new tokens rested turns.Emitted → Turned (table names) (part_of s) old [] new tokens rested turns.Emitted
+text_in_tags names s old new tokens rested h t =
+    let P : (State → Bool) → Type 0 = λ p. Turned (table names) p old [] new tokens rested turns.Emitted in
+    subst P (sym (part-tags s h)) (turned (tags.tag_rules names) tags.is_here names (tags-part names) old [] new tokens rested turns.Emitted t)
+
+pub text_in_raw : (names : List Reference) (s : State) (old new : Lexing) (tokens : List Token) (rested : ℕ) → raw.is_here s ≡ true
+    → Turned raw.raw_rules raw.is_here old [] new tokens rested turns.Emitted → Turned (table names) (part_of s) old [] new tokens rested turns.Emitted
+text_in_raw names s old new tokens rested h t =
+    let P : (State → Bool) → Type 0 = λ p. Turned (table names) p old [] new tokens rested turns.Emitted in
+    subst P (sym (part-raw s h)) (turned raw.raw_rules raw.is_here names (raw-part names) old [] new tokens rested turns.Emitted t)

@@ -1,9 +1,10 @@
 // The lexer that a run over a page holds.
-ghost use Rattle.std.specs.Prelude.{◌≡◌, ◌≤◌, ◌^◌, ℕ, IfOk, OnOk, IsTrue, false, Bool, [], Some, length};
+ghost use Rattle.std.specs.Prelude.{◌≡◌, ◌-◌, ◌≤◌, ◌^◌, ℕ, IfOk, OnOk, IfSome, IfNone, IsTrue, false, Bool, [], ◌∷◌, Some, length};
+ghost use Rattle.hp_tokens.specs.declared.rows.Turn.TheVariants as turns;
 ghost use Rattle.hp_lexer.specs.Standing.{behind_cdata};
 
-use crate::turns::{make_end_moves, make_moves};
-use hp_elements::{Name, Rest, Tokens};
+use crate::turns::{make_end_moves, make_moves, next_text};
+use hp_elements::{Name, Rest, Token, Tokens};
 use hp_names::Names;
 pub use hp_tokens::NoMemory;
 use hp_tokens::{Cursor, LexState, Machine, ORIGIN, OwnedText, Part, State, Turn};
@@ -131,10 +132,16 @@ impl Lexer {
         ensures names { self.new.names ≡ self.old.names }
     {
         self.open(alloc)?;
+        if let Some(token) = self.take_text(input) {
+            return Ok(Step::Tokens {
+                began: self.began(),
+                tokens: Tokens::of_one(token),
+            });
+        }
         let mut tokens = Tokens::new();
         match self.run(alloc, input, &mut tokens)? {
             Turn::Emitted => Ok(Step::Tokens {
-                began: self.rested.saturating_sub(ORIGIN),
+                began: self.began(),
                 tokens,
             }),
             Turn::NeedsMore => {
@@ -153,7 +160,16 @@ impl Lexer {
         }
     }
 
+    /// The place where the lexer rested last, from the start of this text; 0 where that was before it.
+    #[inline]
+    fn began(&self) -> u64
+        ensures { result ≡ self.now.rested - 2 ^ 32 }
+    {
+        self.rested.saturating_sub(ORIGIN)
+    }
+
     /// Makes the move behind the answered question, if there is one.
+    #[inline]
     fn open(&mut self, alloc: Global) -> Result<(), NoMemory>
         requires answered { IsTrue (is_answered self.old.asked) }
         ensures lexer { OnOk result (self.new ≡ record self.old { lex = record self.old.lex { machine = opened self.old.asked self.old.lex.machine }; asked = asked.Nothing }) }
@@ -166,7 +182,23 @@ impl Lexer {
         Ok(())
     }
 
+    /// The run of text at the front as one token, where the lexer rests in a state of text.
+    #[inline]
+    fn take_text<'p>(&mut self, input: &mut Cursor<'p>) -> Option<Token<'p>>
+        requires held { held self.old.lex ≤ input.old.place }
+        ensures ran { IfSome result (λ token. Ran self.old.names self.old.lex input.old self.old.rested self.new.lex input.new (token ∷ []) self.new.rested turns.Emitted) }
+        ensures none { IfNone result ((self.new ≡ self.old) × (input.new ≡ input.old)) }
+        ensures held { held self.new.lex ≤ input.new.place }
+        ensures names { self.new.names ≡ self.old.names }
+        ensures asked { self.new.asked ≡ self.old.asked }
+        ensures lex { self.new.lex ≡ self.old.lex }
+    {
+        let token = next_text(&self.lex, input, &self.names, &mut self.rested)?;
+        Some(token)
+    }
+
     /// Makes moves until something is emitted, more input is needed or a question is asked.
+    #[inline]
     fn run<'p>(
         &mut self,
         alloc: Global,

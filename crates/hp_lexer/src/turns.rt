@@ -1,7 +1,8 @@
 // One call of the part of the table that the state is in.
-ghost use Rattle.std.specs.Prelude.{◌≡◌, ◌≤◌, ◌^◌, ℕ, IfOk, IsTrue, false, if◌then◌else◌, Bool};
+ghost use Rattle.std.specs.Prelude.{◌≡◌, ◌≤◌, ◌^◌, ℕ, [], ◌∷◌, IfOk, IfSome, IfNone, IsTrue, false, if◌then◌else◌, Bool};
 ghost use Rattle.hp_tokens.specs.Advancing.{held, lexing, end_of_text, Turned, EndTurned};
 ghost use Rattle.hp_tokens.specs.declared.rows.Turn.{Turn};
+ghost use Rattle.hp_tokens.specs.declared.rows.Turn.TheVariants as turns;
 ghost use Rattle.hp_lexer.specs.Table.{table, part_of};
 ghost use Rattle.hp_lex_tags.specs.Tags as tags;
 ghost use Rattle.hp_lex_raw.specs.Raw as raw;
@@ -10,12 +11,13 @@ ghost use Rattle.hp_lex_markup.specs.Rows as markup_rows;
 ghost use Rattle.hp_lexer.specs.Table.{gone_on as spec_gone_on};
 
 use crate::NoMemory;
-use hp_elements::Tokens;
+use hp_elements::{Token, Tokens};
 use hp_names::Names;
-use hp_tokens::{Cursor, LexState, Turn};
+use hp_tokens::{Cursor, LexState, State, Turn};
 use std::alloc::Global;
 
 /// More input is needed only where the state is still the part's.
+#[inline]
 fn gone_on(turn: Turn, is_here: bool) -> Turn
     ensures { result ≡ spec_gone_on turn is_here }
 {
@@ -30,6 +32,7 @@ fn gone_on(turn: Turn, is_here: bool) -> Turn
 }
 
 /// Moves in text, tags and character references.
+#[inline]
 fn in_tags<'p>(
     alloc: Global,
     state: &mut LexState,
@@ -86,6 +89,7 @@ fn in_markup<'p>(
 }
 
 /// Makes moves in the part of the table that the state is in, from one rest to the next, and appends what they emit.
+#[inline]
 pub(crate) fn make_moves<'p>(
     alloc: Global,
     state: &mut LexState,
@@ -105,6 +109,32 @@ pub(crate) fn make_moves<'p>(
         return in_raw(alloc, state, input, names, rested, tokens);
     }
     in_markup(alloc, state, input, names, rested, tokens)
+}
+
+/// The run of text at the front as one token, where the lexer rests in a state of text and `rested` becomes the place of its
+/// start; otherwise `None`, and nothing changes. It is what `make_moves` does there.
+#[inline]
+pub(crate) fn next_text<'p>(
+    state: &LexState,
+    input: &mut Cursor<'p>,
+    names: &Names,
+    rested: &mut u64,
+) -> Option<Token<'p>>
+    requires held { held state.now ≤ input.old.place }
+    ensures turn { IfSome result (λ token. Turned (table names.now) (part_of state.now.machine.state) (lexing state.now input.old rested.old) [] (lexing state.now input.new rested.new) (token ∷ []) rested.new turns.Emitted) }
+    ensures none { IfNone result ((input.new ≡ input.old) × (rested.new ≡ rested.old)) }
+    ensures held { held state.now ≤ input.new.place }
+{
+    match state.machine.state {
+        State::Data => {
+            let token = hp_lex_tags::next_text(state, input, names, rested)?;
+            Some(token)
+        }
+        _ => {
+            let token = hp_lex_raw::next_text(state, input, rested)?;
+            Some(token)
+        }
+    }
 }
 
 /// The end of input in text, tags and character references.

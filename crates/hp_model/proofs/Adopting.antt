@@ -1,11 +1,10 @@
 -- Adoption, the second half of a link's start, and the flush of table text thin the stack.
-use Rattle.std.proofs.Common.{◌≡◌, ℕ, zero, suc, ◌+◌, ◌-◌, ◌≤◌, ◌<◌, ◌==◌, List, [], ◌∷◌, ◌++◌, take, drop, length, Bool, true, false, ◌&&◌, Option, Some, None, refl, sym, ap, ◌∙◌, subst, arith, nat_lt}
+use Rattle.std.proofs.Common.{◌≡◌, ℕ, zero, suc, ◌+◌, ◌≤◌, ◌<◌, ◌==◌, List, [], ◌∷◌, ◌++◌, take, drop, Bool, true, false, Option, Some, None, refl, ap, subst, arith, nat_lt}
 use Rattle.std.specs.Prelude.{if◌then◌else◌, IfSome, All}
 use Rattle.std.specs.List.{list_all}
 use Rattle.std.specs.Option.{option_map}
 use Rattle.std.specs.Str.{bytes_eq}
-use Rattle.std.proofs.lemmas.Bool.{eqb-true}
-use Rattle.std.proofs.lemmas.List.Elements.{All-nil, All-cons, All-head, All-tail}
+use Rattle.std.proofs.lemmas.List.Elements.{All-nil, All-head, All-tail}
 use Rattle.hp_elements.specs.Names.{text_of}
 use Rattle.hp_elements.specs.Sets.{in_set}
 use Rattle.hp_elements.specs.declared.kinds.Kinds.TheVariants as kinds
@@ -14,22 +13,21 @@ use Rattle.hp_elements.specs.declared.sets.SetName.TheVariants as sets
 use Rattle.hp_elements.specs.declared.tag.Tag.{Tag}
 use Rattle.hp_control.specs.declared.edit.Child.{Child}
 use Rattle.hp_control.specs.declared.edit.Child.TheVariants as child
-use Rattle.hp_control.specs.declared.edit.Ref.{Ref}
 use Rattle.hp_control.specs.declared.edit.Ref.TheVariants.{Fixed}
 use Rattle.hp_control.specs.declared.element.OpenElement.{OpenElement}
 use Rattle.hp_control.specs.declared.element.FormattingEntry.{FormattingEntry}
 use Rattle.hp_control.specs.declared.element.FormattingEntry.TheVariants.{Marker, Element}
-use Rattle.hp_control.specs.Acts.{element_for, pop, pop_by, walk, put_here, frameset_not_ok, take_off, place as insertion_place}
-use Rattle.hp_control.specs.Adoption.{Spot, Seat, Case, Unlisted, Closed, Hidden, Alone, Tangled, lower, find_name, find_id, edit_at, hides, Climbed, at_block, renewed, pass_listed, pass, pass_all, settled, closed, adopted, between as nodes_between, adopt_once, nearer, furthest, block_case, open_case, entry_case, case_of, strike, turn_in, turn, turns, goes_on, is_plain, adopt, reconstruct}
+use Rattle.hp_control.specs.Acts.{element_for, pop, pop_by, put_here, frameset_not_ok, take_off}
+use Rattle.hp_control.specs.Adoption.{Spot, Seat, Hidden, lower, find_name, find_id, edit_at, hides, Climbed, at_block, renewed, pass_listed, pass, pass_all, settled, between as nodes_between, adopt_once, nearer, furthest, block_case, open_case, entry_case, strike, turn_in, turn, turns, goes_on, is_plain, adopt, reconstruct}
 use Rattle.hp_control.specs.Composed.{drop_entry, close_link, close_link_of, is_white, foster_character, foster_characters, put_characters}
 use Rattle.hp_control.specs.KindTests.{within as is_within}
-use Rattle.hp_control.specs.Outcome.{Act, and_then, choose, nothing_done}
-use Rattle.hp_control.specs.States.{ControlState, AreIds, IsId, IsFormatting, entry_ids, is_rooted, is_template}
+use Rattle.hp_control.specs.Outcome.{and_then, nothing_done}
+use Rattle.hp_control.specs.States.{ControlState, AreIds, IsFormatting, entry_ids, is_template}
 use Rattle.hp_control.specs.Walks.{open_at}
-use Rattle.hp_model.proofs.Tally.{one, tally, tally-nil, tally-cons, tally-yes, tally-no, tally-tail, tally-append, tally-split, tally-drop, tally-drop_more}
+use Rattle.hp_model.proofs.Tally.{one, tally, tally-nil, tally-cons, tally-yes, tally-tail, tally-append, tally-split, tally-drop_more}
 use Rattle.hp_model.proofs.Ids.{between, between-then, eqb-same, within}
-use Rattle.hp_model.proofs.Stacks.{Keeps, keeps_all, has_id, is_counted, formatting-uncounted, formatting-no_template, rooted-append, rooted-under}
-use Rattle.hp_model.proofs.Thins.{Ready, Thins, Thinning, Alike, alike_all, thins_all, thinning_nothing, thinning_then, thinning_choose, entry_is, tally-entries}
+use Rattle.hp_model.proofs.Stacks.{keeps_all, has_id, is_counted, formatting-uncounted, formatting-no_template, rooted-append, rooted-under}
+use Rattle.hp_model.proofs.Thins.{Ready, Thins, Thinning, thins_all, thinning_nothing, thinning_then, thinning_choose, entry_is, tally-entries}
 use Rattle.hp_model.proofs.Thinning.{thinning_pop, thinning_pop_by, thinning_walk, thinning_strike, thinning_drop_entry, thinning_take_off, thinning_reconstruct, edited-few, edited-formatting, entry_new, one_entry, one_new, not_root}
 
 mapped : {X Y : Type 0} (f : X → Y) (o : Option X) (y : Y) → option_map f o ≡ Some y → (x : X) × ((o ≡ Some x) × (f x ≡ y))

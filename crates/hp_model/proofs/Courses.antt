@@ -6,14 +6,12 @@ use Rattle.std.specs.Option.{is_some, option_map}
 use Rattle.std.specs.Str.{bytes_eq}
 use Rattle.std.proofs.lemmas.Bool.{and_parts, and_from, true≢false, eqb-true}
 use Rattle.std.proofs.lemmas.Slice.Eq.{bytes_eq-Decides}
-use Rattle.std.proofs.lemmas.List.Elements.{All-nil, All-cons, All-head, All-tail}
+use Rattle.std.proofs.lemmas.List.Elements.{All-cons, All-tail}
 use Rattle.hp_elements.specs.Kinds.{is_html as is_html_space}
 use Rattle.hp_elements.specs.Names.{is_among, text_of}
-use Rattle.hp_elements.specs.Sets.{in_set, members}
+use Rattle.hp_elements.specs.Sets.{members}
 use Rattle.hp_elements.specs.declared.kinds.Kinds.TheVariants as kinds
-use Rattle.hp_elements.specs.declared.kinds.Point.TheVariants as point
 use Rattle.hp_elements.specs.declared.known.Known.TheVariants as known
-use Rattle.hp_elements.specs.declared.sets.Namespace.TheVariants.{Html}
 use Rattle.hp_elements.specs.declared.sets.SetName.TheVariants as sets
 use Rattle.hp_elements.specs.declared.tag.Tag.{Tag}
 use Rattle.hp_elements.specs.declared.token.Mode.{Mode}
@@ -23,13 +21,13 @@ use Rattle.hp_control.specs.declared.element.FormattingEntry.{FormattingEntry}
 use Rattle.hp_control.specs.declared.element.FormattingEntry.TheVariants.{Marker, Element}
 use Rattle.hp_control.specs.Acts.{current_id, element_for, head_element, popped_by, replaced_first, take_off, taken_off, through_named, with_it, without}
 use Rattle.hp_control.specs.KindTests.{within as is_within}
-use Rattle.hp_control.specs.States.{ControlState, AreIds, IsId, IsNew, IsFormatting, LexFits, entry_ids, is_html, is_named, is_rooted, is_settled, is_tall, is_template, is_template_mode}
+use Rattle.hp_control.specs.States.{ControlState, AreIds, IsId, IsNew, IsFormatting, LexFits, entry_ids, is_html, is_named, is_rooted, is_tall, is_template, is_template_mode}
 use Rattle.hp_control.specs.Walks.{open_at, reach, seen, run_of, cleared as cleared_list}
-use Rattle.hp_model.proofs.Tally.{one, tally, tally-nil, tally-cons, tally-yes, tally-no, tally-tail, tally-most}
+use Rattle.hp_model.proofs.Tally.{tally, tally-yes, tally-no, tally-tail, tally-most}
 use Rattle.hp_model.proofs.Ids.{eqb-same}
-use Rattle.hp_model.proofs.Stacks.{Keeps, counted, is_counted, has_id, refused, rooted-cons, rooted-drop, rooted-some, rooted-without, deeper}
-use Rattle.hp_model.proofs.Thins.{Ready, Thins, thins_all, ready_after, ready_next, next-more, stack-grown, list-grown, id_later, entry_is, ids_of}
-use Rattle.hp_model.proofs.Thinning.{one_new, not_root}
+use Rattle.hp_model.proofs.Stacks.{counted, is_counted, refused, rooted-cons, rooted-without, deeper}
+use Rattle.hp_model.proofs.Thins.{Ready, Thins, ready_after, next-more, id_later, entry_is, ids_of}
+use Rattle.hp_model.proofs.Thinning.{not_root}
 use Rattle.hp_model.proofs.Course as course
 use Rattle.hp_model.proofs.Course.{Course, Along, Base, bare, rooted, tall, alien, Count, fell, kept, unknown, Where, at, anywhere, left, Room, lacking, enough, spare, BaseIs, CountIs, PlaceIs, RoomIs, ThereIs, OriginalIs, PendingIs, IsMade, IsOther, MadeIs, is_standing, is_bare, is_above, less, loose, less_room, more_room, has_room, has_spare, thinner, higher, through_course, fallen, without_select, is_there, keep_template, is_select, is_a_template}
 

@@ -1,5 +1,5 @@
 -- On its course each act finds what it reads.
-use Rattle.std.proofs.Common.{◌≡◌, ℕ, zero, suc, ◌+◌, ◌≤◌, ◌<◌, List, [], ◌∷◌, length, Bool, true, false, ◌||◌, ◌&&◌, not, refl, sym, ap, ◌∙◌, subst, arith, Option, None, Some}
+use Rattle.std.proofs.Common.{◌≡◌, ℕ, zero, suc, ◌≤◌, ◌<◌, List, [], ◌∷◌, length, Bool, true, false, ◌||◌, ◌&&◌, not, refl, sym, ap, arith, Option, None, Some}
 use Rattle.std.specs.Prelude.{if◌then◌else◌}
 use Rattle.std.specs.List.{list_any}
 use Rattle.std.specs.Option.{is_some}
@@ -10,7 +10,6 @@ use Rattle.hp_elements.specs.Rules.{Plan, ends, ◌⨾◌, when, unless, plan_fo
 use Rattle.hp_elements.specs.Tokens.{kind_of}
 use Rattle.hp_elements.specs.declared.act.Act.{Act}
 use Rattle.hp_elements.specs.declared.act.Act.TheVariants as act
-use Rattle.hp_elements.specs.declared.act.Test.{Test}
 use Rattle.hp_elements.specs.declared.act.Which.TheVariants.{Its, Named}
 use Rattle.hp_elements.specs.declared.known.Known.TheVariants as known
 use Rattle.hp_elements.specs.declared.token.Kind.{Kind}
@@ -18,7 +17,7 @@ use Rattle.hp_elements.specs.declared.token.Mode.{Mode}
 use Rattle.hp_elements.specs.declared.token.Token.{Token}
 use Rattle.hp_control.specs.declared.element.OpenElement.{OpenElement}
 use Rattle.hp_control.specs.Foreign.{is_foreign}
-use Rattle.hp_control.specs.States.{ControlState, IsSettled, IsValid, is_rooted, is_tall, is_template}
+use Rattle.hp_control.specs.States.{ControlState, IsValid, is_rooted, is_tall, is_template}
 use Rattle.hp_rules_rest.specs.Foreign.{foreign}
 use Rattle.hp_rules_rest.specs.Whole.{every_mode_rows}
 use Rattle.hp_model.specs.Finding.{act_finds, finds, is_empty, nothing_missing, plan_finds, rules_find, turn_finds, where_it_goes_on}
@@ -28,7 +27,7 @@ use Rattle.hp_model.specs.Turns.{Turn, goes_on, done, again, left_by}
 use Rattle.hp_model.specs.Whole.{IsRead}
 use Rattle.hp_model.proofs.Tally.{tally, tally-any}
 use Rattle.hp_model.proofs.Stacks.{is_counted}
-use Rattle.hp_model.proofs.Course.{Course, Along, Base, bare, rooted, tall, alien, Room, lacking, enough, spare, BaseIs, OriginalIs, RoomIs, after, assume, fits, has_room, is_above, is_alien, is_a_template, is_bare, is_formatting_start, is_standing}
+use Rattle.hp_model.proofs.Course.{Course, Along, Base, bare, tall, alien, Room, lacking, enough, spare, BaseIs, OriginalIs, RoomIs, after, assume, fits, has_room, is_above, is_alien, is_a_template, is_bare, is_formatting_start, is_standing}
 use Rattle.hp_model.proofs.Courses.{standing-rooted}
 use Rattle.hp_model.proofs.Handled.{along-foreign, along-start, foreign-base, foreign-standing, foreign-top, or_second}
 use Rattle.hp_model.proofs.Passes.{Rank, act_passes, base_of, foreign_passes, goes_foreign, good, mode_passes, plan_passes, rank, rules_pass, start}

@@ -1,11 +1,11 @@
 -- Each act leads from its course to the course after it: the one lemma beneath the test over the table.
-use Rattle.std.proofs.Common.{◌≡◌, ℕ, zero, suc, ◌+◌, ◌≤◌, ◌<◌, List, [], ◌∷◌, length, Bool, true, false, ◌||◌, ◌&&◌, not, refl, sym, ap, ◌∙◌, subst, arith, inl, inr, Option, None, Some, nat_le}
-use Rattle.std.specs.Prelude.{if◌then◌else◌, All, IfSome, drop}
+use Rattle.std.proofs.Common.{◌≡◌, ℕ, ◌+◌, ◌≤◌, List, [], ◌∷◌, length, Bool, true, false, ◌||◌, ◌&&◌, not, refl, sym, ap, ◌∙◌, subst, arith, inl, inr, Option, None, Some, nat_le}
+use Rattle.std.specs.Prelude.{if◌then◌else◌, All, IfSome}
 use Rattle.std.specs.List.{list_all}
 use Rattle.std.specs.Option.{is_some, unwrap_or}
 use Rattle.std.specs.Str.{bytes_eq}
 use Rattle.std.proofs.lemmas.Bool.{and_parts, and_from, true≢false}
-use Rattle.std.proofs.lemmas.List.Elements.{All-cons, All-tail}
+use Rattle.std.proofs.lemmas.List.Elements.{All-cons}
 use Rattle.hp_elements.specs.Kinds.{is_html as is_html_space}
 use Rattle.hp_elements.specs.Names.{is_among, text_of, known_of}
 use Rattle.hp_elements.specs.Quirks.{gives_quirks}
@@ -22,7 +22,6 @@ use Rattle.hp_elements.specs.declared.sets.Namespace.TheVariants.{Html, MathMl, 
 use Rattle.hp_elements.specs.declared.sets.SetName.TheVariants as sets
 use Rattle.hp_elements.specs.declared.tag.Tag.{Tag}
 use Rattle.hp_elements.specs.declared.token.DoctypeParts.{DoctypeParts}
-use Rattle.hp_elements.specs.declared.token.Kind.{Kind}
 use Rattle.hp_elements.specs.declared.token.Kind.TheVariants.{Start}
 use Rattle.hp_elements.specs.declared.token.Mode.{Mode}
 use Rattle.hp_elements.specs.declared.token.Token.{Token}
@@ -32,26 +31,26 @@ use Rattle.hp_elements.proofs.NameLemmas.{found_text, known_of_text}
 use Rattle.hp_control.specs.declared.element.OpenElement.{OpenElement}
 use Rattle.hp_control.specs.declared.element.FormattingEntry.{FormattingEntry}
 use Rattle.hp_control.specs.declared.element.FormattingEntry.TheVariants.{Marker, Element}
-use Rattle.hp_control.specs.Acts.{append_entry, append_to_list, current_id, element_for, empty_pending, equal_ids, make_room, push_head_of, remove_earliest, remove_entry, set_quirks, take_head_off_of, take_off, through_named, with_list, with_stack, head_element, insert, pop, without_entry}
-use Rattle.hp_control.specs.Adoption.{Spot, find_name, adopt}
+use Rattle.hp_control.specs.Acts.{append_entry, append_to_list, current_id, element_for, equal_ids, push_head_of, remove_earliest, set_quirks, take_head_off_of, take_off, with_stack, head_element, insert, pop, without_entry}
+use Rattle.hp_control.specs.Adoption.{Spot, find_name}
 use Rattle.hp_control.specs.Composed.{is_white, put_characters, foster_characters, drop_entry}
-use Rattle.hp_control.specs.Foreign.{attribute_in, current_namespace, insert_in, name_in, opened_namespace, tag_in}
+use Rattle.hp_control.specs.Foreign.{current_namespace, insert_in, opened_namespace, tag_in}
 use Rattle.hp_control.specs.Outcome.{Act as ControlAct, and_then, becomes, nothing_done}
-use Rattle.hp_control.specs.States.{ControlState, AreIds, IsId, IsNew, IsFormatting, IsSettled, entry_ids, is_html, is_named, is_rooted, is_settled, is_tall, is_template, is_template_mode}
-use Rattle.hp_control.specs.Walks.{cleared as cleared_list, open_at, run_of, reset_mode}
+use Rattle.hp_control.specs.States.{ControlState, AreIds, IsId, IsNew, IsFormatting, entry_ids, is_html, is_named, is_rooted, is_settled, is_tall, is_template, is_template_mode}
+use Rattle.hp_control.specs.Walks.{cleared as cleared_list, open_at, reset_mode}
 use Rattle.hp_model.specs.Steps.{implied_but_for, quirks_of, step, take_off_entry}
 use Rattle.hp_model.specs.Tokens.{bare as bare_tag, is_self_closing, name_for, name_of, parts_of, tag_of}
 use Rattle.hp_model.specs.Whole.{IsRead}
 use Rattle.hp_model.proofs.Tally.{tally}
 use Rattle.hp_model.proofs.Ids.{are_ids, between, between-none, is_id, new-none, none-new, once, within}
-use Rattle.hp_model.proofs.Stacks.{Keeps, counted, is_counted, has_id, pushed-keeps, keeps_all}
-use Rattle.hp_model.proofs.Thins.{Ready, Thins, Thinning, entry_is, tally-entries, thins_all, thins_list, thins_then, thinning_nothing, thinning_then, ready_after}
-use Rattle.hp_model.proofs.Thinning.{thinning_pop, thinning_pop_run, thinning_pop_to, thinning_pop_to_first, thinning_through, thinning_through_named, thinning_walk, thinning_implied, thinning_implied_except, thinning_implied_thoroughly, thinning_close_paragraph, thinning_close_item, thinning_close_description, thinning_end_form, thinning_take_off, thinning_remove_entry, thinning_reconstruct, one_new}
+use Rattle.hp_model.proofs.Stacks.{counted, is_counted, pushed-keeps}
+use Rattle.hp_model.proofs.Thins.{Ready, Thins, Thinning, entry_is, tally-entries, thins_all, thins_list, thinning_nothing, thinning_then, ready_after}
+use Rattle.hp_model.proofs.Thinning.{thinning_pop, thinning_pop_to, thinning_pop_to_first, thinning_through, thinning_through_named, thinning_walk, thinning_implied, thinning_implied_except, thinning_implied_thoroughly, thinning_close_paragraph, thinning_close_item, thinning_close_description, thinning_end_form, thinning_take_off, thinning_remove_entry, thinning_reconstruct, one_new}
 use Rattle.hp_model.proofs.Adopting.{thinning_adopt, thinning_close_link, thinning_flushed, thinning_taken, name-found, entry-id}
 use Rattle.hp_model.proofs.Resetting.{reset-settled, reset-no_select}
 use Rattle.hp_model.proofs.Course as course
 use Rattle.hp_model.proofs.Course.{Course, Along, Base, bare, rooted, tall, alien, Count, fell, kept, unknown, Where, at, anywhere, left, Room, BaseIs, CountIs, PlaceIs, RoomIs, OriginalIs, IsMade, MadeIs, is_standing, is_bare, is_above, is_alien, thinner, higher, after_reset, is_settled_at, is_a_template, is_foreign_top, kind_is_template, kind_is_html, is_start, is_formatting_start, has_room, after, fits}
-use Rattle.hp_model.proofs.Courses.{standing-rooted, ready, thin, push, push_html, push_head_along, through_along, template-stays, taken_off-tall, cleared-few, cleared-formatting, replaced-modes, replaced-room, dropped-modes, dropped-room, room-more, bytes_eq-swap}
+use Rattle.hp_model.proofs.Courses.{standing-rooted, ready, thin, push, push_html, push_head_along, through_along, template-stays, taken_off-tall, cleared-few, cleared-formatting, replaced-modes, replaced-room, dropped-modes, dropped-room, room-more}
 
 -- what a known name says of a text
 template-told : (id : ℕ) (tag : Tag) → is_html_space tag.namespace ≡ true → is_template (element_for id tag) ≡ kind_is_template (Start (known_of tag.name))

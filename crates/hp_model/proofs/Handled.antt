@@ -1,6 +1,6 @@
 -- Handling a token ends, and leaves a valid state.
-use Rattle.std.proofs.Common.{◌≡◌, ℕ, zero, suc, ◌+◌, ◌*◌, ◌≤◌, ◌<◌, List, [], ◌∷◌, map, length, Bool, true, false, ◌&&◌, ◌||◌, not, refl, sym, ap, ◌∙◌, subst, arith, Option, None, Some, IsSome}
-use Rattle.std.specs.Prelude.{if◌then◌else◌, All, IfSome}
+use Rattle.std.proofs.Common.{◌≡◌, ℕ, zero, suc, ◌+◌, ◌*◌, ◌≤◌, ◌<◌, List, [], ◌∷◌, map, length, Bool, true, false, ◌&&◌, ◌||◌, not, refl, sym, ap, ◌∙◌, subst, arith, Option, Some, IsSome}
+use Rattle.std.specs.Prelude.{if◌then◌else◌}
 use Rattle.std.specs.List.{count_by}
 use Rattle.std.specs.Option.{unwrap_or}
 use Rattle.std.proofs.lemmas.Bool.{and_parts, true≢false}
@@ -13,20 +13,19 @@ use Rattle.hp_elements.specs.declared.token.Mode.TheVariants as mode
 use Rattle.hp_elements.specs.declared.token.Token.{Token}
 use Rattle.hp_elements.specs.declared.token.Token.TheVariants as token
 use Rattle.hp_control.specs.declared.element.OpenElement.{OpenElement}
-use Rattle.hp_control.specs.Foreign.{enters, is_annotation, is_end_of_input, is_foreign, is_foreign_at, is_svg_start}
+use Rattle.hp_control.specs.Foreign.{enters, is_annotation, is_end_of_input, is_foreign, is_svg_start}
 use Rattle.hp_control.specs.States.{ControlState, IsValid, StackFits, OriginalFits, PendingFits, is_html, is_rooted, is_settled, is_tall, is_template}
 use Rattle.hp_rules_rest.specs.Foreign.{foreign}
-use Rattle.hp_rules_rest.specs.Whole.{every_mode_rows}
-use Rattle.hp_model.specs.Handling.{all_turns, bound, handle, handle_all, handle_each, handle_piece, settled}
-use Rattle.hp_model.specs.Rows.{carry_plan, entering, foreign_turn, mode_turn, rules, turn}
-use Rattle.hp_model.specs.Tokens.{is_line_feed, pieces}
-use Rattle.hp_model.specs.Turns.{Handled, Turn, goes_on, done, again, after_turn, before, before_all, joined, left_by, turns, unchanged}
+use Rattle.hp_model.specs.Handling.{all_turns, bound, handle, handle_all, handle_piece, settled}
+use Rattle.hp_model.specs.Rows.{entering, foreign_turn, mode_turn, rules, turn}
+use Rattle.hp_model.specs.Tokens.{is_line_feed}
+use Rattle.hp_model.specs.Turns.{Handled, Turn, goes_on, done, again, after_turn, before_all, joined, left_by, turns, unchanged}
 use Rattle.hp_model.specs.Whole.{IsRead}
 use Rattle.hp_model.proofs.Tally.{tally, tally-count_by, tally-length}
 use Rattle.hp_model.proofs.Stacks.{is_counted}
-use Rattle.hp_model.proofs.Course.{Course, Along, Base, bare, rooted, tall, alien, Where, at, anywhere, left, Room, lacking, enough, spare, BaseIs, OriginalIs, PendingIs, PlaceIs, RoomIs, is_standing, has_room, is_foreign_top}
+use Rattle.hp_model.proofs.Course.{Course, Along, Base, bare, tall, alien, Where, at, anywhere, left, Room, lacking, enough, spare, BaseIs, OriginalIs, PendingIs, PlaceIs, RoomIs, is_standing, has_room, is_foreign_top}
 use Rattle.hp_model.proofs.Courses.{standing-rooted}
-use Rattle.hp_model.proofs.Passes.{rank, rules_pass, plan_passes, mode_passes, foreign_passes, base_fits, returns, collects, same, good, good_at, base_of, start, goes_foreign, falls}
+use Rattle.hp_model.proofs.Passes.{rank, rules_pass, mode_passes, foreign_passes, base_fits, returns, collects, same, good, good_at, base_of, start, goes_foreign, falls}
 use Rattle.hp_model.proofs.Tests.{each_mode, each_foreign}
 use Rattle.hp_model.proofs.Walking.{Meets, meets_before, plan_meets, rules_meet}
 use Rattle.hp_model.proofs.Weights.{weight, top, weight-below, top_at_most, falls-weight}

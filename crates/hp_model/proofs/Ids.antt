@@ -1,8 +1,8 @@
 -- Ids, none of which stands twice: what is made of them by taking some away and adding new ones.
-use Rattle.std.proofs.Common.{◌≡◌, ℕ, zero, suc, ◌+◌, ◌≤◌, ◌<◌, ◌==◌, List, [], ◌∷◌, Bool, true, false, refl, sym, ap, ◌∙◌, subst, arith, nat_lt, nat_le}
+use Rattle.std.proofs.Common.{◌≡◌, ℕ, zero, suc, ◌+◌, ◌≤◌, ◌<◌, ◌==◌, List, [], ◌∷◌, Bool, true, false, refl, sym, ◌∙◌, subst, arith, nat_lt, nat_le}
 use Rattle.std.proofs.lemmas.Bool.{eqb-true, eqb-false, ne_eqb, ltb-true, ltb-false, leb-true, leb-false}
 use Rattle.hp_control.specs.States.{AreIds, IsNew}
-use Rattle.hp_model.proofs.Tally.{one, tally, tally-nil, tally-yes, tally-no, tally-tail}
+use Rattle.hp_model.proofs.Tally.{tally, tally-nil, tally-yes, tally-no, tally-tail}
 
 abbrev pub both : Bool → Bool → ℕ
 both true true = 1

@@ -1,9 +1,9 @@
 -- Which modes reset gives.
-use Rattle.std.proofs.Common.{◌≡◌, List, [], ◌∷◌, Bool, true, false, ◌&&◌, ◌||◌, not, Option, Some, None, refl, sym, ap, ◌∙◌}
+use Rattle.std.proofs.Common.{◌≡◌, List, [], ◌∷◌, Bool, true, false, ◌&&◌, ◌||◌, not, Option, Some, refl, sym}
 use Rattle.std.specs.Prelude.{if◌then◌else◌, All}
 use Rattle.std.specs.List.{list_any}
 use Rattle.std.specs.Option.{unwrap_or}
-use Rattle.std.proofs.lemmas.Bool.{and_parts, or_parts, true≢false}
+use Rattle.std.proofs.lemmas.Bool.{and_parts, true≢false}
 use Rattle.std.proofs.lemmas.List.Elements.{All-head}
 use Rattle.hp_elements.specs.declared.known.Known.TheVariants as known
 use Rattle.hp_elements.specs.declared.kinds.Kinds.TheVariants as kinds
@@ -13,7 +13,7 @@ use Rattle.hp_elements.specs.declared.token.Mode.TheVariants as mode
 use Rattle.hp_control.specs.declared.element.OpenElement.{OpenElement}
 use Rattle.hp_control.specs.KindTests.{within}
 use Rattle.hp_control.specs.States.{is_named, is_settled, is_template_mode}
-use Rattle.hp_control.specs.Walks.{is_cell, is_last, last_template_mode, select_mode, table_comes, html_mode, mode_of, mode_at, reset_mode}
+use Rattle.hp_control.specs.Walks.{is_cell, is_last, last_template_mode, select_mode, table_comes, html_mode, mode_of, reset_mode}
 use Rattle.hp_model.proofs.Course.{is_select, is_select_mode}
 
 settled-template_mode : (m : Mode) → is_template_mode m ≡ true → (is_settled m && not (is_select_mode m)) ≡ true

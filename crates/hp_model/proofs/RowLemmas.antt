@@ -7,7 +7,6 @@ use Rattle.hp_elements.specs.Rules.{Plan, Row, ends, ◌⨾◌, when, unless, ac
 use Rattle.hp_elements.specs.Tokens.{kind_of}
 use Rattle.hp_elements.specs.declared.act.Act.{Act}
 use Rattle.hp_elements.specs.declared.act.Act.TheVariants.{If, Unless}
-use Rattle.hp_elements.specs.declared.act.Test.{Test}
 use Rattle.hp_elements.specs.declared.token.Kind.{Kind}
 use Rattle.hp_elements.specs.declared.token.Mode.{Mode}
 use Rattle.hp_elements.specs.declared.token.Mode.TheVariants as mode

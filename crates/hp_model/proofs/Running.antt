@@ -12,7 +12,7 @@ use Rattle.hp_model.specs.Handling.{handle}
 use Rattle.hp_model.specs.Turns.{Handled, left_by}
 use Rattle.hp_control.specs.States.{IsValid}
 use Rattle.hp_model.proofs.Handled.{handle-valid}
-use Rattle.hp_model.specs.Runs.{AreRead, ReadsHtml, Parser, Built, Step, rests, goes, going, Goes, here, onward, Rests, RunsTo, RunsOver, EndsWith, last, before_it, Parses, at_lexing, at_start, built, end_step, followed_by, step, step_by, switched, told}
+use Rattle.hp_model.specs.Runs.{AreRead, ReadsHtml, Parser, Built, Step, rests, goes, going, Goes, here, onward, Rests, RunsOver, EndsWith, last, before_it, Parses, at_lexing, at_start, built, followed_by, step, step_by, switched, told}
 
 switched-followed : (to : Option Rest) (l : Lexing) (text : List ℕ) → switched to (more_unread l text) ≡ more_unread (switched to l) text
 switched-followed None l text = refl

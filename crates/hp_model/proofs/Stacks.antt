@@ -1,10 +1,10 @@
 -- What acts keep of a stack: the elements that weigh, the templates, the root, and the ids.
-use Rattle.std.proofs.Common.{◌≡◌, ℕ, zero, suc, ◌+◌, ◌-◌, ◌≤◌, ◌<◌, ◌==◌, List, [], ◌∷◌, ◌++◌, map, take, drop, length, min, Bool, true, false, not, ◌&&◌, ◌||◌, Option, Some, None, refl, sym, ap, ◌∙◌, subst, arith, add-one}
+use Rattle.std.proofs.Common.{◌≡◌, ℕ, zero, suc, ◌+◌, ◌-◌, ◌≤◌, ◌<◌, ◌==◌, List, [], ◌∷◌, ◌++◌, take, drop, length, min, Bool, true, false, not, ◌&&◌, ◌||◌, Option, Some, None, refl, sym, ap, ◌∙◌, subst, arith}
 use Rattle.std.specs.Prelude.{if◌then◌else◌}
 use Rattle.std.specs.Option.{option_map}
 use Rattle.std.specs.List.{list_all, list_any}
 use Rattle.std.specs.Str.{bytes_eq}
-use Rattle.std.proofs.lemmas.Bool.{and_parts, true≢false, eqb-true, or_cases}
+use Rattle.std.proofs.lemmas.Bool.{and_parts, true≢false, eqb-true}
 use Rattle.hp_elements.specs.Names.{text_of, is_among, words}
 use Rattle.hp_elements.specs.Sets.{Elements, in_set, is_member, members, same_namespace}
 use Rattle.hp_elements.specs.declared.known.Known.TheVariants as known
@@ -16,7 +16,7 @@ use Rattle.hp_control.specs.declared.element.OpenElement.{OpenElement}
 use Rattle.hp_control.specs.Acts.{popped_by, without, element_for}
 use Rattle.hp_control.specs.States.{is_html, is_named, is_rooted, is_template}
 use Rattle.hp_control.specs.Walks.{open_at}
-use Rattle.hp_model.proofs.Tally.{one, tally, tally-nil, tally-cons, tally-yes, tally-no, tally-tail, tally-append, tally-split, tally-drop, tally-drop_more}
+use Rattle.hp_model.proofs.Tally.{one, tally, tally-cons, tally-yes, tally-no, tally-tail, tally-append, tally-split, tally-drop, tally-drop_more}
 use Rattle.hp_model.proofs.Ids.{between, between-then}
 
 -- the elements that the weight counts

@@ -1,9 +1,7 @@
 -- The acts of tree construction that thin the stack.
-use Rattle.std.proofs.Common.{◌≡◌, ℕ, zero, suc, ◌+◌, ◌-◌, ◌≤◌, ◌<◌, ◌==◌, List, [], ◌∷◌, ◌++◌, take, drop, length, min, Bool, true, false, ◌&&◌, Option, Some, None, refl, sym, ap, ◌∙◌, subst, arith}
+use Rattle.std.proofs.Common.{◌≡◌, ℕ, zero, suc, ◌+◌, ◌≤◌, ◌<◌, ◌==◌, List, [], ◌∷◌, ◌++◌, take, drop, length, Bool, true, false, Option, Some, None, refl, subst, arith}
 use Rattle.std.specs.Prelude.{if◌then◌else◌, IfSome, All, slice_get}
-use Rattle.std.specs.Option.{option_map}
-use Rattle.std.specs.Str.{bytes_eq}
-use Rattle.std.proofs.lemmas.Bool.{and_parts, eqb-true}
+use Rattle.std.proofs.lemmas.Bool.{eqb-true}
 use Rattle.std.proofs.lemmas.List.Elements.{All-nil, All-cons, All-head, All-tail, All-take, All-drop, All-append}
 use Rattle.hp_elements.specs.Names.{text_of}
 use Rattle.hp_elements.specs.Sets.{in_set}
@@ -18,15 +16,15 @@ use Rattle.hp_control.specs.declared.element.OpenElement.{OpenElement}
 use Rattle.hp_control.specs.declared.element.FormattingEntry.{FormattingEntry}
 use Rattle.hp_control.specs.declared.element.FormattingEntry.TheVariants.{Marker, Element}
 use Rattle.hp_control.specs.Acts.{pop_by, pop, pop_run, pop_to, pop_to_first, popped_by, through, through_named, with_it, walk, take_off, taken_off, without, without_entry, remove_entry, empty_form, element_for, insert}
-use Rattle.hp_control.specs.Adoption.{Spot, lower, find_name, find_id, spliced, spliced_at, edit_at, relist, renew, renew_entry, renew_down, reconstruct, stale, strike}
+use Rattle.hp_control.specs.Adoption.{Spot, find_id, spliced, spliced_at, edit_at, relist, renew, renew_entry, renew_down, reconstruct, stale, strike}
 use Rattle.hp_control.specs.Composed.{implied, implied_but, implied_except, implied_thoroughly, close, close_paragraph, close_item, close_description, end_form, end_form_of, end_form_in_template, is_open_form, named_in_scope, is_item, template_in_stack, drop_entry}
-use Rattle.hp_control.specs.Outcome.{Act, and_then, choose, nothing_done}
-use Rattle.hp_control.specs.States.{ControlState, AreIds, IsId, IsFormatting, entry_ids, is_rooted}
+use Rattle.hp_control.specs.Outcome.{and_then, choose, nothing_done}
+use Rattle.hp_control.specs.States.{ControlState, IsId, IsFormatting}
 use Rattle.hp_control.specs.Walks.{open_at, seen, reach, has_entry}
-use Rattle.hp_model.proofs.Tally.{one, tally, tally-nil, tally-cons, tally-yes, tally-no, tally-tail, tally-append, tally-split, tally-drop}
-use Rattle.hp_model.proofs.Ids.{between, between-inside, between-below, between-above, Place, place, below, inside, above, within}
-use Rattle.hp_model.proofs.Stacks.{Keeps, keeps_all, keeps_then, pushed-keeps, popped_by-keeps, without-keeps, has_id, formatting-uncounted, formatting-no_template}
-use Rattle.hp_model.proofs.Thins.{Ready, Thins, Thinning, Alike, thins_all, thins_then, thins_stack, thins_list, thinning_nothing, thinning_then, thinning_choose, ready_after, ready_next, entry_is, tally-entries, ids_of}
+use Rattle.hp_model.proofs.Tally.{one, tally, tally-nil, tally-cons, tally-tail, tally-append, tally-split, tally-drop}
+use Rattle.hp_model.proofs.Ids.{between, between-inside}
+use Rattle.hp_model.proofs.Stacks.{Keeps, keeps_all, pushed-keeps, popped_by-keeps, without-keeps, formatting-uncounted, formatting-no_template}
+use Rattle.hp_model.proofs.Thins.{Ready, Thins, Thinning, thins_all, thins_stack, thins_list, thinning_nothing, thinning_then, thinning_choose, entry_is}
 
 pub thinning_pop_by : (count : ℕ) → Thinning (pop_by count)
 thinning_pop_by count c r = thins_stack c (popped_by count c.stack) r (popped_by-keeps c.next c.next count c.stack)

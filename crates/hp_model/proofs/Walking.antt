@@ -1,21 +1,20 @@
 -- A row that passes the test does what the test says: by each way through the row, and through the rows that it uses.
-use Rattle.std.proofs.Common.{◌≡◌, ℕ, zero, suc, Bool, true, false, refl, sym, ap, ◌∙◌, subst, List, [], ◌∷◌, Option, None, Some}
+use Rattle.std.proofs.Common.{◌≡◌, ℕ, zero, suc, Bool, true, false, refl, sym, ◌∙◌, subst, List, [], ◌∷◌, Option, None, Some}
 use Rattle.std.specs.Prelude.{if◌then◌else◌}
 use Rattle.std.specs.Option.{is_some, option_map}
 use Rattle.std.proofs.lemmas.Bool.{and_parts, true≢false}
-use Rattle.hp_elements.specs.Names.{text_of, known_of}
+use Rattle.hp_elements.specs.Names.{text_of}
 use Rattle.hp_elements.specs.Rules.{Plan, ends, ◌⨾◌, when, unless, plan_for}
 use Rattle.hp_elements.specs.Tokens.{kind_of}
 use Rattle.hp_elements.specs.declared.act.Act.{Act}
 use Rattle.hp_elements.specs.declared.act.Act.TheVariants as act
 use Rattle.hp_elements.specs.declared.act.Test.{Test}
 use Rattle.hp_elements.specs.declared.act.Test.TheVariants as test
-use Rattle.hp_elements.specs.declared.act.Which.TheVariants.{Its, Named}
+use Rattle.hp_elements.specs.declared.act.Which.TheVariants.{Named}
 use Rattle.hp_elements.specs.declared.kinds.Kinds.{Kinds}
 use Rattle.hp_elements.specs.declared.kinds.Kinds.TheVariants as kinds
 use Rattle.hp_elements.specs.declared.known.Known.TheVariants as known
 use Rattle.hp_elements.specs.declared.sets.Namespace.TheVariants.{Html}
-use Rattle.hp_elements.specs.declared.token.Kind.{Kind}
 use Rattle.hp_elements.specs.declared.token.Kind.TheVariants.{Start}
 use Rattle.hp_elements.specs.declared.token.Mode.{Mode}
 use Rattle.hp_elements.specs.declared.token.Token.{Token}
@@ -28,9 +27,9 @@ use Rattle.hp_control.specs.States.{ControlState}
 use Rattle.hp_control.specs.Walks.{reach, seen}
 use Rattle.hp_rules_rest.specs.Whole.{every_mode_rows}
 use Rattle.hp_model.specs.Rows.{carry, carry_plan, nothing_more, rules}
-use Rattle.hp_model.specs.Steps.{holds, step}
-use Rattle.hp_model.specs.Tokens.{as_start, tag_of}
-use Rattle.hp_model.specs.Turns.{Handled, Turn, goes_on, done, again, before, and_then, as_part, left_by, plainly, unchanged}
+use Rattle.hp_model.specs.Steps.{holds}
+use Rattle.hp_model.specs.Tokens.{tag_of}
+use Rattle.hp_model.specs.Turns.{Handled, Turn, goes_on, done, again, before, and_then, as_part, left_by, unchanged}
 use Rattle.hp_model.specs.Whole.{IsRead}
 use Rattle.hp_model.proofs.Course.{Course, Along, after, fits, assume}
 use Rattle.hp_model.proofs.Courses.{seen-any}

@@ -1,6 +1,6 @@
 -- Short pages as tokens, with the trees that the standard's words give.
 use Prim.Native.String.{String}
-use Rattle.std.specs.Prelude.{◌≡◌, ℕ, Bool, true, false, List, [], ◌∷◌, map, codes, Option, None, Some}
+use Rattle.std.specs.Prelude.{◌≡◌, ℕ, true, false, List, [], ◌∷◌, map, codes, Option, None, Some}
 use Rattle.hp_elements.specs.Names.{text_of}
 use Rattle.hp_elements.specs.declared.known.Known.{Known}
 use Rattle.hp_elements.specs.declared.known.Known.TheVariants as known
@@ -11,8 +11,8 @@ use Rattle.hp_elements.specs.declared.token.Mode.TheVariants as mode
 use Rattle.hp_elements.specs.declared.token.Rest.TheVariants as rest
 use Rattle.hp_elements.specs.declared.token.Token.{Token}
 use Rattle.hp_elements.specs.declared.token.Token.TheVariants as token
-use Rattle.hp_control.specs.States.{ControlState, start}
-use Rattle.hp_control.specs.Tree.{Item, Element, Text, Comment, Branch, Tree, document, applied_all}
+use Rattle.hp_control.specs.States.{start}
+use Rattle.hp_control.specs.Tree.{Item, Element, Text, Comment, Branch, document, applied_all}
 use Rattle.hp_model.specs.Tokens.{bare}
 use Rattle.hp_model.specs.Turns.{Handled, left_by}
 use Rattle.hp_model.specs.Handling.{handle_each}

@@ -1,5 +1,5 @@
 use Rattle.std.proofs.Common.{◌-◌}
-use Rattle.hp_acts.proofs.handle.+carry_row.Given as goal
+use Rattle.hp_acts.proofs.turns.+carry_row.Given as goal
 
 abbrev pub decreases : goal.decreases
 decreases g a = a.depth

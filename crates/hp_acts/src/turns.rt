@@ -9,7 +9,7 @@ ghost use Rattle.hp_model.specs.Rows.{is_head_mode};
 ghost use Rattle.hp_views.specs.View.{split_of};
 ghost use Rattle.hp_acts.specs.Handling.{GoesBy, GoesLater, IsDropped};
 
-use crate::carry::{carry, carry_out};
+use crate::acts::{carry, carry_out};
 use crate::plain::{is_plain, put_plain};
 use crate::rows::{Row, foreign_row, row_in};
 use crate::token_parts::{Spending, after_line_feed, rename};

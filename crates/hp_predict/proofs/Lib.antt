@@ -1,0 +1,9 @@
+pub mod NameLemmas
+pub mod TagLemmas
+pub mod NamesLemmas
+pub mod LengthLemmas
+pub mod EndsLemmas
+pub mod ModeLemmas
+pub mod PartLemmas
+pub mod ValidLemmas
+pub mod StateLemmas

@@ -1,0 +1,5 @@
+pub mod ReadRows
+pub mod TagRows
+pub mod RawRows
+pub mod MarkupRows
+pub mod TableRows
