@@ -1,6 +1,4 @@
 pub mod Entries
 pub mod ReconPlans
 pub mod ArkPlans
-pub mod AdoptPlans
 pub mod Turning
-pub mod LinkPlans

@@ -1,10 +1,8 @@
 -- The parts of a turn.
-use Rattle.std.specs.Prelude.{ℕ, ◌+◌, Bool, true, false, List, [], ◌∷◌, ◌++◌, Option, Some, None, Result, Ok, Err}
+use Rattle.std.specs.Prelude.{ℕ, ◌+◌, Bool, true, false, List, [], ◌∷◌, ◌++◌, Option, Some, None}
 use Rattle.std.specs.Option.{option_map}
 use Rattle.hp_elements.specs.declared.tag.Tag.{Tag}
 use Rattle.hp_control.specs.declared.change.Change.{Change}
-use Rattle.hp_control.specs.declared.change.Refusal.{Refusal}
-use Rattle.hp_control.specs.declared.change.Refusal.TheVariants.{Crossed, NoMemory}
 use Rattle.hp_control.specs.declared.edit.Child.TheVariants as child
 use Rattle.hp_control.specs.declared.edit.Edit.{Edit}
 use Rattle.hp_control.specs.declared.edit.Edit.TheVariants.{NewElement, Put, MoveChildren}
@@ -16,16 +14,6 @@ use Rattle.hp_control.specs.declared.element.FormattingEntry.{FormattingEntry}
 use Rattle.hp_control.specs.declared.element.FormattingEntry.TheVariants.{Element}
 use Rattle.hp_control.specs.Acts.{element_for}
 use Rattle.hp_control.specs.Adoption.{Adopted, Climbed, Seat, pass_all, settled}
-use Rattle.hp_control.specs.Faithful.{Split}
-use Rattle.hp_control.specs.Plan.{Plan, Runs}
-use Rattle.hp_views.specs.View.{Sight}
-use Rattle.hp_adoption.specs.AdoptPlans.{Turned}
-
--- the turn was carried out, or it crosses so, or memory is wanting
-abbrev pub Turns : Result Bool Refusal → Sight → Sight → (Split → Plan Turned) → Type 0
-Turns (Ok goes_on) old new plan = Runs old.heard new.heard (plan old.split) (Ok (record { split = new.split; goes_on = goes_on }))
-Turns (Err (Crossed crossing)) old new plan = Runs old.heard new.heard (plan old.split) (Err crossing)
-Turns (Err NoMemory) old new plan = Unit {0}
 
 abbrev pub seat_depth : Option Seat → Option ℕ
 seat_depth = option_map (λ s. s.depth)

@@ -1,7 +1,5 @@
 //! The adoption agency algorithm (13.2.6.4.7).
 ghost use Rattle.std.specs.Prelude.{◌≡◌};
-ghost use Rattle.hp_views.specs.View.{sight, Answers, Carries};
-ghost use Rattle.hp_adoption.specs.AdoptPlans.{plain_below, is_plain_plan, adopt_plan};
 
 use crate::turns::turns;
 use hp_control::{Below, Refusal, is_html};
@@ -14,9 +12,7 @@ fn is_plain<'p, B: Below>(
     alloc: Global,
     view: &mut View<'p, B>,
     name: &Name,
-) -> Result<bool, Refusal>
-    ensures { Answers result (sight B.heard view.old) (sight B.heard view.new) (is_plain_plan name.now) }
-{
+) -> Result<bool, Refusal> {
     if view.change.stack.is_empty() {
         return is_plain_below(alloc, view, name);
     }
@@ -30,9 +26,7 @@ fn is_plain_below<'p, B: Below>(
     alloc: Global,
     view: &mut View<'p, B>,
     name: &Name,
-) -> Result<bool, Refusal>
-    ensures { Answers result (sight B.heard view.old) (sight B.heard view.new) (plain_below name.now) }
-{
+) -> Result<bool, Refusal> {
     if !view.current_is(alloc, Kinds::Html(name.copy(alloc)?))? {
         return Ok(false);
     }
@@ -49,9 +43,7 @@ pub fn adopt<'p, B: Below>(
     view: &mut View<'p, B>,
     fostering: bool,
     name: Name,
-) -> Result<(), Refusal>
-    ensures { Carries result (sight B.heard view.old) (sight B.heard view.new) (adopt_plan fostering name) }
-{
+) -> Result<(), Refusal> {
     if is_plain(alloc, view, &name)? {
         view.pop(alloc)
     } else {

