@@ -1,4 +1,10 @@
 //! One act of a row, carried out on a view.
+ghost use Rattle.std.specs.Prelude.{◌≡◌, OnOk};
+ghost use Rattle.hp_views.specs.View.{sight};
+ghost use Rattle.hp_acts.specs.Carrying.{CarriesBy, Carried};
+ghost use Rattle.hp_acts.specs.Plans.{act_plan, close_plan, field_plan};
+ghost use Rattle.hp_acts.specs.Spending.{IsLeftOf};
+ghost use Rattle.hp_acts.specs.declared.token_parts.Spending.TheVariants.{Copies};
 
 use crate::characters::{
     append_pending, comment_into_document, comment_into_first, put_characters, put_comment,
@@ -30,7 +36,11 @@ pub fn carry<'p, B: Below>(
     token: &mut Token<'p>,
     spending: Spending,
     fostering: bool,
-) -> Result<bool, Refusal> {
+) -> Result<bool, Refusal>
+    ensures carried { Carried fostering token.old act result (sight B.heard view.old) (sight B.heard view.new) }
+    ensures left { OnOk result (IsLeftOf token.old token.new) }
+    ensures copies { spending ≡ Copies → token.new ≡ token.old }
+{
     match act {
         Act::If { test, .. } => holds(alloc, view, token, test),
         Act::Unless { test, .. } => fails(alloc, view, token, test),
@@ -49,7 +59,11 @@ pub(crate) fn carry_out<'p, B: Below>(
     token: &mut Token<'p>,
     spending: Spending,
     fostering: bool,
-) -> Result<(), Refusal> {
+) -> Result<(), Refusal>
+    ensures plan { CarriesBy result (sight B.heard view.old) (sight B.heard view.new) (act_plan fostering token.old act) }
+    ensures left { OnOk result (IsLeftOf token.old token.new) }
+    ensures copies { spending ≡ Copies → token.new ≡ token.old }
+{
     match act {
         Act::Characters => put_characters(alloc, view, token, spending, fostering),
         Act::Reconstruct => reconstruct(alloc, view, fostering),
@@ -81,7 +95,9 @@ fn close<'p, B: Below>(
     act: Act,
     token: &Token<'p>,
     fostering: bool,
-) -> Result<(), Refusal> {
+) -> Result<(), Refusal>
+    ensures plan { CarriesBy result (sight B.heard view.old) (sight B.heard view.new) (close_plan token.now act) }
+{
     match act {
         Act::Pop => view.pop(alloc),
         Act::PopTo(set) => view.pop_to(alloc, Kinds::Set(set)),
@@ -107,7 +123,9 @@ fn close<'p, B: Below>(
 }
 
 /// The acts that the token has no part in, on the fields of the state; and those that only steer the row, which change nothing.
-fn set<'p, B: Below>(alloc: Global, view: &mut View<'p, B>, act: Act) -> Result<(), Refusal> {
+fn set<'p, B: Below>(alloc: Global, view: &mut View<'p, B>, act: Act) -> Result<(), Refusal>
+    ensures plan { CarriesBy result (sight B.heard view.old) (sight B.heard view.new) (field_plan act) }
+{
     match act {
         Act::Switch(mode) => view.switch_to(alloc, mode),
         Act::KeepOriginal => view.keep_original(alloc),

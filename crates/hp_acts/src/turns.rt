@@ -66,7 +66,9 @@ fn is_of_attributes(test: Test) -> bool {
 }
 
 /// What becomes of the token's attributes at an act of a row: they are moved unless a later act reads them.
-fn spending_at(row: Row, at: u32, act: Act) -> Spending {
+fn spending_at(row: Row, at: u32, act: Act) -> Spending
+    requires { at < 8 }
+{
     match act {
         Act::Insert => {
             if is_read_from(row, at + 1) {
