@@ -1,5 +1,8 @@
 //! What no contract says: that calls which may want memory succeed where there is some; and what the acts make, beside an
 //! independent builder.
+ghost use Rattle.std.specs.Prelude.{◌≡◌, IfOk};
+ghost use Rattle.hp_elements.specs.declared.sets.Namespace.TheVariants.{Html};
+
 use crate::cases::{CASES, Case};
 use crate::{adopt, append_to_list, close_link, flush, reconstruct};
 use hp_control::{
@@ -31,7 +34,7 @@ fn no_change() -> Change {
     }
 }
 
-fn page() -> View<'static, Nothing> {
+fn page<'p>() -> View<'p, Nothing> {
     View {
         below: Nothing,
         change: no_change(),
@@ -44,7 +47,9 @@ fn page() -> View<'static, Nothing> {
     }
 }
 
-fn tag_of(alloc: Global, name: &str) -> Result<Tag, NoMemory> {
+fn tag_of(alloc: Global, name: &str) -> Result<Tag, NoMemory>
+    ensures { IfOk result (λ tag. tag.namespace ≡ Html) }
+{
     Ok(Tag {
         namespace: Namespace::Html,
         name: Name::from_text(alloc, name)?,
@@ -52,17 +57,19 @@ fn tag_of(alloc: Global, name: &str) -> Result<Tag, NoMemory> {
     })
 }
 
+/// How many edits make the page.
+const MADE: usize = 4;
+
 /// The page of an html element with a body.
-fn body(alloc: Global) -> Result<View<'static, Nothing>, Refusal> {
+fn body<'p>(alloc: Global) -> Result<View<'p, Nothing>, Refusal> {
     let mut view = page();
     view.insert_into_document(alloc, tag_of(alloc, "html")?)?;
     view.insert(alloc, false, tag_of(alloc, "body")?, Point::No)?;
-    view.edits = Edits::new();
     Ok(view)
 }
 
 /// Pending table characters, which go into the tree.
-fn flush_text(alloc: Global, view: &mut View<'static, Nothing>, text: &str) -> Result<(), Refusal> {
+fn flush_text(alloc: Global, view: &mut View<'_, Nothing>, text: &str) -> Result<(), Refusal> {
     view.append_pending(alloc, &Text::from_str(alloc, text)?)?;
     flush(alloc, view)
 }
@@ -71,7 +78,7 @@ fn flush_text(alloc: Global, view: &mut View<'static, Nothing>, text: &str) -> R
 /// `*` for an element with an entry, and else an element.
 fn act(
     alloc: Global,
-    view: &mut View<'static, Nothing>,
+    view: &mut View<'_, Nothing>,
     fostering: bool,
     word: &str,
 ) -> Result<(), Refusal> {
@@ -158,9 +165,9 @@ fn tell_entry(text: &mut String, entry: &FormattingEntry) -> Result<(), NoMemory
 }
 
 /// The edits, the stack, the list.
-fn told(alloc: Global, view: &View<'static, Nothing>) -> Result<String, NoMemory> {
+fn told(alloc: Global, view: &View<'_, Nothing>) -> Result<String, NoMemory> {
     let mut text = String::new(alloc);
-    for edit in view.edits.as_slice() {
+    for edit in view.edits.as_slice().iter().skip(MADE) {
         tell_edit(&mut text, edit)?;
     }
     text.push('|')?;
