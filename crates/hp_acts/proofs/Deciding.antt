@@ -1,5 +1,8 @@
--- What was found out, and then its opposite.
-use Rattle.std.specs.Prelude.{Bool, not}
+-- What was found out, and then its opposite; and a test that tells whether two texts are the same, as one that computes.
+use Rattle.std.proofs.Common.{◌≡◌, ℕ, List, true, false, IsTrue, refl, sym}
+use Rattle.std.specs.Prelude.{Bool, not, ◌↔◌}
+use Rattle.std.specs.Str.{bytes_eq}
+use Rattle.std.proofs.lemmas.Slice.Eq.{bytes_eq-Decides}
 use Rattle.hp_control.specs.Faithful.{Split}
 use Rattle.hp_control.specs.Plan.{Plan, gives, followed_by}
 use Rattle.hp_control.specs.Running.{runs_then, runs_gives}
@@ -7,3 +10,13 @@ use Rattle.hp_views.specs.View.{Sight, Finds}
 
 pub finds_not : (old new : Sight) (plan : Split → Plan Bool) (b : Bool) → Finds old new plan b → Finds old new (λ v. followed_by (plan v) (λ c. gives (not c))) (not b)
 finds_not old new plan b f = record { runs = runs_then (λ c. gives (not c)) f.runs (runs_gives new.heard (not b)); same = f.same }
+
+both : (r b : Bool) → (r ≡ true → b ≡ true) → (b ≡ true → r ≡ true) → r ≡ b
+both true b h k = sym (h refl)
+both false true h k = k refl
+both false false h k = refl
+
+pub told_alike : (r : Bool) (xs ys : List ℕ) → (IsTrue r ↔ (xs ≡ ys)) → r ≡ bytes_eq xs ys
+told_alike r xs ys t =
+    let d = bytes_eq-Decides xs ys in
+    both r (bytes_eq xs ys) (λ h. d.1 (t.0 h)) (λ h. t.1 (d.0 h))

@@ -1,3 +1,4 @@
+pub mod Hidden
 pub mod Rows
 pub mod Spending
 pub mod Plans

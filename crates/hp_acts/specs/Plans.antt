@@ -74,7 +74,6 @@ field_plan act.PushHead = Some push_head_plan
 field_plan act.TakeHeadOff = Some take_head_plan
 field_plan act.Quirks = Some quirks_plan
 field_plan act.EmptyPending = Some empty_pending_plan
-field_plan act.FramesetNotOk = Some frameset_plan
 field_plan act.Flush = None
 field_plan _ = Some leaves_it
 
@@ -119,6 +118,7 @@ act_plan fostering t act.AddMissingToFirst = Some (add_first_plan (tag_of t).att
 act_plan fostering t act.AddMissingToBody = Some (add_body_plan (tag_of t).attributes)
 act_plan fostering t act.PutDoctype = Some (put_document_plan (doctype_of (parts_of t)))
 act_plan fostering t act.QuirksOfDoctype = Some (quirks_of_plan (parts_of t))
+act_plan fostering t act.FramesetNotOk = Some frameset_plan
 act_plan fostering t act.Reconstruct = None
 act_plan fostering t act.AppendToList = None
 act_plan fostering t other = close_plan t other

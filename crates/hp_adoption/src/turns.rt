@@ -1,5 +1,5 @@
 //! The turns of the adoption agency algorithm (13.2.6.4.7).
-ghost use Rattle.std.specs.Prelude.{◌<◌, ◌≤◌, length, IfSome};
+ghost use Rattle.std.specs.Prelude.{◌+◌, ◌^◌, ◌<◌, ◌≤◌, length, IfSome};
 
 use crate::adopting::{Tangle, untangle};
 use crate::entries::strike;
@@ -68,7 +68,8 @@ fn turn_open<'p, B: Below>(
     tag: Tag,
     depth: usize,
 ) -> Result<bool, Refusal>
-    requires { depth < length view.old.change.stack }
+    requires inside { depth < length view.old.change.stack }
+    requires small { depth + 1 < 2 ^ 64 }
 {
     if hides(&view.change.stack, depth) {
         return Ok(false);

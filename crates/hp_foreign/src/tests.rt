@@ -3,7 +3,7 @@ use crate::{
     goes_to_foreign, insert_as_current, insert_foreign, names_foreign, pop_to_point,
     put_replacements, through_foreign,
 };
-use hp_control::{Control, Refusal};
+use hp_control::{Control, OpenElement, Refusal, Stack};
 use hp_elements::{
     Attribute, AttributeSpace, Chain, Known, Name, Namespace, NoMemory, Point, Tag, Text, Token,
 };
@@ -55,6 +55,10 @@ fn dispatched<'p>(
     ])
 }
 
+fn is_at_point(stack: &Stack<OpenElement>) -> bool {
+    !stack.is_empty() && stack.at(0).point == Point::Html
+}
+
 /// A MathML element with an annotation in it, and an SVG element with a text and a foreign object.
 fn built(alloc: Global) -> Result<[bool; 11], Refusal> {
     let mut view = View::whole(Control::start());
@@ -69,7 +73,7 @@ fn built(alloc: Global) -> Result<[bool; 11], Refusal> {
     let inside = dispatched(alloc, &mut view)?;
     insert_as_current(alloc, &mut view, false, false, annotation(alloc)?)?;
     let at_point = dispatched(alloc, &mut view)?;
-    let is_point = view.change.stack.at(0).point == Point::Html;
+    let is_point = is_at_point(&view.change.stack);
     pop_to_point(alloc, &mut view)?;
     let stays = view.change.stack.len() == 2;
     insert_foreign(

@@ -1,6 +1,6 @@
 //! The lines of one item.
 
-ghost use Rattle.std.specs.Prelude.{◌≡◌, [], OnOk, unwrap_or, encode_utf8_all};
+ghost use Rattle.std.specs.Prelude.{◌≡◌, ◌++◌, [], codes, OnOk, unwrap_or, encode_utf8_all};
 ghost use Rattle.std.specs.Option.{option_copied};
 ghost use Rattle.std.specs.List.{concat};
 ghost use Rattle.hp_control.specs.Tree.{Tree};
@@ -15,24 +15,22 @@ use hp_elements::{Chain, Namespace, NoMemory, Tag, Text};
 use std::alloc::Global;
 
 /// What stands before the name of an element.
-fn namespace_text(namespace: Namespace) -> &'static [u8]
-    ensures { result.now ≡ namespace_word namespace }
+fn open_text(namespace: Namespace) -> &'static [u8]
+    ensures { result.now ≡ codes "<" ++ namespace_word namespace }
 {
     match namespace {
-        Namespace::Html => b"",
-        Namespace::MathMl => b"math ",
-        Namespace::Svg => b"svg ",
+        Namespace::Html => b"<",
+        Namespace::MathMl => b"<math ",
+        Namespace::Svg => b"<svg ",
     }
 }
 
 /// Prints an element without its attributes.
-#[tactic(auto, using(crate::proofs::Pieces::prints_then))]
 fn print_opening(out: &mut Out, tag: &Tag, depth: u64) -> Result<(), NoMemory>
     ensures { OnOk result (Prints out.old out.new (opening depth tag.now)) }
 {
     out.indent(depth)?;
-    out.put(b"<")?;
-    out.put(namespace_text(tag.namespace))?;
+    out.put(open_text(tag.namespace))?;
     out.put_text(tag.name.as_str())?;
     out.put(b">\n")?;
     Ok(())

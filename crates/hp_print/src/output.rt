@@ -1,6 +1,6 @@
 //! Where the printed text goes: it is counted, and then written into memory that was taken once.
 
-ghost use Rattle.std.specs.Prelude.{◌≡◌, ◌++◌, OnOk, replicate, encode_utf8_all};
+ghost use Rattle.std.specs.Prelude.{◌≡◌, ◌<◌, ◌++◌, OnOk, replicate, encode_utf8_all};
 ghost use Rattle.std.specs.Str.{chars};
 ghost use Rattle.hp_print.specs.Out.{Prints, is_counting};
 ghost use Rattle.hp_print.specs.Print.{indentation};
@@ -15,6 +15,10 @@ pub enum Out {
 }
 
 const BLANKS: [u8; 64] = [b' '; 64];
+
+/// What a line of depth 63 begins with: that of any lower depth is its front.
+const LINE: &[u8; 128] =
+    b"|                                                                                                                               ";
 
 impl Out {
     /// Whether it is counted.
@@ -65,11 +69,29 @@ impl Out {
     pub fn indent(&mut self, depth: u64) -> Result<(), NoMemory>
         ensures { OnOk result (Prints self.old self.new (indentation depth)) }
     {
+        if depth < 64 {
+            return self.put(line_front(depth));
+        }
+        self.indent_deep(depth)
+    }
+
+    /// The same at any depth.
+    fn indent_deep(&mut self, depth: u64) -> Result<(), NoMemory>
+        ensures { OnOk result (Prints self.old self.new (indentation depth)) }
+    {
         let blanks = depth.checked_add(depth).ok_or(NoMemory)?;
         self.put(b"| ")?;
         self.put_blanks(blanks)?;
         Ok(())
     }
+}
+
+/// What a line of a low depth begins with.
+fn line_front(depth: u64) -> &'static [u8]
+    requires { depth < 64 }
+    ensures { result.now ≡ indentation depth }
+{
+    &LINE[..2 + 2 * depth as usize]
 }
 
 /// Appends so many spaces.

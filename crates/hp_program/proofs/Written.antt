@@ -1,11 +1,26 @@
 -- What was written of a page.
-use Rattle.std.proofs.Common.{◌≡◌, ℕ, ◌<◌, List, length, take, ap, ◌∙◌, subst, false}
-use Rattle.std.specs.Prelude.{Option, None, Some, IfSome}
+use Rattle.std.proofs.Common.{◌≡◌, ℕ, ◌<◌, List, length, take, ap, ◌∙◌, sym, subst, Bool, true, false}
+use Rattle.std.specs.Prelude.{Option, None, Some, IfSome, IsUtf8}
+use Rattle.std.specs.Str.{chars}
 use Rattle.std.specs.Io.KnownBytes.{append_known}
 use Rattle.hp_print.specs.Print.{print}
 use Rattle.hp_program.specs.Answers.{IsTreeText, TakesPart, TakesTree, TakesTreePart}
 use Rattle.hp_program.specs.Page.{page_text, has_markup}
-use Rattle.hp_program.specs.Plain.{printed_page}
+use Rattle.hp_program.specs.Plain.{plain, printed_page}
+use Rattle.hp_text.specs.Text.{without_mark}
+use Rattle.hp_program.proofs.PageText.{has_markup-chars}
+
+-- where the search found markup, there is some
+pub is_found : (page text : List ℕ) (found : Bool) → text ≡ page → IsUtf8 text → found ≡ has_markup text → found ≡ true
+    → has_markup (chars page) ≡ false → ⊥
+is_found page text found is utf8 said there none =
+    let same : has_markup (chars page) ≡ found = ap (λ t. has_markup (chars t)) (sym is) ∙ has_markup-chars text utf8 ∙ sym said in cc
+
+-- the text of the page is that of the bytes
+pub printed_of_bytes : (bytes page text : List ℕ) → page ≡ without_mark bytes
+    → (has_markup (chars page) ≡ false → text ≡ print (plain (chars page))) → has_markup (page_text bytes) ≡ false → text ≡ printed_page bytes
+printed_of_bytes bytes page text is told =
+    let P : List ℕ → Type 0 = λ p. has_markup (chars p) ≡ false → text ≡ print (plain (chars p)) in subst P is told
 
 -- a part of the text of a page without markup was taken, where the bytes that were read are the page's
 pub takes_part : (left : Option (List ℕ)) (read text : List ℕ) (old new : Option (List ℕ)) (n : ℕ)

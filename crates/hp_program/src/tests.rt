@@ -81,9 +81,15 @@ fn markup_is_parsed(rt: HostRuntime) -> Result<(), Fail> {
     let cases: [(&[u8], &[u8]); 8] = [
         (b"a<", b"| <html>\n|   <head>\n|   <body>\n|     \"a<\"\n"),
         (b"a&", b"| <html>\n|   <head>\n|   <body>\n|     \"a&\"\n"),
-        (b"a\r\n\r", b"| <html>\n|   <head>\n|   <body>\n|     \"a\n\n\"\n"),
+        (
+            b"a\r\n\r",
+            b"| <html>\n|   <head>\n|   <body>\n|     \"a\n\n\"\n",
+        ),
         (b"a\0", b"| <html>\n|   <head>\n|   <body>\n|     \"a\"\n"),
-        (b"\xEF\xBB\xBF<p>", b"| <html>\n|   <head>\n|   <body>\n|     <p>\n"),
+        (
+            b"\xEF\xBB\xBF<p>",
+            b"| <html>\n|   <head>\n|   <body>\n|     <p>\n",
+        ),
         (
             b"<table>x<td>y",
             b"| <html>\n|   <head>\n|   <body>\n|     \"x\"\n|     <table>\n|       <tbody>\n|         <tr>\n|           <td>\n|             \"y\"\n",

@@ -47,12 +47,14 @@ fn print_parsed(alloc: Global, page: Page<'_>) -> Result<Vec<u8>, NoMemory>
 /// The printed tree of a page. Of one without markup it is told which tree that is.
 fn print_page(alloc: Global, page: Page<'_>) -> Result<Vec<u8>, NoMemory>
     ensures tree { IfOk result (λ text. IsTreeText text.items) }
-    ensures plain { IfOk result (λ text. is_marked (chars (text_of page)) ≡ false → text.items ≡ print (plain (chars (text_of page)))) }
+    ensures plain { IfOk result (λ text. is_marked (chars (text_of page.entry)) ≡ false → text.items ≡ print (plain (chars (text_of page.entry)))) }
 {
     if has_markup(page.text()) {
-        return print_parsed(alloc, page);
+        let text = print_parsed(alloc, page)?;
+        return Ok(text);
     }
-    print_plain(alloc, page)
+    let text = print_plain(alloc, page)?;
+    Ok(text)
 }
 
 /// What is written for the bytes of a page.

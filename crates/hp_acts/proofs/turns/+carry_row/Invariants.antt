@@ -1,8 +1,8 @@
 use Rattle.std.proofs.Common.{◌-◌}
 use Rattle.hp_acts.proofs.turns.+carry_row.Given as goal
 
-abbrev pub decreases : goal.decreases
-decreases g a = a.depth
+abbrev pub decreases-carry_row : goal.decreases-carry_row
+decreases-carry_row g l = l.depth
 
-abbrev pub decreases-loop-at : goal.decreases-loop-at
-decreases-loop-at g l = 8 - l.at
+abbrev pub decreases-loop-act : goal.decreases-loop-act
+decreases-loop-act g l = 8 - l.at
