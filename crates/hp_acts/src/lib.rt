@@ -9,8 +9,6 @@ mod plain;
 mod questions;
 mod rows;
 mod stack_acts;
-#[cfg(test)]
-mod tests;
 mod token_parts;
 mod turns;
 

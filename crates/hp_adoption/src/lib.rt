@@ -4,8 +4,6 @@
 
 mod adopting;
 mod ark;
-#[cfg(test)]
-mod cases;
 mod climb;
 mod elements;
 mod entries;
@@ -13,8 +11,6 @@ mod links;
 mod pending;
 mod plain;
 mod reconstruction;
-#[cfg(test)]
-mod tests;
 mod turns;
 
 pub use ark::append_to_list;

@@ -5,8 +5,6 @@ mod attributes;
 mod dispatch;
 mod ends;
 mod inserts;
-#[cfg(test)]
-mod tests;
 
 pub use attributes::has_font_attribute;
 pub use dispatch::goes_to_foreign;

@@ -14,8 +14,6 @@ mod place;
 mod pops;
 mod removing;
 mod reset;
-#[cfg(test)]
-mod tests;
 mod tests_of_state;
 mod view;
 mod walks;
