@@ -1,1 +1,4 @@
 pub mod Growth
+pub mod Toward
+pub mod Cutting
+pub mod Steps

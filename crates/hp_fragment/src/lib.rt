@@ -1,8 +1,11 @@
 //! The sequential parser: the lexer and tree construction over a page, one token behind the other.
 #![tactic(auto)]
 
+mod builder;
 mod last;
 mod parsing;
+mod pieces;
+mod stub;
 #[cfg(test)]
 mod tests;
 mod whole;
