@@ -6,26 +6,25 @@ use Rattle.std.specs.Option.{unwrap_or}
 use Rattle.std.proofs.lemmas.Bool.{true≢false}
 use Rattle.std.proofs.lemmas.List.Folds.{list_any-append}
 use Rattle.hp_elements.specs.declared.token.CharClass.{CharClass}
-use Rattle.hp_elements.specs.declared.token.Rest.{Rest}
 use Rattle.hp_elements.specs.declared.token.Token.{Token}
 use Rattle.hp_elements.specs.declared.token.Token.TheVariants as token
 use Rattle.hp_tokens.specs.Advancing.{IsRun, IsRunText, AreRuns, singles, tokens_of}
-use Rattle.hp_tokens.specs.Moves.{Emitted, Lexing}
+use Rattle.hp_tokens.specs.Moves.{Emitted}
 use Rattle.hp_control.specs.declared.edit.Edit.{Edit}
 use Rattle.hp_control.specs.States.{ControlState, IsFormatting, IsValid}
-use Rattle.hp_control.specs.Tree.{Tree, applied_all}
+use Rattle.hp_control.specs.Tree.{applied_all}
 use Rattle.hp_model.specs.AtOnce.{LeaveSame, MakeSame, after_first, built_at_once, handle_at_once, handle_rest}
-use Rattle.hp_model.specs.Handling.{all_turns, bound, handle, handle_all, handle_piece, settled}
+use Rattle.hp_model.specs.Handling.{all_turns, bound, handle, handle_piece, settled}
 use Rattle.hp_model.specs.Rows.{entering, turn}
 use Rattle.hp_model.specs.Runs.{AreRead, Built, Parser, built, switched, told}
 use Rattle.hp_model.specs.Tokens.{is_line_feed}
-use Rattle.hp_model.specs.Turns.{Handled, Turn, goes_on, again, after_turn, before_all, joined, later, left_by, plainly, turns, unchanged}
+use Rattle.hp_model.specs.Turns.{Handled, goes_on, after_turn, before_all, joined, later, left_by, plainly, turns, unchanged}
 use Rattle.hp_model.specs.Whole.{IsRead}
 use Rattle.hp_model.proofs.Handled.{all_turns-valid, handle-valid, piece-valid, settled-valid, turns-end}
 use Rattle.hp_model.proofs.JoinedTexts.{applied-append}
 use Rattle.hp_model.proofs.Manners.{DealsAfter, HandsOn, Manner, drops, pends, hands_on, puts, carried, manner, turn_deals}
 use Rattle.hp_model.proofs.RowLemmas.{joined_assoc, joined_first, joined_last}
-use Rattle.hp_model.proofs.Together.{Together, carried_together, stays, turned_together}
+use Rattle.hp_model.proofs.Together.{carried_together, stays, turned_together}
 
 -- what leaves the same
 same_by : (h k : Handled) → h ≡ k → LeaveSame h k
@@ -195,7 +194,7 @@ characters_at_once class x (y ∷ ys) c v = go (c.skip_lf && (x == 0xA)) (charac
         let d : ControlState = left_by h in
         let p = all_parted class (x ∷ []) rest (settled c) (settled-valid c v) in
         let one : LeaveSame (handle d (token.Characters class rest)) (all_turns d (token.Characters class rest)) =
-            subst (λ k. LeaveSame (handle d (token.Characters class rest)) k) (not_skipping d (token.Characters class rest) p.skip_lf) (more d (all_turns-valid (piece class x) (settled c) tt (settled-valid c v))) in
+        subst (λ k. LeaveSame (handle d (token.Characters class rest)) k) (not_skipping d (token.Characters class rest) p.skip_lf) (more d (all_turns-valid (piece class x) (settled c) tt (settled-valid c v))) in
         same_then (joined h (handle d (token.Characters class rest))) (joined h (all_turns d (token.Characters class rest))) (all_turns (settled c) whole)
         (same_joined h (handle d (token.Characters class rest)) (all_turns d (token.Characters class rest)) one) p.same
 
@@ -211,3 +210,116 @@ runs_at_once (token.EndTag name) c read run v = alone c (token.EndTag name)
 runs_at_once (token.Comment text) c read run v = alone c (token.Comment text)
 runs_at_once (token.Doctype parts) c read run v = alone c (token.Doctype parts)
 runs_at_once token.EndOfInput c read run v = alone c token.EndOfInput
+
+-- what the code points of a run come to, one by one
+record Told (class : CharClass) (text : List ℕ) (rest : List Token) (es : List Emitted) (p : Parser) : Type 0 where
+  pub more : List Emitted
+  pub tokens : tokens_of more ≡ rest
+  pub read : AreRead more
+  pub parser : (built p es).parser ≡ (built (record p { control = left_by (handle p.control (token.Characters class text)) }) more).parser
+  pub edits : (built p es).edits ≡ (handle p.control (token.Characters class text)).outcome.edits ++ (built (record p { control = left_by (handle p.control (token.Characters class text)) }) more).edits
+
+-- a piece tells the lexer nothing
+piece_switch : (class : CharClass) (x : ℕ) (c : ControlState) → IsValid c → (handle_piece c (piece class x)).switch ≡ None
+piece_switch class x c v = go (c.skip_lf && (x == 0xA))
+  where
+    go : (b : Bool) → (if b then unchanged (settled c) else all_turns (settled c) (piece class x)).switch ≡ None
+    go true = refl
+    go false = (all_parted class (x ∷ []) (x ∷ []) (settled c) (settled-valid c v)).switch
+
+told-none : (p : Parser) (h : Handled) → h.switch ≡ None → told p h ≡ record p { control = left_by h }
+told-none p h e = ap (λ s. record { lexing = switched s p.lexing; control = left_by h }) e
+
+first_of : (e : Emitted) (es : List Emitted) (t : Token) (ts : List Token) → tokens_of (e ∷ es) ≡ t ∷ ts → (e.token ≡ t) × (tokens_of es ≡ ts)
+first_of e es t ts h = (cc, cc)
+
+none_of : (t : Token) (ts : List Token) → tokens_of [] ≡ t ∷ ts → ⊥
+none_of t ts h = cc
+
+told_pieces : (class : CharClass) (text : List ℕ) (rest : List Token) (es : List Emitted) (p : Parser) → IsValid p.control → AreRead es → tokens_of es ≡ map (piece class) text ++ rest → Told class text rest es p
+told_pieces class [] rest es p v read e = record { more = es; tokens = e; read = read; parser = refl; edits = refl }
+told_pieces class (x ∷ xs) rest [] p v read e = absurd (none_of (piece class x) (map (piece class) xs ++ rest) e)
+told_pieces class (x ∷ xs) rest (e ∷ es) p v read h =
+    let parts = first_of e es (piece class x) (map (piece class) xs ++ rest) h in
+    let c : ControlState = p.control in
+    let k : Handled = handle_piece c (piece class x) in
+    let q : Parser = record p { control = left_by k } in
+    let one : handle c e.token ≡ k = ap (handle c) parts.0 ∙ joined_last k in
+    let to : told p (handle c e.token) ≡ q = ap (told p) one ∙ told-none p k (piece_switch class x c v) in
+    let more = told_pieces class xs rest es q (piece-valid (piece class x) c tt v) read.1 parts.1 in
+    record {
+      more = more.more;
+      tokens = more.tokens;
+      read = more.read;
+      parser = ap (λ (r : Parser). (built r es).parser) to ∙ more.parser;
+      edits =
+          ap (λ (r : Parser). (handle c e.token).outcome.edits ++ (built r es).edits) to
+          ∙ (ap (λ (o : Handled). o.outcome.edits ++ (built q es).edits) one
+          ∙ (ap (λ (fs : List Edit). k.outcome.edits ++ fs) more.edits
+          ∙ sym (append_assoc k.outcome.edits (handle (left_by k) (token.Characters class xs)).outcome.edits (built (record p { control = left_by (handle (left_by k) (token.Characters class xs)) }) more.more).edits)));
+    }
+
+-- both lead to the same parser, and from every tree to the same tree
+abbrev SameBuilt : Built → Built → Type 0
+SameBuilt b c = (b.parser ≡ c.parser) × MakeSame b.edits c.edits
+
+at_once_after : (p q : Parser) (h k : Handled) (b : Built) (ts : List Token) → LeaveSame h k → q ≡ told p k → SameBuilt b (built_at_once q ts)
+    → SameBuilt (record { parser = b.parser; edits = h.outcome.edits ++ b.edits }) (record { parser = (built_at_once (told p k) ts).parser; edits = k.outcome.edits ++ (built_at_once (told p k) ts).edits })
+at_once_after p q h k b ts s e f =
+    let g : SameBuilt b (built_at_once (told p k) ts) = subst (λ r. SameBuilt b (built_at_once r ts)) e f in
+    (g.0, make-both h.outcome.edits k.outcome.edits b.edits (built_at_once (told p k) ts).edits s.edits g.1)
+
+told-same : (p : Parser) (h k : Handled) → LeaveSame h k → told p h ≡ told p k
+told-same p h k s =
+    ap (λ x. record { lexing = switched x p.lexing; control = left_by h }) s.switch
+    ∙ ap (λ c. record { lexing = switched k.switch p.lexing; control = c }) s.control
+
+-- a run of characters, taken at once
+run_switch : (class : CharClass) (x : ℕ) (xs : List ℕ) (c : ControlState) → IsValid c → (handle c (token.Characters class (x ∷ xs))).switch ≡ None
+run_switch class x [] c v = ap (λ (h : Handled). h.switch) (joined_last (handle_piece c (piece class x))) ∙ piece_switch class x c v
+run_switch class x (y ∷ ys) c v =
+    let k : Handled = handle_piece c (piece class x) in
+    ap (λ s. later s (handle (left_by k) (token.Characters class (y ∷ ys))).switch) (piece_switch class x c v)
+    ∙ ap (λ s. later None s) (run_switch class y ys (left_by k) (piece-valid (piece class x) c tt v))
+
+run_at_once : (class : CharClass) (x : ℕ) (xs : List ℕ) (ts : List Token) (es : List Emitted) (p : Parser) → AreRead es → IsRunText (x ∷ xs) → tokens_of es ≡ map (piece class) (x ∷ xs) ++ singles ts → IsValid p.control
+    → ((fs : List Emitted) (q : Parser) → AreRead fs → singles ts ≡ tokens_of fs → IsValid q.control → SameBuilt (built q fs) (built_at_once q ts))
+    → SameBuilt (built p es) (built_at_once p (token.Characters class (x ∷ xs) ∷ ts))
+run_at_once class x xs ts es p read run e v later_ones =
+    let t : Token = token.Characters class (x ∷ xs) in
+    let h : Handled = handle p.control t in
+    let told_so = told_pieces class (x ∷ xs) (singles ts) es p v read e in
+    let q : Parser = record p { control = left_by h } in
+    let s = runs_at_once t p.control tt run v in
+    let to : q ≡ told p (handle_at_once p.control t) = sym (told-none p h (run_switch class x xs p.control v)) ∙ told-same p h (handle_at_once p.control t) s in
+    let more = later_ones told_so.more q told_so.read (sym told_so.tokens) (handle-valid t p.control tt v) in
+    let g = at_once_after p q h (handle_at_once p.control t) (built q told_so.more) ts s to more in
+    (told_so.parser ∙ g.0, λ tree. ap (applied_all tree) told_so.edits ∙ g.1 tree)
+
+-- a token that is no run
+one_at_once : (t : Token) (ts : List Token) (es : List Emitted) (p : Parser) → AreRead es → IsRun t → tokens_of es ≡ t ∷ singles ts → IsValid p.control
+    → ((fs : List Emitted) (q : Parser) → AreRead fs → singles ts ≡ tokens_of fs → IsValid q.control → SameBuilt (built q fs) (built_at_once q ts))
+    → SameBuilt (built p es) (built_at_once p (t ∷ ts))
+one_at_once t ts [] p read run e v later_ones = absurd (none_of t (singles ts) e)
+one_at_once t ts (e ∷ es) p read run h v later_ones =
+    let parts = first_of e es t (singles ts) h in
+    let own : IsRead t = subst IsRead parts.0 read.0 in
+    let s = runs_at_once t p.control own run v in
+    let q : Parser = told p (handle p.control t) in
+    let more = later_ones es q read.1 (sym parts.1) (handle-valid t p.control own v) in
+    subst (λ x. SameBuilt (record { parser = (built (told p (handle p.control x)) es).parser; edits = (handle p.control x).outcome.edits ++ (built (told p (handle p.control x)) es).edits }) (built_at_once p (t ∷ ts)))
+    (sym parts.0) (at_once_after p q (handle p.control t) (handle_at_once p.control t) (built q es) ts s (told-same p (handle p.control t) (handle_at_once p.control t) s) more)
+
+pub built_so : (es : List Emitted) (ts : List Token) (p : Parser) → AreRead es → AreRuns ts → singles ts ≡ tokens_of es → IsValid p.control → ((built p es).parser ≡ (built_at_once p ts).parser) × MakeSame (built p es).edits (built_at_once p ts).edits
+built_so [] [] p read runs e v = (refl, λ t. refl)
+built_so (e ∷ es) [] p read runs h v = absurd (nothing e es h)
+  where
+    nothing : (e : Emitted) (es : List Emitted) → [] ≡ tokens_of (e ∷ es) → ⊥
+    nothing e es h = cc
+built_so es (token.Characters class [] ∷ ts) p read runs e v = absurd runs.0
+built_so es (token.Characters class (x ∷ xs) ∷ ts) p read runs e v = run_at_once class x xs ts es p read runs.0 (sym e) v (λ fs q r f. built_so fs ts q r runs.1 f)
+built_so es (token.Start self_closing tag ∷ ts) p read runs e v = one_at_once (token.Start self_closing tag) ts es p read tt (sym e) v (λ fs q r f. built_so fs ts q r runs.1 f)
+built_so es (token.EndTag name ∷ ts) p read runs e v = one_at_once (token.EndTag name) ts es p read tt (sym e) v (λ fs q r f. built_so fs ts q r runs.1 f)
+built_so es (token.Comment text ∷ ts) p read runs e v = one_at_once (token.Comment text) ts es p read tt (sym e) v (λ fs q r f. built_so fs ts q r runs.1 f)
+built_so es (token.Doctype parts ∷ ts) p read runs e v = one_at_once (token.Doctype parts) ts es p read tt (sym e) v (λ fs q r f. built_so fs ts q r runs.1 f)
+built_so es (token.EndOfInput ∷ ts) p read runs e v = one_at_once token.EndOfInput ts es p read tt (sym e) v (λ fs q r f. built_so fs ts q r runs.1 f)

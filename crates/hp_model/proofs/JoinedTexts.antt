@@ -1,5 +1,5 @@
 -- A text that is put behind a text in the same place joins it: one edit does what the two do, in every tree.
-use Rattle.std.proofs.Common.{◌≡◌, ℕ, zero, suc, ◌==◌, List, [], ◌∷◌, ◌++◌, length, map, Bool, true, false, ◌||◌, ◌&&◌, refl, ap, sym, ◌∙◌, append_assoc, nat_lt}
+use Rattle.std.proofs.Common.{◌≡◌, ℕ, zero, suc, ◌==◌, List, [], ◌∷◌, ◌++◌, length, Bool, true, false, ◌||◌, ◌&&◌, refl, ap, sym, ◌∙◌, append_assoc, nat_lt}
 use Rattle.std.specs.Prelude.{if◌then◌else◌}
 use Rattle.std.specs.List.{list_any}
 use Rattle.std.proofs.lemmas.Bool.{true≢false}
@@ -11,7 +11,7 @@ use Rattle.hp_control.specs.declared.edit.Place.{Place}
 use Rattle.hp_control.specs.declared.edit.Place.TheVariants.{Into, Foster}
 use Rattle.hp_control.specs.declared.edit.Ref.{Ref}
 use Rattle.hp_control.specs.declared.edit.Ref.TheVariants.{Fixed, Older, Own}
-use Rattle.hp_control.specs.Tree.{Item, Element, Text, Comment, Doctype, Branch, Tree, applied, applied_all, beside, branch, has_parent, id_of, in_each, in_one, is_element, is_place, is_there, leads_into_document, put, put_before, put_child, put_last, stands_in, with_inside}
+use Rattle.hp_control.specs.Tree.{Item, Element, Text, Comment, Doctype, Tree, applied, applied_all, beside, branch, has_parent, id_of, in_each, in_one, is_element, is_place, is_there, leads_into_document, put, put_before, put_last, stands_in, with_inside}
 use Rattle.hp_model.specs.AtOnce.{MakeSame}
 
 pub applied-append : (t : Tree) (es fs : List Edit) → applied_all t (es ++ fs) ≡ applied_all (applied_all t es) fs
@@ -254,6 +254,6 @@ texts_join p a b t = sym (go (is_place t p) (leads_into_document t p) refl refl)
         let here : (text : List ℕ) → once t text ≡ put t (Text text) p = λ text. ap (λ k. if k then (if leads_into_document t p then t else put t (Text text) p) else t) e ∙ ap (λ l. if l then t else put t (Text text) p) f in
         let u : Tree = put t (Text a) p in
         let there : once u b ≡ put u (Text b) p =
-            ap (λ k. if k then (if leads_into_document u p then u else put u (Text b) p) else u) (place-by t u p (put-length t (Text a) p) ∙ e)
-            ∙ ap (λ l. if l then u else put u (Text b) p) (leads-stay t p a ∙ f) in
+        ap (λ k. if k then (if leads_into_document u p then u else put u (Text b) p) else u) (place-by t u p (put-length t (Text a) p) ∙ e)
+        ∙ ap (λ l. if l then u else put u (Text b) p) (leads-stay t p a ∙ f) in
         ap (λ tree. once tree b) (here a) ∙ (there ∙ (put-twice t p a b ∙ sym (here (a ++ b))))

@@ -1,5 +1,5 @@
 -- What the rules do with characters: in each mode, for each class, one of a few things that all code points of a run meet alike.
-use Rattle.std.proofs.Common.{◌≡◌, ℕ, zero, suc, List, [], ◌∷◌, ◌++◌, Bool, true, false, Option, Some, None, refl, sym, ap, ◌∙◌, subst}
+use Rattle.std.proofs.Common.{◌≡◌, ℕ, suc, List, [], Bool, true, false, None, refl, ap, ◌∙◌}
 use Rattle.std.specs.Prelude.{if◌then◌else◌, slice_get}
 use Rattle.hp_elements.specs.Names.{text_of}
 use Rattle.hp_elements.specs.Rules.{Plan, ends, ◌⨾◌}
@@ -12,13 +12,12 @@ use Rattle.hp_elements.specs.declared.token.CharClass.TheVariants.{White, Nul, O
 use Rattle.hp_elements.specs.declared.token.Kind.TheVariants.{Characters}
 use Rattle.hp_elements.specs.declared.token.Mode.{Mode}
 use Rattle.hp_elements.specs.declared.token.Mode.TheVariants as mode
-use Rattle.hp_elements.specs.declared.token.Token.{Token}
 use Rattle.hp_elements.specs.declared.token.Token.TheVariants as token
 use Rattle.hp_control.specs.declared.edit.Child.TheVariants as child
 use Rattle.hp_control.specs.declared.element.OpenElement.{OpenElement}
 use Rattle.hp_control.specs.Acts.{append_pending, frameset_not_ok, put_here}
 use Rattle.hp_control.specs.Adoption.{reconstruct}
-use Rattle.hp_control.specs.Composed.{current_is, is_one}
+use Rattle.hp_control.specs.Composed.{is_one}
 use Rattle.hp_control.specs.Foreign.{is_foreign, replaced}
 use Rattle.hp_control.specs.Outcome.{Act, and_then, nothing_done}
 use Rattle.hp_control.specs.States.{ControlState}

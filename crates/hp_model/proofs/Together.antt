@@ -2,7 +2,6 @@
 use Rattle.std.proofs.Common.{◌≡◌, List, [], ◌∷◌, ◌++◌, ℕ, Bool, true, false, ◌||◌, refl, sym, ap, ◌∙◌, subst, append_assoc, inl, inr}
 use Rattle.std.specs.Prelude.{if◌then◌else◌, All}
 use Rattle.std.specs.List.{list_any}
-use Rattle.std.proofs.lemmas.Bool.{true≢false}
 use Rattle.std.proofs.lemmas.List.{map-append}
 use Rattle.std.proofs.lemmas.List.Folds.{list_any-append}
 use Rattle.hp_elements.specs.declared.kinds.Kinds.TheVariants as kinds
@@ -17,17 +16,17 @@ use Rattle.hp_control.specs.declared.edit.Edit.TheVariants.{Put}
 use Rattle.hp_control.specs.declared.element.OpenElement.{OpenElement}
 use Rattle.hp_control.specs.Acts.{headed, place, touching}
 use Rattle.hp_control.specs.Adoption.{reconstruct}
-use Rattle.hp_control.specs.Foreign.{is_annotation, is_end_of_input, is_foreign, is_svg_start, enters, replaced}
+use Rattle.hp_control.specs.Foreign.{is_foreign}
 use Rattle.hp_control.specs.KindTests.{within}
 use Rattle.hp_control.specs.Outcome.{Outcome, Touch, after, becomes}
 use Rattle.hp_control.specs.States.{ControlState, IsFormatting, is_html}
-use Rattle.hp_control.specs.Tree.{Tree, applied_all}
+use Rattle.hp_control.specs.Tree.{applied_all}
 use Rattle.hp_model.specs.AtOnce.{LeaveSame, MakeSame}
 use Rattle.hp_model.specs.Rows.{entering, is_head_mode}
-use Rattle.hp_model.specs.Turns.{Handled, joined, left_by, plainly}
+use Rattle.hp_model.specs.Turns.{Handled, joined, plainly}
 use Rattle.hp_model.proofs.JoinedTexts.{applied-append, texts_join}
 use Rattle.hp_model.proofs.Manners.{Manner, drops, pends, hands_on, puts, carried, in_foreign, in_mode, is_colgroup, keeps_text, manner, put_by, replaced_if}
-use Rattle.hp_model.proofs.Reconstructed.{Fresh, IsInline, Rebuilds, Topped, rebuilds, reconstruct-fresh, reconstructed-fresh}
+use Rattle.hp_model.proofs.Reconstructed.{Fresh, Rebuilds, Topped, rebuilds, reconstruct-fresh, reconstructed-fresh}
 
 -- the first of two outcomes, the second in the state that it left, and that of both at once
 pub record Together (a b both : Outcome) : Type 0 where
