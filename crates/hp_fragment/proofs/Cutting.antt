@@ -3,8 +3,9 @@ use Rattle.std.proofs.Common.{◌≡◌, ℕ, zero, suc, ◌+◌, ◌<◌, ◌�
 use Rattle.std.specs.Prelude.{◌==◌, true, IsUtf8, slice_index}
 use Rattle.std.specs.Str.{chars, IsCharBoundary}
 use Rattle.memchr.specs.Find.{IsFirstByte, is_byte}
-use Rattle.std.proofs.lemmas.Bool.{cases_lt, eq-eqb, eqb-true}
-use Rattle.std.proofs.lemmas.Str.{chars-append, encode_ascii, encodes-chars, length-le-encodes, IsCharBoundary-after_ascii, IsUtf8-drop}
+use Rattle.std.proofs.lemmas.Bool.{eq-eqb, eqb-true}
+use Rattle.std.proofs.lemmas.List.{take-append-drop}
+use Rattle.std.proofs.lemmas.Str.{chars-append, encode_ascii, encodes-chars, length-le-encodes, IsCharBoundary-after_ascii, IsUtf8-take}
 use Rattle.hp_steps.specs.Closing.{EndsAtTag}
 use lib.Utf8.{encode, encodes}
 
@@ -53,3 +54,23 @@ pub boundary-behind : (bytes : List ℕ) (n : ℕ) → IsUtf8 bytes → IsFirstB
 boundary-behind bytes n utf8 first =
     let is : slice_index bytes n ≡ 62 = eqb-true (slice_index bytes n) 62 first.1 in
     IsCharBoundary-after_ascii bytes n utf8 first.0.high (omega (arith, is))
+
+pub first-of : (bytes other : List ℕ) (at : Option ℕ) (n : ℕ) → other ≡ bytes → at ≡ Some n → IsFirstByte (is_byte 62) other at → IsFirstByte (is_byte 62) bytes (Some n)
+first-of bytes other at n same is first =
+    subst (IsFirstByte (is_byte 62) bytes) is (subst (λ (bs : List ℕ). IsFirstByte (is_byte 62) bs at) same first)
+
+pub none-of : (bytes other : List ℕ) (at : Option ℕ) → other ≡ bytes → at ≡ None → IsFirstByte (is_byte 62) other at → IsFirstByte (is_byte 62) bytes None
+none-of bytes other at same is first =
+    subst (IsFirstByte (is_byte 62) bytes) is (subst (λ (bs : List ℕ). IsFirstByte (is_byte 62) bs at) same first)
+
+-- what is cut off and what is left are the text
+pub cut-whole : (bytes front back : List ℕ) (n : ℕ) → IsUtf8 bytes → IsCharBoundary bytes n → front ≡ take n bytes → back ≡ drop n bytes → chars bytes ≡ chars front ++ chars back
+cut-whole bytes front back n utf8 boundary is_front is_back =
+    sym (ap chars (take-append-drop n bytes))
+    ∙ (chars-append (take n bytes) (drop n bytes) (IsUtf8-take bytes n utf8 boundary)
+    ∙ (ap (λ (x : List ℕ). chars x ++ chars (drop n bytes)) (sym is_front) ∙ ap (λ (x : List ℕ). chars front ++ chars x) (sym is_back)))
+
+pub cut-closed : (bytes front : List ℕ) (n : ℕ) → IsUtf8 bytes → IsFirstByte (is_byte 62) bytes (Some n) → front ≡ take (n + 1) bytes → EndsAtTag (chars front)
+cut-closed bytes front n utf8 first is =
+    subst (λ (x : List ℕ). EndsAtTag (chars x)) (sym is)
+    (ends-chars (take (n + 1) bytes) (IsUtf8-take bytes (n + 1) utf8 (boundary-behind bytes n utf8 first)) (found-ends bytes n first))

@@ -2,3 +2,9 @@ pub mod Growth
 pub mod Toward
 pub mod Cutting
 pub mod Steps
+pub mod Numbers
+pub mod NextPiece
+pub mod Ended
+pub mod Took
+pub mod Going
+pub mod Started

@@ -1,5 +1,7 @@
 -- Tokens that are handled one behind the other.
-use Rattle.std.proofs.Common.{◌≡◌, List, [], ◌∷◌, ◌++◌, refl, ap, ◌∙◌, sym, subst, Option, None}
+use Rattle.std.proofs.Common.{◌≡◌, List, [], ◌∷◌, ◌++◌, true, false, refl, ap, ◌∙◌, sym, subst, Option, None, Some}
+use Rattle.std.specs.Prelude.{is_some}
+use Rattle.hp_elements.specs.declared.token.Rest.{Rest}
 use Rattle.hp_elements.specs.declared.token.Token.{Token}
 use Rattle.hp_tokens.specs.Advancing.{AreRuns}
 use Rattle.hp_control.specs.Faithful.{StandsOn}
@@ -10,7 +12,7 @@ use Rattle.hp_views.specs.View.{split_of}
 use Rattle.hp_model.proofs.Handled.{handle-valid}
 use Rattle.hp_model.specs.Turns.{left_by}
 use Rattle.hp_model.specs.Whole.{IsRead}
-use Rattle.hp_steps.specs.AtOnce.{RunsAtOnce, handle_at_once}
+use Rattle.hp_model.specs.AtOnce.{RunsAtOnce, handle_at_once}
 use Rattle.hp_steps.specs.Handling.{AllRead, AreQuiet, left_after, made_after}
 use Rattle.hp_steps.proofs.Together.{applied-append}
 use Rattle.hp_fragment.specs.declared.builder.Builder.{Builder}
@@ -71,3 +73,7 @@ last_end start now tokens rest may h is = record { read = may (subst AllRead (sy
 
 pub next_read : (before rest : List Token) (t : Token) → AllRead before → before ≡ t ∷ rest → IsRead t × AllRead rest
 next_read before rest t h is = subst AllRead is h
+
+pub none_told : (o : Option Rest) → is_some o ≡ false → o ≡ None
+none_told None h = refl
+none_told (Some rest) h = let no : true ≡ false = h in cc

@@ -3,7 +3,7 @@ use Rattle.std.specs.Prelude.{◌≡◌, ℕ, ◌<◌, ◌≤◌, ◌^◌, Bool,
 use Rattle.std.specs.Str.{chars}
 use Rattle.hp_elements.specs.declared.token.Rest.{Rest}
 use Rattle.hp_elements.specs.declared.token.Token.{Token}
-use Rattle.hp_names.specs.BuiltIn.{built_in}
+use Rattle.hp_names.specs.References.{Reference}
 use Rattle.hp_tokens.specs.Advancing.{held}
 use Rattle.hp_tokens.specs.Moves.{needs_more, move}
 use Rattle.hp_tokens.specs.Ranks.{weight}
@@ -13,7 +13,7 @@ use Rattle.hp_lexer.specs.declared.lexer.Asked.TheVariants as asked
 use Rattle.hp_lexer.specs.declared.lexer.Lexer.{Lexer}
 use Rattle.hp_lexer.specs.Standing.{is_answered, stands, load, switched}
 use Rattle.hp_lexer.specs.Table.{table}
-use Rattle.hp_steps.specs.AtOnce.{handle_at_once}
+use Rattle.hp_model.specs.AtOnce.{handle_at_once}
 use Rattle.hp_steps.specs.Closing.{AreCharacters, EndsAtTag}
 use Rattle.hp_steps.specs.Handling.{AreQuiet, left_after, made_after}
 use Rattle.hp_steps.specs.Standing.{HasRead}
@@ -33,26 +33,26 @@ pub record IsAtEnd (p : Parsing) : Type 0 where
 
 -- The run over the page has come to where the lexer stands, to the control state, and to edits that make the tree. In a piece
 -- nothing stands behind a `>`.
-pub record Reads (page : List ℕ) (p : Parsing) : Type 0 where
+pub record Reads (refs : List Reference) (page : List ℕ) (p : Parsing) : Type 0 where
   pub edits : List Edit
-  pub read : HasRead built_in page (stands p.lexer p.input) (chars p.later.now) (control_of p.builder) edits
+  pub read : HasRead refs page (stands p.lexer p.input) (chars p.later.now) (control_of p.builder) edits
   pub grown : grown p.builder ≡ applied_all document edits
   pub closed : EndsAtTag (stands p.lexer p.input).unread
-  pub names : p.lexer.names ≡ built_in
+  pub names : p.lexer.names ≡ refs
 
 -- the piece is used up
-pub record HasEnded (page : List ℕ) (p : Parsing) : Type 0 where
-  pub reads : Reads page p
-  pub needs : move (table built_in) (stands p.lexer p.input) ≡ needs_more
+pub record HasEnded (refs : List Reference) (page : List ℕ) (p : Parsing) : Type 0 where
+  pub reads : Reads refs page p
+  pub needs : move (table refs) (stands p.lexer p.input) ≡ needs_more
 
 -- a step: the piece goes on, and the lexer's load is smaller; or it is used up
 abbrev pub StepsOn : Parsing → Parsing → Bool → Type 0
 StepsOn old new true = IsReady new × (load new.lexer new.input < load old.lexer old.input) × (new.later ≡ old.later)
 StepsOn old new false = IsAtEnd new × (new.later ≡ old.later)
 
-abbrev pub ReadsOn : List ℕ → Parsing → Bool → Type 0
-ReadsOn page new true = Reads page new
-ReadsOn page new false = HasEnded page new
+abbrev pub ReadsOn : List Reference → List ℕ → Parsing → Bool → Type 0
+ReadsOn refs page new true = Reads refs page new
+ReadsOn refs page new false = HasEnded refs page new
 
 -- the next piece, where there is one
 abbrev pub TakesPiece : Parsing → Parsing → Bool → Type 0
@@ -60,14 +60,14 @@ TakesPiece old new true = IsReady new × (length new.later.now < length old.late
 TakesPiece old new false = IsAtEnd new
 
 -- the whole page was read
-pub record HasReadAll (page : List ℕ) (p : Parsing) : Type 0 where
-  pub ended : HasEnded page p
+pub record HasReadAll (refs : List Reference) (page : List ℕ) (p : Parsing) : Type 0 where
+  pub ended : HasEnded refs page p
   pub later : chars p.later.now ≡ []
   pub used : p.input.text ≡ []
 
-abbrev pub ReadsPiece : List ℕ → Parsing → Bool → Type 0
-ReadsPiece page new true = Reads page new
-ReadsPiece page new false = HasReadAll page new
+abbrev pub ReadsPiece : List Reference → List ℕ → Parsing → Bool → Type 0
+ReadsPiece refs page new true = Reads refs page new
+ReadsPiece refs page new false = HasReadAll refs page new
 
 -- the lexer, switched where a token calls for that
 abbrev pub turned : Option Rest → Lexer → Lexer

@@ -70,7 +70,7 @@ impl<'p> Builder<'p> {
         requires runs { AreRuns tokens }
         ensures { OnOk result (HandledAll self.old self.new tokens.entry) }
     {
-        crate::stub::at_once()?;
+        hp_model::at_once();
         for token in tokens {
             if self.handle_one(alloc, token)?.is_some() {
                 return Err(NoMemory);

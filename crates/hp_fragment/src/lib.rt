@@ -5,7 +5,6 @@ mod builder;
 mod last;
 mod parsing;
 mod pieces;
-mod stub;
 #[cfg(test)]
 mod tests;
 mod whole;

@@ -1,9 +1,11 @@
 // A run of the sequential parser over a page.
-ghost use Rattle.std.specs.Prelude.{◌≡◌, ℕ, List, [], ◌∷◌, IfOk, OnOk};
+ghost use Rattle.std.specs.Prelude.{◌≡◌, ◌≢◌, ◌^◌, ℕ, List, [], ◌∷◌, true, false, IfOk, OnOk};
 ghost use Rattle.std.specs.Str.{chars};
 ghost use Rattle.hp_names.specs.BuiltIn.{built_in};
+ghost use Rattle.hp_names.specs.References.{Reference};
 ghost use Rattle.hp_text.specs.Page.{text_of};
 ghost use Rattle.hp_tokens.specs.Advancing.{AreRuns};
+ghost use Rattle.hp_control.specs.States.{lex_start};
 ghost use Rattle.hp_lexer.specs.declared.lexer.Asked.TheVariants as asked;
 ghost use Rattle.hp_model.specs.Whole.{IsRead};
 ghost use Rattle.hp_run.specs.Pages.{IsTreeOf};
@@ -17,9 +19,10 @@ use crate::last::{is_character, is_start, of_page};
 use crate::pieces::cut;
 use hp_arena::Tree;
 use hp_control::Control;
-use hp_elements::{Token, Tokens};
+use hp_elements::{Rest, Token, Tokens};
 use hp_lexer::{Cursor, Lexer, Step};
 use hp_text::Page;
+use hp_tokens::OwnedText;
 use std::alloc::Global;
 
 /// The sequential parser within a page. It reads the page in pieces, each of which ends at a `>`, so that the lexer goes no
@@ -38,15 +41,14 @@ impl<'p> Parsing<'p> {
     /// The start of the page: the document alone, and the lexer in the data state.
     pub fn of_page(alloc: Global, page: Page<'p>) -> Result<Parsing<'p>, NoMemory>
         ensures ready { IfOk result IsReady }
-        ensures reads { IfOk result (Reads (chars (text_of page.entry))) }
+        ensures reads { IfOk result (Reads built_in (chars (text_of page.entry))) }
     {
-        let control = Control::start();
-        let lexer = Lexer::from_state(alloc, &control.lex)?;
+        let builder = Builder::of_page(alloc, Control::start())?;
         Ok(Parsing {
-            lexer,
+            lexer: page_lexer(),
             input: Cursor::of_str(""),
             later: page.as_str(),
-            builder: Builder::of_page(alloc, control)?,
+            builder,
         })
     }
 
@@ -54,7 +56,7 @@ impl<'p> Parsing<'p> {
     pub fn run(&mut self, alloc: Global) -> Result<(), NoMemory>
         requires ready { IsReady self.old }
         ensures at_end { OnOk result (IsAtEnd self.new) }
-        ensures reads { OnOk result ((page : List ℕ) → Reads page self.old → HasReadAll page self.new) }
+        ensures reads { OnOk result ((refs : List Reference) (page : List ℕ) → Reads refs page self.old → HasReadAll refs page self.new) }
     {
         'pieces: loop {
             self.read_piece(alloc)?;
@@ -69,7 +71,7 @@ impl<'p> Parsing<'p> {
         requires ready { IsReady self.old }
         ensures at_end { OnOk result (IsAtEnd self.new) }
         ensures later { OnOk result (self.new.later ≡ self.old.later) }
-        ensures reads { OnOk result ((page : List ℕ) → Reads page self.old → HasEnded page self.new) }
+        ensures reads { OnOk result ((refs : List Reference) (page : List ℕ) → Reads refs page self.old → HasEnded refs page self.new) }
     {
         'steps: loop {
             if !self.step(alloc)? {
@@ -82,15 +84,15 @@ impl<'p> Parsing<'p> {
     fn take_piece(&mut self) -> Result<bool, NoMemory>
         requires at_end { IsAtEnd self.old }
         ensures takes { IfOk result (TakesPiece self.old self.new) }
-        ensures reads { IfOk result (λ more. (page : List ℕ) → HasEnded page self.old → ReadsPiece page self.new more) }
+        ensures reads { IfOk result (λ more. (refs : List Reference) (page : List ℕ) → HasEnded refs page self.old → ReadsPiece refs page self.new more) }
     {
-        if self.input.peek().is_some() {
+        if !self.is_used_up() {
             return Err(NoMemory);
         }
-        if self.later.is_empty() {
+        if self.is_last() {
             return Ok(false);
         }
-        if !self.lexer.lex.ahead.is_empty() {
+        if !self.holds_nothing() {
             return Err(NoMemory);
         }
         let (piece, later) = cut(self.later);
@@ -99,13 +101,35 @@ impl<'p> Parsing<'p> {
         Ok(true)
     }
 
+    /// Whether nothing of the piece is left.
+    fn is_used_up(&self) -> bool
+        ensures { result ≡ true → self.now.input.text ≡ [] }
+    {
+        self.input.peek().is_none()
+    }
+
+    /// Whether nothing follows the piece.
+    fn is_last(&self) -> bool
+        ensures last { result ≡ true → self.now.later.now ≡ [] }
+        ensures more { result ≡ false → self.now.later.now ≢ [] }
+    {
+        self.later.is_empty()
+    }
+
+    /// Whether the lexer has read nothing ahead.
+    fn holds_nothing(&self) -> bool
+        ensures { result ≡ true → self.now.lexer.lex.ahead ≡ [] }
+    {
+        self.lexer.lex.ahead.is_empty()
+    }
+
     /// One step of the lexer, and what it calls for. Answers whether the piece goes on.
     fn step(&mut self, alloc: Global) -> Result<bool, NoMemory>
         requires ready { IsReady self.old }
         ensures steps { IfOk result (StepsOn self.old self.new) }
-        ensures reads { IfOk result (λ more. (page : List ℕ) → Reads page self.old → ReadsOn page self.new more) }
+        ensures reads { IfOk result (λ more. (refs : List Reference) (page : List ℕ) → Reads refs page self.old → ReadsOn refs page self.new more) }
     {
-        crate::stub::at_once()?;
+        hp_model::at_once();
         hp_lexer::steps_fall();
         match self.lexer.next(alloc, &mut self.input)? {
             Step::Tokens { tokens, .. } => {
@@ -134,10 +158,14 @@ impl<'p> Parsing<'p> {
         let mut tokens = tokens;
         if tokens.len() != 1 {
             self.builder.handle_all(alloc, tokens)?;
-            return self.builder.grow_by_batch(alloc);
+            self.builder.grow_by_batch(alloc)?;
+            return Ok(());
         }
         match tokens.pop() {
-            Some(token) => self.handle_only(alloc, token),
+            Some(token) => {
+                self.handle_only(alloc, token)?;
+                Ok(())
+            }
             None => Err(NoMemory),
         }
     }
@@ -150,33 +178,46 @@ impl<'p> Parsing<'p> {
         requires runs { AreRuns (token ∷ []) }
         ensures { OnOk result (Took self.old self.new (token.entry ∷ [])) }
     {
-        crate::stub::at_once()?;
+        hp_model::at_once();
         hp_lexer::steps_fall();
         let is_text = is_character(&token);
         let switch = self.builder.handle_one(alloc, token)?;
         self.builder.grow_by_batch(alloc)?;
-        if let Some(rest) = switch {
-            if is_text {
-                return Err(NoMemory);
+        match switch {
+            None => Ok(()),
+            Some(rest) => {
+                if is_text {
+                    return Err(NoMemory);
+                }
+                self.lexer.switch(rest);
+                Ok(())
             }
-            self.lexer.switch(rest);
         }
-        Ok(())
     }
 
     /// The end of input, and the whole tree.
     pub fn end(self, alloc: Global) -> Result<Tree<'p>, NoMemory>
         requires at_end { IsAtEnd self }
-        ensures { IfOk result (λ tree. (page : List ℕ) → HasReadAll page self.entry → IsTreeOf built_in page tree.branches) }
+        ensures { IfOk result (λ tree. (refs : List Reference) (page : List ℕ) → HasReadAll refs page self.entry → IsTreeOf refs page tree.branches) }
     {
-        crate::stub::at_once()?;
+        hp_model::at_once();
         let Parsing {
             lexer, mut builder, ..
         } = self;
         let tokens = lexer.finish(alloc)?;
         handle_last(alloc, &mut builder, tokens)?;
-        builder.into_tree(alloc)
+        let tree = builder.into_tree(alloc)?;
+        Ok(tree)
     }
+}
+
+/// The lexer in the data state, before the first start tag: the last one's name counts as empty.
+fn page_lexer() -> Lexer
+    ensures { result ≡ record { lex = lex_start; names = built_in; asked = asked.Nothing; rested = 2 ^ 32 } }
+{
+    let mut lexer = Lexer::at_rest(Rest::Data, false);
+    lexer.lex.machine.last_tag = Some(OwnedText::new());
+    lexer
 }
 
 /// Handles the tokens of the end of input, of which none is a start tag.
@@ -189,7 +230,7 @@ fn handle_last<'p>(
     requires runs { AreRuns tokens }
     ensures { OnOk result (HandledLast builder.old builder.new tokens.entry) }
 {
-    crate::stub::at_once()?;
+    hp_model::at_once();
     for token in tokens {
         if is_start(&token) {
             return Err(NoMemory);
