@@ -7,3 +7,5 @@ pub mod Handling
 pub mod ActLaws
 pub mod TestLaws
 pub mod Laws
+pub mod RowPlans
+pub mod HandlePlans

@@ -56,6 +56,11 @@ implied_but_plan (Some name) = implied_except_plan name
 abbrev pub quirks_of_plan : DoctypeParts → Split → Plan Split
 quirks_of_plan parts = if gives_quirks parts then quirks_plan else leaves_it
 
+-- the plan, where there is one
+abbrev pub by_plan : Option (Split → Plan Split) → Split → Plan Split
+by_plan None v = gives v
+by_plan (Some plan) v = plan v
+
 -- what stands in fields of the state
 abbrev pub field_plan : Act → Option (Split → Plan Split)
 field_plan (act.Switch m) = Some (switch_plan m)
