@@ -8,4 +8,5 @@ pub mod ActLaws
 pub mod TestLaws
 pub mod Laws
 pub mod RowPlans
+pub mod Plain
 pub mod HandlePlans

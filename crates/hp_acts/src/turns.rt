@@ -5,13 +5,13 @@ ghost use Rattle.hp_elements.specs.Rules.{goes_later};
 ghost use Rattle.hp_elements.specs.declared.token.Mode.{Mode};
 ghost use Rattle.hp_control.specs.Plan.{Plan};
 ghost use Rattle.hp_model.specs.Rows.{is_head_mode};
-ghost use Rattle.hp_views.specs.View.{sight};
-ghost use Rattle.hp_acts.specs.Carrying.{Comes, Goes, GoesBy, Stays, going, present_plan, reached, row_plan};
+ghost use Rattle.hp_views.specs.View.{page_of, sight};
+ghost use Rattle.hp_acts.specs.Carrying.{Comes, Goes, GoesBy, Stays, going, next_present, present_plan, reached, row_plan};
 ghost use Rattle.hp_acts.specs.HandlePlans.{all_turns_plan, handle_plan};
 ghost use Rattle.hp_acts.specs.Handling.{GoesLater, Handles};
-ghost use Rattle.hp_acts.specs.RowPlans.{Reached, Came, act_then, turn_plan};
+ghost use Rattle.hp_acts.specs.RowPlans.{Reached, Came, act_then, is_early, turn_plan};
 ghost use Rattle.hp_acts.specs.Rows.{acts_in};
-ghost use Rattle.hp_acts.specs.Spending.{IsLeftOf, is_of_attributes, leaves_whole, reads_attributes};
+ghost use Rattle.hp_acts.specs.Spending.{IsLeftOf, gives_away, is_of_attributes, leaves_whole, reads_attributes};
 ghost use Rattle.hp_acts.specs.declared.token_parts.Spending.TheVariants.{Copies};
 
 use crate::acts::carry_out;
@@ -22,7 +22,7 @@ use crate::token_parts::{Spending, after_line_feed, rename};
 use hp_control::{Below, Crossing, Refusal};
 use hp_elements::{Act, Mode, Rest, Test, Token};
 use hp_foreign::goes_to_foreign;
-use hp_views::View;
+use hp_views::{PageFacts, View};
 use std::alloc::Global;
 
 /// How deep the rules of a mode use those of others, the mode's own counted.
@@ -237,6 +237,16 @@ fn is_of_head(mode: Mode) -> bool
     }
 }
 
+/// Whether a token would be handled before the page's body, over an unknown older state.
+fn is_early(page: &Option<PageFacts>, mode: Mode) -> bool
+    ensures { result ≡ is_early (page_of page.now) mode }
+{
+    match page {
+        None => is_of_head(mode),
+        Some(_) => false,
+    }
+}
+
 /// Handles the token once, by the rules of foreign content or by those of the mode, and answers whether it is to be handled
 /// again. In the modes up to after head no chunk handles one.
 fn take_turn<'p, B: Below>(
@@ -247,7 +257,7 @@ fn take_turn<'p, B: Below>(
     ensures { Comes result (B.heard view.old.below) (B.heard view.new.below) (turn_plan turn.old.token (reached view.old turn.old)) turn.new.token (reached view.new turn.new) }
 {
     let mode = view.change.mode;
-    if is_early(view.page.is_none(), mode) {
+    if is_early(&view.page, mode) {
         return Err(Refusal::Crossed(Crossing::X4));
     }
     if goes_to_foreign(alloc, view, &turn.token)? {
@@ -271,7 +281,9 @@ fn take_turns<'p, B: Below>(
     alloc: Global,
     view: &mut View<'p, B>,
     token: Token<'p>,
-) -> Result<Handled, Refusal> {
+) -> Result<Handled, Refusal>
+    ensures { Handles result (sight B.heard view.old) (sight B.heard view.new) (all_turns_plan token.entry) }
+{
     let mut turn = Turn {
         token,
         handled: NOTHING,
@@ -290,7 +302,9 @@ pub fn handle<'p, B: Below>(
     alloc: Global,
     view: &mut View<'p, B>,
     token: Token<'p>,
-) -> Result<Handled, Refusal> {
+) -> Result<Handled, Refusal>
+    ensures plan { Handles result (sight B.heard view.old) (sight B.heard view.new) (handle_plan token.entry) }
+{
     if !view.change.skip_lf {
         return if is_plain(view, &token) {
             put_plain(alloc, view, token)
