@@ -3,3 +3,5 @@ pub mod RowLemmas
 pub mod TokenLeft
 pub mod RowRuns
 pub mod Keeping
+pub mod TurnRuns
+pub mod PlainRuns
