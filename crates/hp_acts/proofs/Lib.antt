@@ -5,3 +5,4 @@ pub mod RowRuns
 pub mod Keeping
 pub mod TurnRuns
 pub mod PlainRuns
+pub mod StepRuns
