@@ -8,12 +8,16 @@ use Rattle.hp_elements.specs.declared.act.Act.{Act}
 use Rattle.hp_elements.specs.declared.act.Act.TheVariants as act
 use Rattle.hp_elements.specs.declared.token.Mode.{Mode}
 use Rattle.hp_elements.specs.declared.token.Token.{Token}
+use Rattle.std.specs.Result.{IsErrAnd}
+use Rattle.hp_control.specs.declared.change.Refusal.{Refusal}
+use Rattle.hp_control.specs.declared.change.Refusal.TheVariants.{Crossed, NoMemory}
 use Rattle.hp_control.specs.declared.question.Crossing.{Crossing}
 use Rattle.hp_control.specs.Plan.{Plan, gives, followed_by, Heard, Runs}
 use Rattle.hp_control.specs.Running.{Partway, runs_crosses, runs_gives, runs_then}
 use Rattle.hp_acts.specs.declared.turns.Next.{Next}
 use Rattle.hp_acts.specs.declared.turns.Next.TheVariants.{At, Rules, Done, Again}
-use Rattle.hp_acts.specs.Carrying.{IsWay, Stays, UsesRules, going}
+use Rattle.hp_acts.specs.Carrying.{Comes, Goes, GoesBy, IsWay, Stays, UsesRules, going}
+use Rattle.hp_acts.specs.Handling.{GoesLater}
 use Rattle.hp_acts.specs.RowPlans.{Reached, Came, left, again, act_then, acts_plan, where_left}
 use Rattle.hp_acts.specs.Spending.{IsLeftOf, leaves_whole, row_keeps, wants_whole, ways_keep}
 use Rattle.hp_acts.proofs.TokenLeft.{StillFits, fitting_alike}
@@ -250,3 +254,97 @@ module _ (follow : Bool → Mode → Reached → Plan Came) (present : Reached �
   pub crosses_in : (start : Heard) (from : Reached) (at : ℕ) (now new last : Heard) (r s : Reached) (rest : Token) (a : Act) (other : Mode) (fostered : Bool) (crossing : Crossing) → RowSo start from at now r rest → slice_get acts at ≡ Some a → Partway now new (act_by rest a at r) (followed_by (follow fostered other s) (where_left (rest_behind at (at + 1)))) → Runs new last (follow fostered other s) (Err crossing) → Runs start last (whole_row from) (Err crossing)
   crosses_in start from at now new last r s rest a other fostered crossing so h p run =
       to_act start from at now r rest a so h last (Err crossing) (p last (Err crossing) (runs_crosses (where_left (rest_behind at (at + 1))) run))
+
+  -- what the act at a place came to
+  pub record Stepped (at : ℕ) (now new : Heard) (r s : Reached) (rest left_over : Token) (a : Act) (next : Next) : Type 0 where
+    pub plan : Partway now new (act_by rest a at r) (going follow (rest_behind at) at s left_over next)
+    pub later : GoesLater at next
+    pub goes : GoesBy a at next
+    pub stays : Stays (leaves_whole a (drop (at + 1) acts)) rest left_over next
+
+  pub moved_to : (start : Heard) (from : Reached) (at : ℕ) (now new : Heard) (r s : Reached) (rest left_over : Token) (a : Act) (next : Next) (place : ℕ) → RowSo start from at now r rest → slice_get acts at ≡ Some a → Stepped at now new r s rest left_over a next → next ≡ At place → RowSo start from place new s left_over
+  moved_to start from at now new r s rest left_over a next place so h st e =
+      let P : Next → Type 0 = λ n. Partway now new (act_by rest a at r) (going follow (rest_behind at) at s left_over n) in
+      let L : Next → Type 0 = λ n. GoesLater at n in
+      let G : Next → Type 0 = λ n. GoesBy a at n in
+      let S : Next → Type 0 = λ n. Stays (leaves_whole a (drop (at + 1) acts)) rest left_over n in
+      moves start from at now new r s rest left_over a place so h (subst P e st.plan) (subst L e st.later) (subst G e st.goes) (subst S e st.stays)
+
+  pub done_at : (start : Heard) (from : Reached) (at : ℕ) (now new : Heard) (r s : Reached) (rest left_over : Token) (a : Act) (next : Next) → RowSo start from at now r rest → slice_get acts at ≡ Some a → Stepped at now new r s rest left_over a next → next ≡ Done → Runs start new (whole_row from) (Ok (left s)) × IsLeftOf t left_over
+  done_at start from at now new r s rest left_over a next so h st e =
+      let P : Next → Type 0 = λ n. Partway now new (act_by rest a at r) (going follow (rest_behind at) at s left_over n) in
+      let S : Next → Type 0 = λ n. Stays (leaves_whole a (drop (at + 1) acts)) rest left_over n in
+      let T : Token → Type 0 = λ token. IsLeftOf t token in
+      let same : left_over ≡ rest = subst S e st.stays in
+      (ends_at start from at now new r rest a (left s) so h (subst P e st.plan), subst T (sym same) (fits_left so.fit.whole t rest so.fit.fits))
+
+  pub again_at : (start : Heard) (from : Reached) (at : ℕ) (now new : Heard) (r s : Reached) (rest left_over : Token) (a : Act) (next : Next) → RowSo start from at now r rest → slice_get acts at ≡ Some a → Stepped at now new r s rest left_over a next → next ≡ Again → Runs start new (whole_row from) (Ok (again left_over s))
+  again_at start from at now new r s rest left_over a next so h st e =
+      let P : Next → Type 0 = λ n. Partway now new (act_by rest a at r) (going follow (rest_behind at) at s left_over n) in
+      ends_at start from at now new r rest a (again left_over s) so h (subst P e st.plan)
+
+  -- rules of a mode are to be used, for the whole token
+  pub record Using (start : Heard) (from : Reached) (at : ℕ) (now new : Heard) (r s : Reached) (rest left_over : Token) (a : Act) (other : Mode) (fostered : Bool) : Type 0 where
+    pub so : RowSo start from at now r rest
+    pub here : slice_get acts at ≡ Some a
+    pub uses_rules : UsesRules a
+    pub plan : Partway now new (act_by rest a at r) (followed_by (follow fostered other s) (where_left (rest_behind at (at + 1))))
+    pub same : left_over ≡ rest
+    pub whole : left_over ≡ t
+
+  pub using_at : (start : Heard) (from : Reached) (at : ℕ) (now new : Heard) (r s : Reached) (rest left_over : Token) (a : Act) (next : Next) (other : Mode) (fostered : Bool) → RowSo start from at now r rest → slice_get acts at ≡ Some a → Stepped at now new r s rest left_over a next → next ≡ Rules other fostered → Using start from at now new r s rest left_over a other fostered
+  using_at start from at now new r s rest left_over a next other fostered so h st e =
+      let P : Next → Type 0 = λ n. Partway now new (act_by rest a at r) (going follow (rest_behind at) at s left_over n) in
+      let G : Next → Type 0 = λ n. GoesBy a at n in
+      let S : Next → Type 0 = λ n. Stays (leaves_whole a (drop (at + 1) acts)) rest left_over n in
+      let same : left_over ≡ rest = subst S e st.stays in
+      record {
+        so = so;
+        here = h;
+        uses_rules = subst G e st.goes;
+        plan = subst P e st.plan;
+        same = same;
+        whole = same ∙ whole_there start from at now r rest a so h (subst G e st.goes);
+      }
+
+  pub used_to : (start : Heard) (from : Reached) (at : ℕ) (now new last : Heard) (r s u : Reached) (rest left_over out : Token) (a : Act) (other : Mode) (fostered : Bool) → Using start from at now new r s rest left_over a other fostered → Runs new last (follow fostered other s) (Ok (left u)) → IsLeftOf left_over out → RowSo start from (at + 1) last u out
+  used_to start from at now new last r s u rest left_over out a other fostered x run l =
+      let P : Token → Type 0 = λ token. IsLeftOf token out in
+      uses start from at now new last r s u rest out a other fostered x.so x.here x.uses_rules x.plan run (subst P x.same l)
+
+  pub used_again : (start : Heard) (from : Reached) (at : ℕ) (now new last : Heard) (r s u : Reached) (rest left_over out : Token) (a : Act) (other : Mode) (fostered : Bool) → Using start from at now new r s rest left_over a other fostered → Runs new last (follow fostered other s) (Ok (again out u)) → Runs start last (whole_row from) (Ok (again out u))
+  used_again start from at now new last r s u rest left_over out a other fostered x run = again_in start from at now new last r s u rest out a other fostered x.so x.here x.plan run
+
+  pub used_crosses : (start : Heard) (from : Reached) (at : ℕ) (now new last : Heard) (r s : Reached) (rest left_over : Token) (a : Act) (other : Mode) (fostered : Bool) (crossing : Crossing) → Using start from at now new r s rest left_over a other fostered → Runs new last (follow fostered other s) (Err crossing) → Runs start last (whole_row from) (Err crossing)
+  used_crosses start from at now new last r s rest left_over a other fostered crossing x run = crosses_in start from at now new last r s rest a other fostered crossing x.so x.here x.plan run
+
+  -- an act that isn't carried out ends the row
+  pub refused_at : (result : Result Bool Refusal) (refused : Refusal) (start : Heard) (from : Reached) (at : ℕ) (now new : Heard) (r s : Reached) (rest out : Token) (a : Act) (next : Next → Plan Came) → result ≡ Err refused → RowSo start from at now r rest → slice_get acts at ≡ Some a → Goes (Err refused) now new (act_by rest a at r) next → Comes result start new (whole_row from) out s
+  refused_at result refused start from at now new r s rest out a next e so h g =
+      let P : Result Bool Refusal → Type 0 = λ x. Comes x start new (whole_row from) out s in
+      subst P (sym e) (by_refusal refused g)
+    where
+      by_refusal : (refused : Refusal) → Goes (Err refused) now new (act_by rest a at r) next → Comes (Err refused) start new (whole_row from) out s
+      by_refusal NoMemory g = tt
+      by_refusal (Crossed crossing) g = crosses_at start from at now new r rest a crossing so h g
+
+  pub refused_in : (result : Result Bool Refusal) (refused : Refusal) (start : Heard) (from : Reached) (at : ℕ) (now new last : Heard) (r s u : Reached) (rest left_over out : Token) (a : Act) (other : Mode) (fostered : Bool) → result ≡ Err refused → Using start from at now new r s rest left_over a other fostered → Comes (Err refused) new last (follow fostered other s) out u → Comes result start last (whole_row from) out u
+  refused_in result refused start from at now new last r s u rest left_over out a other fostered e x g =
+      let P : Result Bool Refusal → Type 0 = λ y. Comes y start last (whole_row from) out u in
+      subst P (sym e) (by_refusal refused g)
+    where
+      by_refusal : (refused : Refusal) → Comes (Err refused) new last (follow fostered other s) out u → Comes (Err refused) start last (whole_row from) out u
+      by_refusal NoMemory g = tt
+      by_refusal (Crossed crossing) g = used_crosses start from at now new last r s rest left_over a other fostered crossing x g
+
+pub came_left : (b : Bool) (x y : Heard) (plan : Plan Came) (t : Token) (r : Reached) → Comes (Ok b) x y plan t r → b ≡ false → Runs x y plan (Ok (left r))
+came_left false x y plan t r h e = h
+came_left true x y plan t r h e = absurd (cc)
+
+pub came_again : (b : Bool) (x y : Heard) (plan : Plan Came) (t : Token) (r : Reached) → Comes (Ok b) x y plan t r → b ≡ true → Runs x y plan (Ok (again t r))
+came_again true x y plan t r h e = h
+came_again false x y plan t r h e = absurd (cc)
+
+pub is_error : {X : Type 0} (result : Result X Refusal) (refused : Refusal) → IsErrAnd result (λ e. e ≡ refused) → result ≡ Err refused
+is_error (Ok x) refused h = absurd h
+is_error (Err e) refused h = ap Err h

@@ -21,8 +21,8 @@ use Rattle.hp_acts.specs.Carrying.{Comes, row_plan}
 use Rattle.hp_acts.specs.HandlePlans.{turns_plan, where_again}
 use Rattle.hp_acts.specs.RowPlans.{Reached, Came, left, again, dispatched, foreign_plan, is_early, mode_plan, rules_plan, turn_plan}
 
-pub runs_crossed : {X : Type 0} (h : Heard) (crossing : Crossing) → Runs {X} h h (crosses crossing) (Err crossing)
-runs_crossed {X} h crossing = record { ends = refl; noted = (runs_gives {Unit {0}} h tt).noted }
+pub runs_crossed : {X : Type 0} (h : Heard) (crossing : Crossing) → Runs {X = X} h h (crosses crossing) (Err crossing)
+runs_crossed {X} h crossing = record { ends = refl; noted = (runs_gives {X = Unit {0}} h tt).noted }
 
 comes_then : {X : Type 0} (result : Result Bool Refusal) (a b c : Heard) (p : Plan X) (x : X) (next : X → Plan Came) (t : Token) (r : Reached) → Runs a b p (Ok x) → Comes result b c (next x) t r → Comes result a c (followed_by p next) t r
 comes_then (Ok true) a b c p x next t r h k = runs_then next h k
@@ -42,6 +42,20 @@ pub nested_row : (result : Result Bool Refusal) (a b : Heard) (depth below : ℕ
 nested_row result a b depth below t left_over fostering m acts r s e same h =
     comes_as result a b (row_plan below None fostering t 0 0 acts r) (rules_plan depth t fostering m r) left_over s
     (ap (λ xs. row_plan below None fostering t 0 0 xs r) same ∙ (rules_are_row below t fostering m r ∙ ap (λ n. rules_plan n t fostering m r) (sym e))) h
+
+-- for the whole token
+pub nested_comes : (result : Result Bool Refusal) (a b : Heard) (depth below : ℕ) (t token out : Token) (fostering : Bool) (m : Mode) (acts : List Act) (r s : Reached) → depth ≡ suc below → token ≡ t → acts ≡ acts_for (every_mode_rows m) (kind_of token) → Comes result a b (row_plan below None fostering token 0 0 acts r) out s → Comes result a b (rules_plan depth t fostering m r) out s
+nested_comes result a b depth below t token out fostering m acts r s e same row h =
+    comes_as result a b (rules_plan depth token fostering m r) (rules_plan depth t fostering m r) out s (ap (λ x. rules_plan depth x fostering m r) same)
+    (nested_row result a b depth below token out fostering m acts r s e row h)
+
+none_there : (h : Heard) (t : Token) (fostering : Bool) (m : Mode) (r : Reached) → Runs h h (rules_plan 0 t fostering m r) (Ok (left r))
+unfolding rules_plan
+none_there h t fostering m r = runs_gives h (left r)
+
+-- none are used where they are used too deep
+pub nested_none : (h : Heard) (depth : ℕ) (t : Token) (fostering : Bool) (m : Mode) (r : Reached) → depth ≡ 0 → Runs h h (rules_plan depth t fostering m r) (Ok (left r))
+nested_none h depth t fostering m r e = let P : ℕ → Type 0 = λ n. Runs h h (rules_plan n t fostering m r) (Ok (left r)) in subst P (sym e) (none_there h t fostering m r)
 
 turn_is : (t : Token) (r : Reached) → turn_plan t r ≡ (if is_early r.split.page r.split.change.mode then crosses X4 else followed_by (goes_plan (kind_of t) r.split) (dispatched t r.split.change.mode r))
 unfolding turn_plan
