@@ -232,6 +232,9 @@ module _ (follow : Bool → Mode → Reached → Plan Came) (present : Reached �
         };
       }
 
+  pub so_left : (start : Heard) (from : Reached) (at : ℕ) (now : Heard) (r : Reached) (rest : Token) → RowSo start from at now r rest → IsLeftOf t rest
+  so_left start from at now r rest so = fits_left so.fit.whole t rest so.fit.fits
+
   -- the row ends behind its last act
   pub ends_past : (start : Heard) (from : Reached) (at : ℕ) (now : Heard) (r : Reached) (rest : Token) → RowSo start from at now r rest → slice_get acts at ≡ None → Runs start now (whole_row from) (Ok (left r))
   ends_past start from at now r rest so h =
