@@ -19,6 +19,8 @@ use Rattle.hp_rules_rest.specs.Foreign.{foreign}
 use Rattle.hp_rules_rest.specs.Whole.{every_mode_rows}
 use Rattle.hp_acts.specs.Carrying.{Comes, row_plan}
 use Rattle.hp_acts.specs.HandlePlans.{turns_plan, where_again}
+use Rattle.hp_acts.specs.Handling.{Handles}
+use Rattle.hp_acts.specs.declared.turns.Handled.{Handled}
 use Rattle.hp_acts.specs.RowPlans.{Reached, Came, left, again, dispatched, foreign_plan, is_early, mode_plan, rules_plan, turn_plan}
 
 pub runs_crossed : {X : Type 0} (h : Heard) (crossing : Crossing) → Runs {X = X} h h (crosses crossing) (Err crossing)
@@ -129,3 +131,12 @@ turns_run_out start now whole n i t r p h =
     let same : n - i ≡ 0 = omega arith in
     let P : Plan Reached → Type 0 = λ plan. Runs now now plan (Err X3) in
     p now (Err X3) (subst P (sym (ap (λ k. turns_plan k t r) same ∙ turns_none t r)) (runs_crossed now X3))
+
+pub turn_refused : (result : Result Handled Refusal) (refused : Refusal) (old new : Sight) (plan : Split → Plan Reached) (now : Heard) (n i : ℕ) (t out : Token) (r s : Reached) → result ≡ Err refused → Partway old.heard now (plan old.split) (turns_plan (n - i) t r) → i < n → Comes (Err refused) now new.heard (turn_plan t r) out s → Handles result old new plan
+turn_refused result refused old new plan now n i t out r s e p h g =
+    let P : Result Handled Refusal → Type 0 = λ x. Handles x old new plan in
+    subst P (sym e) (by_refusal refused g)
+  where
+    by_refusal : (refused : Refusal) → Comes (Err refused) now new.heard (turn_plan t r) out s → Handles (Err refused) old new plan
+    by_refusal NoMemory g = tt
+    by_refusal (Crossed crossing) g = turn_crosses old.heard now new.heard (plan old.split) n i t r crossing p h g
