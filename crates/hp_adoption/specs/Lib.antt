@@ -1,4 +1,6 @@
 pub mod Entries
 pub mod ReconPlans
 pub mod ArkPlans
+pub mod AdoptPlans
 pub mod Turning
+pub mod LinkPlans
