@@ -1,2 +1,4 @@
 pub mod Spots
 pub mod Apart
+pub mod Nearest
+pub mod Turns
