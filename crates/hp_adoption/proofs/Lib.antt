@@ -2,3 +2,4 @@ pub mod Spots
 pub mod Apart
 pub mod Nearest
 pub mod Turns
+pub mod Untangling

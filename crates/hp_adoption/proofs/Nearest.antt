@@ -17,19 +17,6 @@ split_at (y ∷ ys) zero k x h l e = absurd (omega arith)
 split_at (y ∷ ys) (suc d) zero x h l e = ap (λ v. v ∷ take d ys) (sym e)
 split_at (y ∷ ys) (suc d) (suc k) x h l e = split_at ys d k x (omega arith) (omega arith) e
 
--- none of those above the depth, nor the item itself
-pub any_next : {X : Type 0} (p : X → Bool) (xs : List X) (d k : ℕ) (x : X) → k < d → d ≤ length xs → x ≡ get_or xs k x → p x ≡ false → list_any p (drop k (take d xs)) ≡ list_any p (drop (suc k) (take d xs))
-any_next p xs d k x h l e n = ap (list_any p) (split_at xs d k x h l e) ∙ ap (λ b. b || list_any p (drop (suc k) (take d xs))) n
-
-pub any_here : {X : Type 0} (p : X → Bool) (xs : List X) (d k : ℕ) (x : X) → k < d → d ≤ length xs → x ≡ get_or xs k x → p x ≡ true → list_any p (drop k (take d xs)) ≡ true
-any_here p xs d k x h l e n = ap (list_any p) (split_at xs d k x h l e) ∙ ap (λ b. b || list_any p (drop (suc k) (take d xs))) n
-
-pub none_left : {X : Type 0} (xs : List X) (d : ℕ) → drop d (take d xs) ≡ []
-none_left [] zero = refl
-none_left [] (suc d) = refl
-none_left (x ∷ xs) zero = refl
-none_left (x ∷ xs) (suc d) = none_left xs d
-
 -- the last one of those that are left
 pub last_here : (p : OpenElement → Bool) (xs rest : List OpenElement) (k : ℕ) (x : OpenElement) → drop k xs ≡ x ∷ rest → last_within p rest ≡ None → p x ≡ true → last_within p xs ≡ Some k
 last_here p [] rest zero x e n h = absurd (cc)
@@ -40,10 +27,6 @@ last_here p (y ∷ ys) rest (suc k) x e n h = ap (last_by (p y)) (last_here p ys
 pub last_found : (p : OpenElement → Bool) (xs : List OpenElement) (d j k : ℕ) (x : OpenElement) → j ≡ suc k → k < d → d ≤ length xs → x ≡ get_or xs k x → last_within p (drop j (take d xs)) ≡ None → p x ≡ true → last_within p (take d xs) ≡ Some k
 last_found p xs d j k x s h l e n t =
     last_here p (take d xs) (drop (suc k) (take d xs)) k x (split_at xs d k x h l e) (ap (λ i. last_within p (drop i (take d xs))) (sym s) ∙ n) t
-
-pub last_next : (p : OpenElement → Bool) (xs : List OpenElement) (d j k : ℕ) (x : OpenElement) → j ≡ suc k → k < d → d ≤ length xs → x ≡ get_or xs k x → last_within p (drop j (take d xs)) ≡ None → p x ≡ false → last_within p (drop k (take d xs)) ≡ None
-last_next p xs d j k x s h l e n t =
-    ap (last_within p) (split_at xs d k x h l e) ∙ (ap (last_by (p x)) (ap (λ i. last_within p (drop i (take d xs))) (sym s) ∙ n) ∙ ap (λ b. last_by b None) t)
 
 abbrev is_special : OpenElement → Bool
 is_special e = within (kinds.Set sets.Special) e

@@ -139,7 +139,7 @@ fn climbed<'p>(
     block: OpenElement,
     between: &[OpenElement],
 ) -> Result<Climb<'p>, NoMemory>
-    ensures { IfOk result (λ climb. climb ≡ pass_all (ref_of is_page) block.entry.id 0 between.now (from_block block.entry list.old next)) }
+    ensures { IfOk result (λ climb. climb ≡ pass_all (ref_of is_page) block.id 0 between.now (from_block block list.old next)) }
 {
     let block_id = block.id;
     let mut climb = Climb {
@@ -190,8 +190,8 @@ fn put_together<'p>(
     above: List<OpenElement>,
     climb: Climb<'p>,
 ) -> Result<(), NoMemory>
-    ensures change { IfOk result (λ _. change.new ≡ with_parts (closed_parts (ref_of element.entry.is_page) element.entry.place element.entry.id element.entry.tag above.entry block climb.entry) change.old) }
-    ensures edits { IfOk result (λ _. edits.new ≡ edits.old ++ (closed_parts (ref_of element.entry.is_page) element.entry.place element.entry.id element.entry.tag above.entry block climb.entry).edits) }
+    ensures change { IfOk result (λ _. change.new ≡ with_parts (closed_parts (ref_of element.is_page) element.place element.id element.tag above block climb.entry) change.old) }
+    ensures edits { IfOk result (λ _. edits.new ≡ edits.old ++ (closed_parts (ref_of element.is_page) element.place element.id element.tag above block climb.entry).edits) }
 {
     let Formatted {
         id: gone,
@@ -231,8 +231,8 @@ fn rebuild<'p>(
     element: Formatted,
     over: Over,
 ) -> Result<(), NoMemory>
-    ensures change { IfOk result (λ _. change.new ≡ with_parts (adopted_parts (ref_of element.entry.is_page) element.entry.place element.entry.id element.entry.tag over.entry.above over.entry.block over.entry.between change.old.formatting change.old.made) change.old) }
-    ensures edits { IfOk result (λ _. edits.new ≡ edits.old ++ (adopted_parts (ref_of element.entry.is_page) element.entry.place element.entry.id element.entry.tag over.entry.above over.entry.block over.entry.between change.old.formatting change.old.made).edits) }
+    ensures change { IfOk result (λ _. change.new ≡ with_parts (adopted_parts (ref_of element.is_page) element.place element.id element.tag over.above over.block over.between change.old.formatting change.old.made) change.old) }
+    ensures edits { IfOk result (λ _. edits.new ≡ edits.old ++ (adopted_parts (ref_of element.is_page) element.place element.id element.tag over.above over.block over.between change.old.formatting change.old.made).edits) }
 {
     let Over {
         above,
