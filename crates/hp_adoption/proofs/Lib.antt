@@ -1,5 +1,5 @@
 pub mod Spots
 pub mod Apart
 pub mod Nearest
-pub mod Turns
+pub mod TurnSteps
 pub mod Untangling
