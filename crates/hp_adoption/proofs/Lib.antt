@@ -3,3 +3,4 @@ pub mod Apart
 pub mod Nearest
 pub mod TurnSteps
 pub mod Untangling
+pub mod Renewing

@@ -5,3 +5,11 @@ pub mod FlushPlans
 pub mod AdoptPlans
 pub mod Turning
 pub mod LinkPlans
+pub mod Following
+pub mod ReconLaws
+pub mod ArkLaws
+pub mod FlushActs
+pub mod FlushLaws
+pub mod Joining
+pub mod FlushMeans
+pub mod ListMeans
