@@ -1,3 +1,4 @@
 pub mod Spots
 pub mod Apart
 pub mod Renewing
+pub mod Alike
