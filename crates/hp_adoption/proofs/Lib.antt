@@ -4,3 +4,4 @@ pub mod Nearest
 pub mod TurnSteps
 pub mod Untangling
 pub mod Renewing
+pub mod Alike

@@ -1,4 +1,5 @@
 pub mod Entries
+pub mod Encodings
 pub mod ReconPlans
 pub mod ArkPlans
 pub mod FlushPlans
