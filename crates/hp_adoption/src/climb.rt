@@ -95,7 +95,10 @@ impl<'p> Climb<'p> {
         }
         match find_tag(alloc, &self.formatting, node)? {
             None => Ok(()),
-            Some(tag) => self.renew(alloc, is_page, block, node, tag),
+            Some(tag) => {
+                self.renew(alloc, is_page, block, node, tag)?;
+                Ok(())
+            }
         }
     }
 
