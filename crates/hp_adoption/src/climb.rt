@@ -95,10 +95,7 @@ impl<'p> Climb<'p> {
         }
         match find_tag(alloc, &self.formatting, node)? {
             None => Ok(()),
-            Some(tag) => {
-                self.renew(alloc, is_page, block, node, tag)?;
-                Ok(())
-            }
+            Some(tag) => self.renew(alloc, is_page, block, node, tag),
         }
     }
 
