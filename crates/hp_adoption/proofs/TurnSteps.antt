@@ -1,13 +1,34 @@
 -- The turns of an adoption, carried out one after the other.
-use Rattle.std.proofs.Common.{◌≡◌, ℕ, zero, suc, Bool, true, false, List, Result, Ok, Err, subst}
+use Rattle.std.proofs.Common.{◌≡◌, ℕ, zero, suc, ◌<◌, Bool, true, false, List, [], ◌∷◌, Option, Some, None, Result, Ok, Err, length, slice_get, slice_index_or, ap, sym, subst, arith}
 use Rattle.hp_control.specs.declared.change.Refusal.{Refusal}
 use Rattle.hp_control.specs.declared.change.Refusal.TheVariants.{Crossed, NoMemory}
+use Rattle.hp_control.specs.declared.element.FormattingEntry.{FormattingEntry}
+use Rattle.hp_control.specs.declared.element.FormattingEntry.TheVariants.{Marker}
 use Rattle.hp_control.specs.Faithful.{Split}
 use Rattle.hp_control.specs.Plan.{Plan, Heard, Runs}
 use Rattle.hp_control.specs.Running.{Partway, runs_gives, runs_then, runs_crosses}
 use Rattle.hp_views.specs.View.{Sight, Carries}
-use Rattle.hp_adoption.specs.AdoptPlans.{turn_plan, turns_on, turns_plan}
+use Rattle.hp_adoption.specs.AdoptPlans.{Turned, entry_turn, turn_plan, turns_on, turns_plan}
 use Rattle.hp_adoption.specs.Turning.{Turns}
+
+-- the entry at a depth, as a walk has found it
+pub got_entry : (xs : List FormattingEntry) (k : ℕ) (x : FormattingEntry) → k < length xs → x ≡ slice_index_or xs k x → slice_get xs k ≡ Some x
+got_entry [] k x h e = absurd (omega arith)
+got_entry (y ∷ ys) zero x h e = ap Some (sym e)
+got_entry (y ∷ ys) (suc k) x h e = got_entry ys k x (omega arith) e
+
+pub turn_marker : (now : Heard) (fostering : Bool) (v : Split) (o : Option FormattingEntry) → o ≡ Some Marker → Runs now now (entry_turn fostering v o) (Ok (record { split = v; goes_on = false }))
+turn_marker now fostering v o e =
+    let P : Option FormattingEntry → Type 0 = λ x. Runs now now (entry_turn fostering v x) (Ok (record { split = v; goes_on = false })) in
+    subst P (sym e) (runs_gives now (record { split = v; goes_on = false }))
+
+-- the same plan, told otherwise
+pub turns_as : (result : Result Bool Refusal) (old new : Sight) (p q : Split → Plan Turned) → p old.split ≡ q old.split → Turns result old new p → Turns result old new q
+turns_as (Ok goes_on) old new p q e run =
+    let P : Plan Turned → Type 0 = λ x. Runs old.heard new.heard x (Ok (record { split = new.split; goes_on = goes_on })) in subst P e run
+turns_as (Err (Crossed crossing)) old new p q e run =
+    let P : Plan Turned → Type 0 = λ x. Runs old.heard new.heard x (Err crossing) in subst P e run
+turns_as (Err NoMemory) old new p q e run = tt
 
 -- one more turn
 pub turn_step : (start now next : Heard) (whole : Plan Split) (fostering : Bool) (name : List ℕ) (n m : ℕ) (v w : Split) → n ≡ suc m → Partway start now whole (turns_plan n fostering name v) → Runs now next (turn_plan fostering name v) (Ok (record { split = w; goes_on = true })) → Partway start next whole (turns_plan m fostering name w)

@@ -1,5 +1,5 @@
 //! The turns of the adoption agency algorithm (13.2.6.4.7).
-ghost use Rattle.std.specs.Prelude.{◌≡◌, ◌<◌, ◌≤◌, length, slice_get, take, IfSome};
+ghost use Rattle.std.specs.Prelude.{◌≡◌, ◌+◌, ◌^◌, ◌<◌, ◌≤◌, length, slice_get, take, IfSome};
 ghost use Rattle.std.specs.List.{list_any};
 ghost use Rattle.hp_control.specs.Adoption.{hides as spec_hides, furthest as spec_furthest};
 ghost use Rattle.hp_control.specs.KindTests.{within};
@@ -95,7 +95,8 @@ fn turn_open<'p, B: Below>(
     tag: Tag,
     depth: usize,
 ) -> Result<bool, Refusal>
-    requires { depth < length view.old.change.stack }
+    requires inside { depth < length view.old.change.stack }
+    requires small { depth + 1 < 2 ^ 64 }
     ensures { Turns result (sight B.heard view.old) (sight B.heard view.new) (λ v. own_turn fostering id tag v (Found depth)) }
 {
     if hides(&view.change.stack, depth) {
