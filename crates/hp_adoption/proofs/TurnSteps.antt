@@ -1,5 +1,5 @@
 -- The turns of an adoption, carried out one after the other.
-use Rattle.std.proofs.Common.{◌≡◌, ℕ, zero, suc, ◌<◌, Bool, true, false, List, [], ◌∷◌, Option, Some, None, Result, Ok, Err, length, slice_get, slice_index_or, ap, sym, subst, arith}
+use Rattle.std.proofs.Common.{◌≡◌, ℕ, zero, suc, Bool, true, false, List, Option, Some, Result, Ok, Err, sym, subst}
 use Rattle.hp_control.specs.declared.change.Refusal.{Refusal}
 use Rattle.hp_control.specs.declared.change.Refusal.TheVariants.{Crossed, NoMemory}
 use Rattle.hp_control.specs.declared.element.FormattingEntry.{FormattingEntry}
@@ -10,12 +10,6 @@ use Rattle.hp_control.specs.Running.{Partway, runs_gives, runs_then, runs_crosse
 use Rattle.hp_views.specs.View.{Sight, Carries}
 use Rattle.hp_adoption.specs.AdoptPlans.{Turned, entry_turn, turn_plan, turns_on, turns_plan}
 use Rattle.hp_adoption.specs.Turning.{Turns}
-
--- the entry at a depth, as a walk has found it
-pub got_entry : (xs : List FormattingEntry) (k : ℕ) (x : FormattingEntry) → k < length xs → x ≡ slice_index_or xs k x → slice_get xs k ≡ Some x
-got_entry [] k x h e = absurd (omega arith)
-got_entry (y ∷ ys) zero x h e = ap Some (sym e)
-got_entry (y ∷ ys) (suc k) x h e = got_entry ys k x (omega arith) e
 
 pub turn_marker : (now : Heard) (fostering : Bool) (v : Split) (o : Option FormattingEntry) → o ≡ Some Marker → Runs now now (entry_turn fostering v o) (Ok (record { split = v; goes_on = false }))
 turn_marker now fostering v o e =
