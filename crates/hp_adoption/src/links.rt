@@ -3,7 +3,7 @@ ghost use Rattle.std.specs.Prelude.{◌≡◌, ◌<◌, length, slice_get};
 ghost use Rattle.hp_control.specs.Plan.{followed_by};
 ghost use Rattle.hp_views.specs.View.{sight, Carries};
 ghost use Rattle.hp_adoption.specs.AdoptPlans.{adopt_plan};
-ghost use Rattle.hp_adoption.specs.LinkPlans.{a_link, gone_plan, close_own_plan, close_older_plan, close_link_plan};
+ghost use Rattle.hp_adoption.specs.LinkPlans.{gone_plan, close_own_plan, close_older_plan, close_link_plan};
 
 use crate::plain::adopt;
 use hp_control::{Below, Crossing, EntryKind, FormattingEntry, Refusal};
@@ -19,20 +19,21 @@ fn leave<'p, B: Below>(alloc: Global, view: &mut View<'p, B>, id: u64) -> Result
     view.take_off(alloc, id)
 }
 
-/// Adopts the last link, and then takes its element, the one of this id, off list and stack.
-fn close_entry<'p, B: Below>(
+/// Adopts the last entry of the name, and then takes the element of this id off list and stack.
+fn adopt_and_leave<'p, B: Below>(
     alloc: Global,
     view: &mut View<'p, B>,
     fostering: bool,
+    name: Name,
     id: u64,
 ) -> Result<(), Refusal>
-    ensures { Carries result (sight B.heard view.old) (sight B.heard view.new) (λ v. followed_by (adopt_plan fostering a_link v) (gone_plan id)) }
+    ensures { Carries result (sight B.heard view.old) (sight B.heard view.new) (λ v. followed_by (adopt_plan fostering name v) (gone_plan id)) }
 {
-    adopt(alloc, view, fostering, Name::of_known(Known::A))?;
+    adopt(alloc, view, fostering, name)?;
     leave(alloc, view, id)
 }
 
-/// The same of the own entry at that depth.
+/// Adopts the link of the own entry at that depth, and then takes its element off list and stack.
 fn close_own<'p, B: Below>(
     alloc: Global,
     view: &mut View<'p, B>,
@@ -46,7 +47,7 @@ fn close_own<'p, B: Below>(
         FormattingEntry::Marker => Ok(()),
         FormattingEntry::Element { id, .. } => {
             let id = *id;
-            close_entry(alloc, view, fostering, id)
+            adopt_and_leave(alloc, view, fostering, Name::of_known(Known::A), id)
         }
     }
 }

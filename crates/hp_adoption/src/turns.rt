@@ -206,8 +206,10 @@ pub fn turns<'p, B: Below>(
     ensures { Carries result (sight B.heard view.old) (sight B.heard view.new) (turns_plan 8 fostering name.now) }
 {
     for _turn in 0..8usize {
-        if !turn(alloc, view, fostering, name)? {
-            return Ok(());
+        match turn(alloc, view, fostering, name) {
+            Ok(true) => {}
+            Ok(false) => return Ok(()),
+            Err(refusal) => return Err(refusal),
         }
     }
     Ok(())

@@ -1,4 +1,4 @@
-use Rattle.std.proofs.Common.{◌≡◌, ◌∙◌, ℕ, Bool, Option, Some, Result, Ok, Err, ap, slice_get, subst, sym}
+use Rattle.std.proofs.Common.{◌≡◌, ◌∙◌, ℕ, Bool, List, Option, Some, Result, Ok, Err, ap, slice_get, subst, sym}
 use Rattle.hp_elements.specs.declared.tag.Tag.{Tag}
 use Rattle.hp_control.specs.declared.change.Refusal.{Refusal}
 use Rattle.hp_control.specs.declared.change.Refusal.TheVariants.{Crossed, NoMemory}
@@ -9,7 +9,7 @@ use Rattle.hp_control.specs.Plan.{Plan, Heard, Runs, followed_by}
 use Rattle.hp_control.specs.Running.{runs_gives}
 use Rattle.hp_views.specs.View.{Sight, Carries, sight, split_of}
 use Rattle.hp_adoption.specs.AdoptPlans.{adopt_plan}
-use Rattle.hp_adoption.specs.LinkPlans.{a_link, gone_plan, close_own_plan}
+use Rattle.hp_adoption.specs.LinkPlans.{gone_plan, close_own_plan}
 use Rattle.hp_adoption.proofs.Renewing.{got}
 use Rattle.hp_adoption.proofs.links.close_own.Goals as goal
 
@@ -34,7 +34,8 @@ returns-in-Element g c =
     let old : Sight = sight g.B.Below.heard c.args.view.now in
     let entry : slice_get old.split.change.formatting c.args.at ≡ Some (Element c.in-Element.id c.in-Element.tag) =
         got old.split.change.formatting c.args.at c.at.result.now c.requires c.at.ensures ∙ ap Some c.in-Element.is in
-    carries_as c.close_entry.result old (sight g.B.Below.heard c.close_entry.new.view)
-    (λ v. followed_by (adopt_plan c.args.fostering a_link v) (gone_plan c.in-Element.id))
+    carries_as c.adopt_and_leave.result old (sight g.B.Below.heard c.adopt_and_leave.new.view)
+    (λ v. followed_by (adopt_plan c.args.fostering c.of_known.result v) (gone_plan c.in-Element.id))
     (λ v. close_own_plan c.args.fostering v (slice_get v.change.formatting c.args.at))
-    (ap (close_own_plan c.args.fostering old.split) (sym entry)) c.close_entry.ensures
+    (ap (λ (n : List ℕ). followed_by (adopt_plan c.args.fostering n old.split) (gone_plan c.in-Element.id)) c.of_known.ensures
+    ∙ ap (close_own_plan c.args.fostering old.split) (sym entry)) c.adopt_and_leave.ensures
