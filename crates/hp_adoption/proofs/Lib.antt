@@ -5,3 +5,4 @@ pub mod TurnSteps
 pub mod Untangling
 pub mod Renewing
 pub mod Alike
+pub mod Carrying

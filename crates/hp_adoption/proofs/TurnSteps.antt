@@ -25,24 +25,26 @@ turns_as (Err (Crossed crossing)) old new p q e run =
 turns_as (Err NoMemory) old new p q e run = tt
 
 -- one more turn
-pub turn_step : (start now next : Heard) (whole : Plan Split) (fostering : Bool) (name : List ℕ) (n m : ℕ) (v w : Split) → n ≡ suc m → Partway start now whole (turns_plan n fostering name v) → Runs now next (turn_plan fostering name v) (Ok (record { split = w; goes_on = true })) → Partway start next whole (turns_plan m fostering name w)
+pub turn_step : (start now next : Heard) (whole : Plan Split) (fostering : Bool) (name : List ℕ) (n m : ℕ) (v w : Split) (goes_on : Bool) → n ≡ suc m → goes_on ≡ true → Partway start now whole (turns_plan n fostering name v) → Runs now next (turn_plan fostering name v) (Ok (record { split = w; goes_on = goes_on })) → Partway start next whole (turns_plan m fostering name w)
 unfolding turns_plan
-turn_step start now next whole fostering name n m v w e part run =
+turn_step start now next whole fostering name n m v w goes_on e t part run =
     let P : ℕ → Type 0 = λ x. Partway start now whole (turns_plan x fostering name v) in
-    λ new end r. (subst P e part) new end (runs_then (λ t. turns_on (turns_plan m fostering name) t.split t.goes_on) run r)
+    let Q : Bool → Type 0 = λ b. Runs now next (turn_plan fostering name v) (Ok (record { split = w; goes_on = b })) in
+    λ new end r. (subst P e part) new end (runs_then (λ t. turns_on (turns_plan m fostering name) t.split t.goes_on) (subst Q t run) r)
 
 -- the last one
-pub turn_ends : (start now next : Heard) (whole : Plan Split) (fostering : Bool) (name : List ℕ) (n m : ℕ) (v w : Split) → n ≡ suc m → Partway start now whole (turns_plan n fostering name v) → Runs now next (turn_plan fostering name v) (Ok (record { split = w; goes_on = false })) → Runs start next whole (Ok w)
+pub turn_ends : (start now next : Heard) (whole : Plan Split) (fostering : Bool) (name : List ℕ) (n m : ℕ) (v w : Split) (goes_on : Bool) → n ≡ suc m → goes_on ≡ false → Partway start now whole (turns_plan n fostering name v) → Runs now next (turn_plan fostering name v) (Ok (record { split = w; goes_on = goes_on })) → Runs start next whole (Ok w)
 unfolding turns_plan
-turn_ends start now next whole fostering name n m v w e part run =
+turn_ends start now next whole fostering name n m v w goes_on e t part run =
     let P : ℕ → Type 0 = λ x. Partway start now whole (turns_plan x fostering name v) in
-    (subst P e part) next (Ok w) (runs_then (λ t. turns_on (turns_plan m fostering name) t.split t.goes_on) run (runs_gives next w))
+    let Q : Bool → Type 0 = λ b. Runs now next (turn_plan fostering name v) (Ok (record { split = w; goes_on = b })) in
+    (subst P e part) next (Ok w) (runs_then (λ t. turns_on (turns_plan m fostering name) t.split t.goes_on) (subst Q t run) (runs_gives next w))
 
-pub turn_refused : (result : Refusal) (start : Heard) (mid new : Sight) (whole : Plan Split) (fostering : Bool) (name : List ℕ) (n m : ℕ) → n ≡ suc m → Partway start mid.heard whole (turns_plan n fostering name mid.split) → Turns (Err result) mid new (turn_plan fostering name) → Carries (Err result) (record { heard = start; split = mid.split }) new (λ v. whole)
+pub turn_refused : (result : Refusal) (old mid new : Sight) (plan : Split → Plan Split) (fostering : Bool) (name : List ℕ) (n m : ℕ) → n ≡ suc m → Partway old.heard mid.heard (plan old.split) (turns_plan n fostering name mid.split) → Turns (Err result) mid new (turn_plan fostering name) → Carries (Err result) old new plan
 unfolding turns_plan
-turn_refused NoMemory start mid new whole fostering name n m e part run = tt
-turn_refused (Crossed crossing) start mid new whole fostering name n m e part run =
-    let P : ℕ → Type 0 = λ x. Partway start mid.heard whole (turns_plan x fostering name mid.split) in
+turn_refused NoMemory old mid new plan fostering name n m e part run = tt
+turn_refused (Crossed crossing) old mid new plan fostering name n m e part run =
+    let P : ℕ → Type 0 = λ x. Partway old.heard mid.heard (plan old.split) (turns_plan x fostering name mid.split) in
     (subst P e part) new.heard (Err crossing) (runs_crosses (λ t. turns_on (turns_plan m fostering name) t.split t.goes_on) run)
 
 pub turns_done : (start now : Heard) (whole : Plan Split) (fostering : Bool) (name : List ℕ) (n : ℕ) (v : Split) → n ≡ 0 → Partway start now whole (turns_plan n fostering name v) → Runs start now whole (Ok v)

@@ -1,27 +1,19 @@
-use Rattle.std.proofs.Common.{◌≡◌, ◌∙◌, ℕ, Bool, List, Option, Some, Result, Ok, Err, ap, slice_get, subst, sym}
-use Rattle.hp_elements.specs.declared.tag.Tag.{Tag}
-use Rattle.hp_control.specs.declared.change.Refusal.{Refusal}
-use Rattle.hp_control.specs.declared.change.Refusal.TheVariants.{Crossed, NoMemory}
+use Rattle.std.proofs.Common.{◌≡◌, ◌∙◌, ℕ, Bool, List, Option, Some, Ok, ap, slice_get, subst, sym}
 use Rattle.hp_control.specs.declared.element.FormattingEntry.{FormattingEntry}
 use Rattle.hp_control.specs.declared.element.FormattingEntry.TheVariants.{Marker, Element}
 use Rattle.hp_control.specs.Faithful.{Split}
-use Rattle.hp_control.specs.Plan.{Plan, Heard, Runs, followed_by}
+use Rattle.hp_control.specs.Plan.{Heard, Runs, followed_by}
 use Rattle.hp_control.specs.Running.{runs_gives}
-use Rattle.hp_views.specs.View.{Sight, Carries, sight, split_of}
+use Rattle.hp_views.specs.View.{Sight, sight, split_of}
 use Rattle.hp_adoption.specs.AdoptPlans.{adopt_plan}
 use Rattle.hp_adoption.specs.LinkPlans.{gone_plan, close_own_plan}
+use Rattle.hp_adoption.proofs.Carrying.{carries_as}
 use Rattle.hp_adoption.proofs.Renewing.{got}
 use Rattle.hp_adoption.proofs.links.close_own.Goals as goal
 
 marker_stays : (now : Heard) (fostering : Bool) (v : Split) (o : Option FormattingEntry) → o ≡ Some Marker → Runs now now (close_own_plan fostering v o) (Ok v)
 marker_stays now fostering v o e =
     let P : Option FormattingEntry → Type 0 = λ x. Runs now now (close_own_plan fostering v x) (Ok v) in subst P (sym e) (runs_gives now v)
-
--- the same plan, told otherwise
-carries_as : (result : Result (Unit {0}) Refusal) (old new : Sight) (p q : Split → Plan Split) → p old.split ≡ q old.split → Carries result old new p → Carries result old new q
-carries_as (Ok u) old new p q e run = let P : Plan Split → Type 0 = λ x. Runs old.heard new.heard x (Ok new.split) in subst P e run
-carries_as (Err (Crossed crossing)) old new p q e run = let P : Plan Split → Type 0 = λ x. Runs old.heard new.heard x (Err crossing) in subst P e run
-carries_as (Err NoMemory) old new p q e run = tt
 
 pub returns-in-Marker : goal.returns-in-Marker
 returns-in-Marker g c =
