@@ -2,3 +2,4 @@ pub mod Spots
 pub mod Apart
 pub mod Renewing
 pub mod Alike
+pub mod Whites
