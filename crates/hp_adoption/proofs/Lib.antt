@@ -3,3 +3,4 @@ pub mod Apart
 pub mod Renewing
 pub mod Alike
 pub mod Whites
+pub mod Carrying
