@@ -1,2 +1,3 @@
 pub mod Spots
 pub mod Apart
+pub mod Renewing

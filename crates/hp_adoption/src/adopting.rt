@@ -1,6 +1,10 @@
 //! A turn of the adoption agency algorithm that finds a furthest block (13.2.6.4.7).
 ghost use Rattle.std.specs.Prelude.{◌≡◌, ◌+◌, ◌<◌, ◌++◌, ◌∷◌, IfOk, Some, length, take, drop, slice_get};
-ghost use Rattle.hp_control.specs.Adoption.{settled};
+ghost use Rattle.hp_control.specs.Adoption.{settled, adopted, Seat};
+ghost use Rattle.hp_views.specs.View.{sight, Carries};
+ghost use Rattle.hp_adoption.specs.Entries.{ref_of};
+ghost use Rattle.hp_adoption.specs.AdoptPlans.{an_entry, untangle_at};
+ghost use Rattle.hp_adoption.specs.Turning.{adopted_parts};
 
 use crate::climb::{Climb, own_ref};
 use crate::elements::element_for;
@@ -43,7 +47,9 @@ fn take_apart(
     requires block { tangle.block < tangle.depth }
     requires inside { tangle.depth < length stack.old }
     ensures above { IfOk result (λ over. over.above ≡ take tangle.block (take tangle.depth stack.old)) }
+    ensures block { IfOk result (λ over. slice_get stack.old tangle.block ≡ Some over.block) }
     ensures between { IfOk result (λ over. over.between ≡ drop (tangle.block + 1) (take tangle.depth stack.old)) }
+    ensures rest { IfOk result (λ _. stack.new ≡ drop (tangle.depth + 1) stack.old) }
 {
     let above = stack.lift(alloc, tangle.block)?;
     match stack.pop() {
@@ -117,7 +123,9 @@ fn close(
 ghost use Rattle.hp_adoption.specs.Turning.{closing};
 
 /// Puts edits after others.
-fn note<'p>(alloc: Global, edits: &mut Edits<'p>, more: List<Edit<'p>>) -> Result<(), NoMemory> {
+fn note<'p>(alloc: Global, edits: &mut Edits<'p>, more: List<Edit<'p>>) -> Result<(), NoMemory>
+    ensures { IfOk result (λ _. edits.new ≡ edits.old ++ more.entry) }
+{
     for edit in more {
         edits.push(alloc, edit)?;
     }
@@ -134,7 +142,10 @@ fn put_together<'p>(
     entry: u64,
     tag: Tag,
     over: Over,
-) -> Result<(), NoMemory> {
+) -> Result<(), NoMemory>
+    ensures change { IfOk result (λ _. change.new ≡ with_parts (adopted_parts (ref_of is_page) place entry tag over.above over.block over.between change.old.formatting change.old.made) change.old) }
+    ensures edits { IfOk result (λ _. edits.new ≡ edits.old ++ (adopted_parts (ref_of is_page) place entry tag over.above over.block over.between change.old.formatting change.old.made).edits) }
+{
     let Over {
         above,
         block,
@@ -176,6 +187,8 @@ fn put_together<'p>(
     note(alloc, edits, made)
 }
 
+ghost use Rattle.hp_adoption.specs.Turning.{with_parts};
+
 /// A turn with a furthest block.
 pub fn untangle<'p, B: Below>(
     alloc: Global,
@@ -186,6 +199,7 @@ pub fn untangle<'p, B: Below>(
 ) -> Result<(), Refusal>
     requires block { tangle.block < tangle.depth }
     requires inside { tangle.depth < length view.old.change.stack }
+    ensures { Carries result (sight B.heard view.old) (sight B.heard view.new) (untangle_at fostering tangle.id tag tangle.depth tangle.block) }
 {
     let over = take_apart(alloc, &mut view.change.stack, tangle)?;
     let place = view.place(alloc, fostering)?;

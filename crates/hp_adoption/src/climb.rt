@@ -1,5 +1,6 @@
 //! The way from the furthest block up to the formatting element (13.2.6.4.7, the inner loop).
 ghost use Rattle.std.specs.Prelude.{◌≡◌, IfOk};
+ghost use Rattle.hp_control.specs.Adoption.{pass_listed, pass_all, renewed, find_id};
 ghost use Rattle.hp_adoption.specs.Entries.{ref_of};
 
 use crate::elements::element_for;
@@ -7,6 +8,7 @@ use crate::entries::{strike, supplant};
 use hp_control::{Child, Edit, FormattingEntry, OpenElement, Place, Ref, Stack};
 use hp_elements::{List, NoMemory, Tag};
 use std::alloc::Global;
+use std::marker::Model;
 
 /// How many nodes of a turn are made anew.
 const RENEWED: usize = 3;
@@ -37,6 +39,14 @@ pub struct Climb<'p> {
     pub edits: List<Edit<'p>>,
 }
 
+impl<'p> Model for Climb<'p> {
+    ghost use Rattle.hp_control.specs.Adoption.{Climbed};
+
+    ghost Value = { Climbed };
+
+    ghost view = { λ k. record { formatting = k.formatting; next = k.next; kept = k.kept; last = k.last; bookmark = k.bookmark; edits = k.edits } };
+}
+
 impl<'p> Climb<'p> {
     /// A new element of the tag takes the place of the node, whose entry has that depth, and the last node goes into it.
     fn renew(
@@ -46,7 +56,9 @@ impl<'p> Climb<'p> {
         block: u64,
         node: u64,
         tag: Tag,
-    ) -> Result<(), NoMemory> {
+    ) -> Result<(), NoMemory>
+        ensures { IfOk result (λ _. self.new ≡ renewed (ref_of is_page) block node tag self.old) }
+    {
         let id = self.next;
         let Some(next) = id.checked_add(1) else {
             return Err(NoMemory);
@@ -72,6 +84,7 @@ impl<'p> Climb<'p> {
     }
 
     /// Goes past the node of this id, the turn's `count`th.
+    #[tactic(auto, using(crate::proofs::Spots::passed_none, crate::proofs::Spots::passed_new, crate::proofs::Spots::passed_late))]
     fn pass(
         &mut self,
         alloc: Global,
@@ -79,7 +92,9 @@ impl<'p> Climb<'p> {
         block: u64,
         count: usize,
         node: u64,
-    ) -> Result<(), NoMemory> {
+    ) -> Result<(), NoMemory>
+        ensures { IfOk result (λ _. self.new ≡ pass_listed (ref_of is_page) block count node (find_id node self.old.formatting) self.old) }
+    {
         if count > RENEWED {
             strike(&mut self.formatting, node);
             return Ok(());
@@ -97,7 +112,9 @@ impl<'p> Climb<'p> {
         is_page: bool,
         block: u64,
         nodes: &[OpenElement],
-    ) -> Result<(), NoMemory> {
+    ) -> Result<(), NoMemory>
+        ensures { IfOk result (λ _. self.new ≡ pass_all (ref_of is_page) block 0 nodes.now self.old) }
+    {
         for index in 0..nodes.len() {
             self.pass(alloc, is_page, block, index + 1, nodes[index].id)?;
         }

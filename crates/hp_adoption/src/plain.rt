@@ -1,5 +1,7 @@
 //! The adoption agency algorithm (13.2.6.4.7).
 ghost use Rattle.std.specs.Prelude.{◌≡◌};
+ghost use Rattle.hp_views.specs.View.{sight, Answers, Carries};
+ghost use Rattle.hp_adoption.specs.AdoptPlans.{plain_below, is_plain_plan, adopt_plan};
 
 use crate::turns::turns;
 use hp_control::{Below, Refusal, is_html};
@@ -12,7 +14,9 @@ fn is_plain<'p, B: Below>(
     alloc: Global,
     view: &mut View<'p, B>,
     name: &Name,
-) -> Result<bool, Refusal> {
+) -> Result<bool, Refusal>
+    ensures { Answers result (sight B.heard view.old) (sight B.heard view.new) (is_plain_plan name.now) }
+{
     if view.change.stack.is_empty() {
         return is_plain_below(alloc, view, name);
     }
@@ -26,7 +30,9 @@ fn is_plain_below<'p, B: Below>(
     alloc: Global,
     view: &mut View<'p, B>,
     name: &Name,
-) -> Result<bool, Refusal> {
+) -> Result<bool, Refusal>
+    ensures { Answers result (sight B.heard view.old) (sight B.heard view.new) (plain_below name.now) }
+{
     if !view.current_is(alloc, Kinds::Html(name.copy(alloc)?))? {
         return Ok(false);
     }
@@ -43,7 +49,9 @@ pub fn adopt<'p, B: Below>(
     view: &mut View<'p, B>,
     fostering: bool,
     name: Name,
-) -> Result<(), Refusal> {
+) -> Result<(), Refusal>
+    ensures { Carries result (sight B.heard view.old) (sight B.heard view.new) (adopt_plan fostering name) }
+{
     if is_plain(alloc, view, &name)? {
         view.pop(alloc)
     } else {
