@@ -56,7 +56,7 @@ turns_by s v n fostering name e true h st m u =
 turns_by s v n fostering name e false h st m u = goes_no_further s v n fostering name e (m u)
 
 pub turns_faithful : (n : ℕ) (fostering : Bool) (name : List ℕ) → Faithful (turns_plan n fostering name) (turns n fostering name)
-unfolding turns
+unfolding turns turns_plan
 turns_faithful zero fostering name = faithful_nothing
 turns_faithful (suc n) fostering name = λ s v st fit u.
     let c = state_over v s in
