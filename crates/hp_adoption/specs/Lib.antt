@@ -12,3 +12,4 @@ pub mod FlushActs
 pub mod FlushLaws
 pub mod Joining
 pub mod FlushMeans
+pub mod ListMeans
