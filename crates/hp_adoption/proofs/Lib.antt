@@ -1,5 +1,8 @@
 pub mod Spots
 pub mod Apart
+pub mod Nearest
+pub mod Turns
+pub mod Untangling
 pub mod Renewing
 pub mod Alike
 pub mod Whites

@@ -110,7 +110,7 @@ turns_on next v true = next v
 turns_on next v false = gives v
 
 -- at most so many turns
-abbrev pub turns_plan : ℕ → Bool → List ℕ → Split → Plan Split
+unfoldable pub turns_plan : ℕ → Bool → List ℕ → Split → Plan Split
 turns_plan zero fostering name v = gives v
 turns_plan (suc n) fostering name v = followed_by (turn_plan fostering name v) (λ t. turns_on (turns_plan n fostering name) t.split t.goes_on)
 

@@ -1,5 +1,5 @@
 -- The parts of a turn.
-use Rattle.std.specs.Prelude.{ℕ, ◌+◌, Bool, true, false, List, [], ◌∷◌, ◌++◌, Option, Some, None, Result, Ok, Err}
+use Rattle.std.specs.Prelude.{ℕ, suc, ◌+◌, ◌==◌, Bool, if◌then◌else◌, List, [], ◌∷◌, ◌++◌, Option, Some, None, Result, Ok, Err}
 use Rattle.std.specs.Option.{option_map}
 use Rattle.hp_elements.specs.declared.tag.Tag.{Tag}
 use Rattle.hp_control.specs.declared.change.Change.{Change}
@@ -30,6 +30,23 @@ Turns (Err NoMemory) old new plan = Unit {0}
 abbrev pub seat_depth : Option Seat → Option ℕ
 seat_depth = option_map (λ s. s.depth)
 
+-- the depth of the last element of those that pass a test
+abbrev pub last_by : Bool → Option ℕ → Option ℕ
+last_by here None = if here then Some 0 else None
+last_by here (Some k) = Some (suc k)
+
+abbrev pub last_within : (OpenElement → Bool) → List OpenElement → Option ℕ
+last_within test [] = None
+last_within test (e ∷ es) = last_by (test e) (last_within test es)
+
+-- what a node that is made anew is in the list of edits
+abbrev pub renewing : Ref → Ref → Tag → List Edit
+renewing last made tag = NewElement tag ∷ Put (child.Element last) (Into made) ∷ []
+
+-- the entry that the bookmark is after
+abbrev pub marked : ℕ → ℕ → ℕ → Option ℕ → Option ℕ
+marked last block made bookmark = if last == block then Some made else bookmark
+
 -- the last edits of a turn
 abbrev pub closing : Ref → Place → Ref → Ref → Tag → List Edit
 closing last where_ block made tag = Put (child.Element last) where_ ∷ NewElement tag ∷ MoveChildren block made ∷ Put (child.Element made) (Into block) ∷ []
@@ -37,17 +54,18 @@ closing last where_ block made tag = Put (child.Element last) where_ ∷ NewElem
 abbrev pub from_block : OpenElement → List FormattingEntry → ℕ → Climbed
 from_block block list next = record { formatting = list; next = next; kept = block ∷ []; last = block.id; bookmark = None; edits = [] }
 
-abbrev pub closed_parts : (ℕ → Ref) → Place → ℕ → Tag → List OpenElement → OpenElement → Climbed → Adopted
+-- the block's children go into a new element of the tag, which goes into the block; by the block's id and what stands above it
+abbrev pub closed_parts : (ℕ → Ref) → Place → ℕ → Tag → List OpenElement → ℕ → Climbed → Adopted
 closed_parts ref where_ entry tag above block k = record {
   over = above ++ element_for k.next tag ∷ k.kept;
   formatting = settled k.bookmark entry (Element k.next tag) k.formatting;
   next = k.next + 1;
-  edits = k.edits ++ closing (ref k.last) where_ (ref block.id) (ref k.next) tag;
+  edits = k.edits ++ closing (ref k.last) where_ (ref block) (ref k.next) tag;
 }
 
 -- what a turn makes of the stack's parts above the formatting element, and of the list
 abbrev pub adopted_parts : (ℕ → Ref) → Place → ℕ → Tag → List OpenElement → OpenElement → List OpenElement → List FormattingEntry → ℕ → Adopted
-adopted_parts ref where_ entry tag above block between list next = closed_parts ref where_ entry tag above block (pass_all ref block.id 0 between (from_block block list next))
+adopted_parts ref where_ entry tag above block between list next = closed_parts ref where_ entry tag above block.id (pass_all ref block.id 0 between (from_block block list next))
 
 abbrev pub with_parts : Adopted → Change → Change
 with_parts a c = record c { stack = a.over ++ c.stack; formatting = a.formatting; made = a.next }

@@ -1,7 +1,8 @@
 //! The way from the furthest block up to the formatting element (13.2.6.4.7, the inner loop).
-ghost use Rattle.std.specs.Prelude.{◌≡◌, IfOk};
+ghost use Rattle.std.specs.Prelude.{◌≡◌, ◌++◌, IfOk};
 ghost use Rattle.hp_control.specs.Adoption.{pass_listed, pass_all, renewed, find_id};
-ghost use Rattle.hp_adoption.specs.Entries.{ref_of};
+ghost use Rattle.hp_adoption.specs.Entries.{ref_of, tag_of};
+ghost use Rattle.hp_adoption.specs.Turning.{renewing, marked as spec_marked};
 
 use crate::elements::element_for;
 use crate::entries::{strike, supplant};
@@ -48,7 +49,7 @@ impl<'p> Model for Climb<'p> {
 }
 
 impl<'p> Climb<'p> {
-    /// A new element of the tag takes the place of the node, whose entry has that depth, and the last node goes into it.
+    /// A new element of the tag takes the place of the node, and the last node goes into it.
     fn renew(
         &mut self,
         alloc: Global,
@@ -65,19 +66,12 @@ impl<'p> Climb<'p> {
         };
         let element = element_for(alloc, id, &tag)?;
         self.kept.push(alloc, element)?;
-        let copy = tag.copy(alloc)?;
-        supplant(
-            &mut self.formatting,
-            node,
-            FormattingEntry::Element { id, tag },
-        );
-        let child = Child::Element(own_ref(is_page, self.last));
-        let place = Place::Into(own_ref(is_page, id));
-        self.edits.push(alloc, Edit::NewElement { tag: copy })?;
-        self.edits.push(alloc, Edit::Put { child, place })?;
-        if self.last == block {
-            self.bookmark = Some(id);
-        }
+        let last = own_ref(is_page, self.last);
+        let made = own_ref(is_page, id);
+        note_renewed(alloc, &mut self.edits, last, made, tag.copy(alloc)?)?;
+        let entry = FormattingEntry::Element { id, tag };
+        supplant(&mut self.formatting, node, entry);
+        self.bookmark = marked(self.last, block, id, self.bookmark);
         self.last = id;
         self.next = next;
         Ok(())
@@ -122,6 +116,34 @@ impl<'p> Climb<'p> {
     }
 }
 
+/// The edits of a node that is made anew.
+fn note_renewed(
+    alloc: Global,
+    edits: &mut List<Edit<'_>>,
+    last: Ref,
+    made: Ref,
+    tag: Tag,
+) -> Result<(), NoMemory>
+    ensures { IfOk result (λ _. edits.new ≡ edits.old ++ renewing last made tag) }
+{
+    edits.push(alloc, Edit::NewElement { tag })?;
+    edits.push(
+        alloc,
+        Edit::Put {
+            child: Child::Element(last),
+            place: Place::Into(made),
+        },
+    )?;
+    Ok(())
+}
+
+/// The entry that the bookmark is after, once a node after the last one is made anew.
+fn marked(last: u64, block: u64, made: u64, bookmark: Option<u64>) -> Option<u64>
+    ensures { result ≡ spec_marked last block made bookmark }
+{
+    if last == block { Some(made) } else { bookmark }
+}
+
 /// The tag of the entry of this id.
 fn find_tag(alloc: Global, list: &Stack<FormattingEntry>, id: u64) -> Result<Option<Tag>, NoMemory>
     ensures { IfOk result (λ tag. tag ≡ tag_of id list.now) }
@@ -135,5 +157,3 @@ fn find_tag(alloc: Global, list: &Stack<FormattingEntry>, id: u64) -> Result<Opt
     }
     Ok(None)
 }
-
-ghost use Rattle.hp_adoption.specs.Entries.{tag_of};

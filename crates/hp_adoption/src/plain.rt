@@ -1,10 +1,12 @@
 //! The adoption agency algorithm (13.2.6.4.7).
-ghost use Rattle.std.specs.Prelude.{◌≡◌};
+ghost use Rattle.std.specs.Prelude.{◌≡◌, ◌&&◌};
+ghost use Rattle.std.specs.Str.{bytes_eq};
+ghost use Rattle.hp_control.specs.States.{is_html};
 ghost use Rattle.hp_views.specs.View.{sight, Answers, Carries};
 ghost use Rattle.hp_adoption.specs.AdoptPlans.{plain_below, is_plain_plan, adopt_plan};
 
 use crate::turns::turns;
-use hp_control::{Below, Refusal, is_html};
+use hp_control::{Below, OpenElement, Refusal, is_html};
 use hp_elements::{Kinds, Name};
 use hp_views::{View, older_listed};
 use std::alloc::Global;
@@ -21,8 +23,20 @@ fn is_plain<'p, B: Below>(
         return is_plain_below(alloc, view, name);
     }
     let top = view.change.stack.at(0);
-    let is_named = is_html(top) && name.same(&top.name);
-    Ok(is_named && !view.has_entry(top.id))
+    Ok(is_of_name(top, name) && !view.has_entry(top.id))
+}
+
+/// Whether the element is an HTML one of that name.
+fn is_of_name(element: &OpenElement, name: &Name) -> bool
+    ensures { result ≡ (is_html element.now && bytes_eq name.now element.now.name) }
+{
+    is_html(element) && same_name(name, &element.name)
+}
+
+fn same_name(name: &Name, other: &Name) -> bool
+    ensures { result ≡ bytes_eq name.now other.now }
+{
+    name.same(other)
 }
 
 /// The same of the older current node.
