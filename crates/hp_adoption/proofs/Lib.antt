@@ -1,7 +1,7 @@
 pub mod Spots
 pub mod Apart
 pub mod Nearest
-pub mod Turns
+pub mod TurnSteps
 pub mod Untangling
 pub mod Renewing
 pub mod Alike

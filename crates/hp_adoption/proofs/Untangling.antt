@@ -1,9 +1,11 @@
 -- A turn with a furthest block, from its parts.
-use Rattle.std.proofs.Common.{◌≡◌, ℕ, ◌+◌, Bool, true, false, if◌then◌else◌, List, Option, Some, None, Result, Ok, Err, take, drop, slice_get, ap, sym, subst, ◌∙◌}
+use Rattle.std.proofs.Common.{◌≡◌, ℕ, ◌+◌, Bool, true, false, if◌then◌else◌, List, ◌++◌, Option, Some, None, Result, Ok, Err, take, drop, slice_get, ap, sym, subst, ◌∙◌}
 use Rattle.std.specs.Option.{is_some, option_map}
 use Rattle.hp_elements.specs.declared.tag.Tag.{Tag}
+use Rattle.hp_control.specs.declared.change.Change.{Change}
 use Rattle.hp_control.specs.declared.change.Refusal.{Refusal}
 use Rattle.hp_control.specs.declared.change.Refusal.TheVariants.{Crossed, NoMemory}
+use Rattle.hp_control.specs.declared.edit.Edit.{Edit}
 use Rattle.hp_control.specs.declared.edit.Place.{Place}
 use Rattle.hp_control.specs.declared.element.OpenElement.{OpenElement}
 use Rattle.hp_control.specs.declared.question.Crossing.{Crossing}
@@ -16,23 +18,29 @@ use Rattle.hp_views.specs.View.{Sight, Carries, Finds}
 use Rattle.hp_views.specs.declared.walks.Walk.TheVariants.{Found}
 use Rattle.hp_adoption.specs.Entries.{ref_of}
 use Rattle.hp_adoption.specs.AdoptPlans.{Turned, below_depth, with_adopted, untangled, untangle_in, untangle_at, seat_at, block_turn, own_turn, stays}
-use Rattle.hp_adoption.specs.Turning.{Turns, adopted_parts, seat_depth}
+use Rattle.hp_adoption.specs.Turning.{Turns, adopted_parts, seat_depth, with_parts}
 use Rattle.hp_adoption.proofs.Nearest.{furthest_at}
 
-pub untangle_done : (fostering is_page : Bool) (id : ℕ) (tag : Tag) (depth block : ℕ) (above between : List OpenElement) (e : OpenElement) (where_ : Place) (v w : Split) (start : Heard) (mid : Sight)
+-- from what the stack was taken apart into, the place, and what was made of these
+pub untangle_done : (fostering is_page : Bool) (id : ℕ) (tag : Tag) (depth block : ℕ) (above between : List OpenElement) (e : OpenElement) (where_ : Place) (v : Split) (change : Change) (edits : List Edit) (start : Heard) (mid : Sight)
     → slice_get v.change.stack block ≡ Some e
     → above ≡ take block (take depth v.change.stack)
     → between ≡ drop (block + 1) (take depth v.change.stack)
     → is_page ≡ is_some v.page
     → Finds (record { heard = start; split = below_depth depth v }) mid (place_plan fostering) where_
-    → w ≡ with_adopted (adopted_parts (ref_of is_page) where_ id tag above e between v.change.formatting v.change.made) mid.split
-    → Runs start mid.heard (untangle_at fostering id tag depth block v) (Ok w)
-untangle_done fostering is_page id tag depth block above between e where_ v w start mid at a b p f d =
+    → change ≡ with_parts (adopted_parts (ref_of is_page) where_ id tag above e between mid.split.change.formatting mid.split.change.made) mid.split.change
+    → edits ≡ mid.split.edits ++ (adopted_parts (ref_of is_page) where_ id tag above e between mid.split.change.formatting mid.split.change.made).edits
+    → Runs start mid.heard (untangle_at fostering id tag depth block v) (Ok (record mid.split { change = change; edits = edits }))
+untangle_done fostering is_page id tag depth block above between e where_ v change edits start mid at a b p f hc he =
     let seat : Seat = record { depth = block; element = e } in
     let over : List OpenElement = take depth v.change.stack in
-    let parts = λ (page : Bool) (xs ys : List OpenElement) (s : Split). with_adopted (adopted_parts (ref_of page) where_ id tag xs e ys v.change.formatting v.change.made) s in
+    let w : Split = record mid.split { change = change; edits = edits } in
+    let parts = λ (page : Bool) (xs ys : List OpenElement) (s : Split). with_adopted (adopted_parts (ref_of page) where_ id tag xs e ys s.change.formatting s.change.made) s in
+    let made : w ≡ parts is_page above between mid.split =
+        ap (λ (x : Change). record mid.split { change = x; edits = edits }) hc
+        ∙ ap (λ (y : List Edit). record mid.split { change = with_parts (adopted_parts (ref_of is_page) where_ id tag above e between mid.split.change.formatting mid.split.change.made) mid.split.change; edits = y }) he in
     let whole : w ≡ untangled id tag depth seat v where_ =
-        d ∙ (ap (λ s. parts is_page above between s) f.same
+        made ∙ (ap (λ s. parts is_page above between s) f.same
         ∙ (ap (λ xs. parts is_page xs between (below_depth depth v)) a
         ∙ (ap (λ ys. parts is_page (take block over) ys (below_depth depth v)) b
         ∙ ap (λ page. parts page (take block over) (drop (block + 1) over) (below_depth depth v)) p))) in
