@@ -5,4 +5,5 @@ pub mod TurnSteps
 pub mod Untangling
 pub mod Renewing
 pub mod Alike
+pub mod Whites
 pub mod Carrying

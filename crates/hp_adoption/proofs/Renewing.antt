@@ -1,19 +1,13 @@
 -- Entries that are made anew one after the other.
-use Rattle.std.proofs.Common.{◌≡◌, ℕ, zero, suc, ◌+◌, ◌-◌, ◌<◌, ◌≤◌, Bool, true, false, List, [], ◌∷◌, ◌++◌, Option, Some, None, Result, Ok, Err, length, drop, slice_get, slice_set, slice_index_or, ap, sym, subst, refl, ◌∙◌, arith}
-use Rattle.hp_elements.specs.declared.tag.Tag.{Tag}
-use Rattle.hp_control.specs.declared.change.Refusal.{Refusal}
-use Rattle.hp_control.specs.declared.change.Refusal.TheVariants.{Crossed, NoMemory}
-use Rattle.hp_control.specs.declared.edit.Place.{Place}
+use Rattle.std.proofs.Common.{◌≡◌, ℕ, zero, suc, ◌<◌, ◌≤◌, Bool, List, [], ◌∷◌, Option, Some, None, Ok, length, slice_get, slice_set, slice_index_or, ap, sym, subst, refl, ◌∙◌, arith}
 use Rattle.hp_control.specs.declared.element.FormattingEntry.{FormattingEntry}
-use Rattle.hp_control.specs.declared.question.Crossing.{Crossing}
-use Rattle.hp_control.specs.declared.question.Question.{Question}
-use Rattle.hp_control.specs.declared.question.Answer.{Answer}
+use Rattle.hp_control.specs.declared.element.FormattingEntry.TheVariants.{Marker}
 use Rattle.hp_control.specs.Faithful.{Split}
-use Rattle.hp_control.specs.Plan.{Plan, gives, crosses, asks, followed_by, end_by, Heard, Runs}
-use Rattle.hp_control.specs.Running.{Partway, runs_gives, runs_then, runs_crosses}
-use Rattle.hp_views.specs.PlacePlans.{insert_at}
-use Rattle.hp_views.specs.View.{Sight, Carries}
-use Rattle.hp_adoption.specs.ReconPlans.{renew_plan, renew_down_plan}
+use Rattle.hp_control.specs.Plan.{Plan, Heard, Runs}
+use Rattle.hp_control.specs.Running.{Partway, runs_gives, runs_then}
+use Rattle.hp_views.specs.FieldPlans.{with_change}
+use Rattle.hp_views.specs.ListPlans.{with_entries}
+use Rattle.hp_adoption.specs.ReconPlans.{renew_on, renew_plan, renew_down_plan}
 
 pub got : {X : Type 0} (xs : List X) (k : ℕ) (x : X) → k < length xs → x ≡ slice_index_or xs k x → slice_get xs k ≡ Some x
 got [] k x h e = absurd (omega (arith, h))
@@ -38,36 +32,25 @@ set_twice [] (suc k) x y = refl
 set_twice (z ∷ zs) zero x y = refl
 set_twice (z ∷ zs) (suc k) x y = ap (λ l. z ∷ l) (set_twice zs k x y)
 
-abbrev list_in : Result Split Crossing → List FormattingEntry
-list_in (Ok w) = w.change.formatting
-list_in (Err crossing) = []
+-- past the list's end there is nothing to renew
+pub past_renews : (h : Heard) (fostering : Bool) (k : ℕ) (v : Split) → length v.change.formatting ≤ k → Runs h h (renew_plan fostering k v) (Ok v)
+past_renews h fostering k v l =
+    let P : Option FormattingEntry → Type 0 = λ o. Runs h h (renew_on fostering k v o) (Ok v) in
+    subst P (sym (past_end v.change.formatting k l)) (runs_gives h v)
 
--- an element that is inserted leaves the list as it is
-pub insert_keeps : (says : Question → Answer) (p : Plan Place) (tag : Tag) (v w : Split) → end_by says (followed_by p (λ q. gives (insert_at tag v q))) ≡ Ok w → w.change.formatting ≡ v.change.formatting
-insert_keeps says (gives x) tag v w e = sym (ap list_in e)
-insert_keeps says (crosses x) tag v w e = absurd (cc)
-insert_keeps says (asks q go) tag v w e = insert_keeps says (go (says q)) tag v w e
+-- a marker stays
+pub marker_renews : (h : Heard) (fostering : Bool) (k : ℕ) (v : Split) (x : FormattingEntry) (list : List FormattingEntry) → k < length v.change.formatting → x ≡ Marker → x ≡ slice_index_or v.change.formatting k x → list ≡ slice_set v.change.formatting k Marker → Runs h h (renew_plan fostering k v) (Ok (with_change (with_entries list v.change) v))
+marker_renews h fostering k v x list l e m n =
+    let xs = v.change.formatting in
+    let Is : FormattingEntry → Type 0 = λ y. y ≡ slice_index_or xs k y in
+    let there : Marker ≡ slice_index_or xs k Marker = subst Is e m in
+    let P : Option FormattingEntry → Type 0 = λ o. Runs h h (renew_on fostering k v o) (Ok v) in
+    let Q : List FormattingEntry → Type 0 = λ es. Runs h h (renew_plan fostering k v) (Ok (with_change (with_entries es v.change) v)) in
+    subst Q (sym (n ∙ put_back xs k Marker l there)) (subst P (sym (got xs k Marker l there)) (runs_gives h v))
 
--- a loop begins with the whole
-pub partway_start : {X : Type 0} (h : Heard) (p q : Plan X) → p ≡ q → Partway h h p q
-partway_start {X} h p q e = λ new end r. let P : Plan X → Type 0 = λ x. Runs h new x end in subst P (sym e) r
-
--- reconstruction: one more entry
+-- one more entry
 pub down_step : (start now next : Heard) (whole : Plan Split) (fostering : Bool) (n m k : ℕ) (v w : Split) → n ≡ suc m → k ≡ m → Partway start now whole (renew_down_plan fostering n v) → Runs now next (renew_plan fostering k v) (Ok w) → Partway start next whole (renew_down_plan fostering m w)
 down_step start now next whole fostering n m k v w e f part run =
     let P : ℕ → Type 0 = λ x. Partway start now whole (renew_down_plan fostering x v) in
     let Q : ℕ → Type 0 = λ x. Runs now next (renew_plan fostering x v) (Ok w) in
     λ new end r. (subst P e part) new end (runs_then (renew_down_plan fostering m) (subst Q f run) r)
-
-pub down_refused : (result : Refusal) (start : Heard) (mid new : Sight) (whole : Plan Split) (fostering : Bool) (n m k : ℕ) → n ≡ suc m → k ≡ m → Partway start mid.heard whole (renew_down_plan fostering n mid.split) → Carries (Err result) mid new (renew_plan fostering k) → Carries (Err result) (record { heard = start; split = mid.split }) new (λ v. whole)
-down_refused NoMemory start mid new whole fostering n m k e f part run = tt
-down_refused (Crossed crossing) start mid new whole fostering n m k e f part run =
-    let P : ℕ → Type 0 = λ x. Partway start mid.heard whole (renew_down_plan fostering x mid.split) in
-    let Q : ℕ → Type 0 = λ x. Runs mid.heard new.heard (renew_plan fostering x mid.split) (Err crossing) in
-    (subst P e part) new.heard (Err crossing) (runs_crosses (renew_down_plan fostering m) (subst Q f run))
-
-pub down_done : (start now : Heard) (whole : Plan Split) (fostering : Bool) (n : ℕ) (v : Split) → n ≡ 0 → Partway start now whole (renew_down_plan fostering n v) → Runs start now whole (Ok v)
-down_done start now whole fostering n v e part =
-    let P : ℕ → Type 0 = λ x. Partway start now whole (renew_down_plan fostering x v) in
-    (subst P e part) now (Ok v) (runs_gives now v)
-

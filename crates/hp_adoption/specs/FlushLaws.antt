@@ -71,7 +71,7 @@ flush_way s v false e st u =
     let P : List ℕ → Type 0 = λ text. IsSaid v.page (emptied_first text c) → Matches s v (end_by (answer_of s) (flush_text v.change.pending w)) (emptied_first text c) in
     subst P (sym (own_pending s v st e))
     (λ m. matches_then s v (gives w) (flush_text v.change.pending) empty_pending (put_whole v.change.pending) st m (emptied_way s v st e)
-        (λ x is d t. text_faithful v.change.pending s x d.stands refl t)) u
+    (λ x is d t. text_faithful v.change.pending s x d.stands refl t)) u
 
 pub flush_faithful : Faithful flush_plan flush_at_once
 flush_faithful = λ s v st fit u. flush_way s v v.older_text refl st u

@@ -11,8 +11,11 @@ use Rattle.hp_views.specs.PlacePlans.{put_plan}
 use Rattle.hp_adoption.specs.ReconPlans.{reconstruct_plan}
 
 -- the text where content goes that may not stand in a table
+abbrev pub fostered_text : List ℕ → Split → Plan Split
+fostered_text text v = followed_by (put_plan true (child.Text text) v) frameset_plan
+
 abbrev pub foster_text : List ℕ → Split → Plan Split
-foster_text text v = followed_by (reconstruct_plan true v) (λ w. followed_by (put_plan true (child.Text text) w) frameset_plan)
+foster_text text v = followed_by (reconstruct_plan true v) (fostered_text text)
 
 -- whether all of it is white
 abbrev pub flush_by : List ℕ → Split → Bool → Plan Split

@@ -15,7 +15,7 @@ mod reconstruction;
 mod turns;
 
 pub use ark::append_to_list;
-pub use laws::{append_to_list_means, flush_means, reconstruct_means};
+pub use laws::{adoption_means, append_to_list_means, flush_means, reconstruct_means};
 pub use links::close_link;
 pub use pending::flush;
 pub use plain::adopt;
