@@ -37,13 +37,13 @@ untangle_done fostering is_page id tag depth block above between e where_ v chan
     let w : Split = record mid.split { change = change; edits = edits } in
     let parts = λ (page : Bool) (xs ys : List OpenElement) (s : Split). with_adopted (adopted_parts (ref_of page) where_ id tag xs e ys s.change.formatting s.change.made) s in
     let made : w ≡ parts is_page above between mid.split =
-        ap (λ (x : Change). record mid.split { change = x; edits = edits }) hc
-        ∙ ap (λ (y : List Edit). record mid.split { change = with_parts (adopted_parts (ref_of is_page) where_ id tag above e between mid.split.change.formatting mid.split.change.made) mid.split.change; edits = y }) he in
+    ap (λ (x : Change). record mid.split { change = x; edits = edits }) hc
+    ∙ ap (λ (y : List Edit). record mid.split { change = with_parts (adopted_parts (ref_of is_page) where_ id tag above e between mid.split.change.formatting mid.split.change.made) mid.split.change; edits = y }) he in
     let whole : w ≡ untangled id tag depth seat v where_ =
-        made ∙ (ap (λ s. parts is_page above between s) f.same
-        ∙ (ap (λ xs. parts is_page xs between (below_depth depth v)) a
-        ∙ (ap (λ ys. parts is_page (take block over) ys (below_depth depth v)) b
-        ∙ ap (λ page. parts page (take block over) (drop (block + 1) over) (below_depth depth v)) p))) in
+    made ∙ (ap (λ s. parts is_page above between s) f.same
+    ∙ (ap (λ xs. parts is_page xs between (below_depth depth v)) a
+    ∙ (ap (λ ys. parts is_page (take block over) ys (below_depth depth v)) b
+    ∙ ap (λ page. parts page (take block over) (drop (block + 1) over) (below_depth depth v)) p))) in
     let P : Option Seat → Type 0 = λ o. Runs start mid.heard (untangle_in fostering id tag depth v o) (Ok w) in
     let Q : Split → Type 0 = λ x. Runs mid.heard mid.heard (gives x) (Ok w) in
     subst P (sym (ap (option_map (λ (x : OpenElement). record { depth = block; element = x })) at))

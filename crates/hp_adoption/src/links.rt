@@ -29,10 +29,8 @@ fn adopt_and_leave<'p, B: Below>(
 ) -> Result<(), Refusal>
     ensures { Carries result (sight B.heard view.old) (sight B.heard view.new) (λ v. followed_by (adopt_plan fostering name v) (gone_plan id)) }
 {
-    match adopt(alloc, view, fostering, name) {
-        Ok(()) => leave(alloc, view, id),
-        Err(refusal) => Err(refusal),
-    }
+    adopt(alloc, view, fostering, name)?;
+    leave(alloc, view, id)
 }
 
 /// Adopts the link of the own entry at that depth, and then takes its element off list and stack.

@@ -25,7 +25,7 @@ pub returns-in-Element : goal.returns-in-Element
 returns-in-Element g c =
     let old : Sight = sight g.B.Below.heard c.args.view.now in
     let entry : slice_get old.split.change.formatting c.args.at ≡ Some (Element c.in-Element.id c.in-Element.tag) =
-        got old.split.change.formatting c.args.at c.at.result.now c.requires c.at.ensures ∙ ap Some c.in-Element.is in
+    got old.split.change.formatting c.args.at c.at.result.now c.requires c.at.ensures ∙ ap Some c.in-Element.is in
     carries_as c.adopt_and_leave.result old (sight g.B.Below.heard c.adopt_and_leave.new.view)
     (λ v. followed_by (adopt_plan c.args.fostering c.of_known.result v) (gone_plan c.in-Element.id))
     (λ v. close_own_plan c.args.fostering v (slice_get v.change.formatting c.args.at))

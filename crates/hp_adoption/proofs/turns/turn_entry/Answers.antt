@@ -19,7 +19,7 @@ pub returns-in_ok-tag-in-Element : goal.returns-in_ok-tag-in-Element
 returns-in_ok-tag-in-Element g c =
     let old : Sight = sight g.B.Below.heard c.args.view.now in
     let entry : slice_get old.split.change.formatting c.args.at ≡ Some (Element c.in-Element.id c.in-Element.tag) =
-        got old.split.change.formatting c.args.at c.at.result.now c.requires c.at.ensures ∙ ap Some c.in-Element.is in
+    got old.split.change.formatting c.args.at c.at.result.now c.requires c.at.ensures ∙ ap Some c.in-Element.is in
     turns_as c.turn_own.result old (sight g.B.Below.heard c.turn_own.new.view)
     (λ v. own_turn c.args.fostering c.in-Element.id c.in_ok-tag-in-Element.tag v (id_walk c.in-Element.id v.change.stack))
     (λ v. entry_turn c.args.fostering v (slice_get v.change.formatting c.args.at))
