@@ -9,3 +9,4 @@ pub mod TestLaws
 pub mod Laws
 pub mod RowPlans
 pub mod HandlePlans
+pub mod Known
