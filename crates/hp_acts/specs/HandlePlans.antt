@@ -14,7 +14,7 @@ where_again next (left r) = gives r
 where_again next (again t r) = next t r
 
 -- at most so many turns
-abbrev pub turns_plan : ℕ → Token → Reached → Plan Reached
+unfoldable pub turns_plan : ℕ → Token → Reached → Plan Reached
 turns_plan zero t r = crosses X3
 turns_plan (suc n) t r = followed_by (turn_plan t r) (where_again (turns_plan n))
 

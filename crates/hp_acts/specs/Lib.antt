@@ -8,5 +8,6 @@ pub mod ActLaws
 pub mod TestLaws
 pub mod Laws
 pub mod RowPlans
+pub mod Plain
 pub mod HandlePlans
 pub mod Known
