@@ -1,4 +1,14 @@
 pub mod Entries
 pub mod ReconPlans
 pub mod ArkPlans
+pub mod FlushPlans
+pub mod AdoptPlans
 pub mod Turning
+pub mod LinkPlans
+pub mod Following
+pub mod ReconLaws
+pub mod ArkLaws
+pub mod FlushActs
+pub mod FlushLaws
+pub mod Joining
+pub mod FlushMeans
