@@ -1,7 +1,9 @@
 -- Over a known state a token is handled as the definition says, and nothing crosses.
-use Rattle.std.proofs.Common.{◌≡◌, ℕ, zero, suc, ◌+◌, ◌*◌, ◌<◌, List, [], ◌∷◌, ◌++◌, length, Bool, true, false, ◌==◌, ◌||◌, ◌&&◌, not, Option, None, Some, refl, sym, subst, ap, ◌∙◌, arith, length-append, length-map}
+use Rattle.std.proofs.Common.{◌≡◌, ℕ, zero, suc, ◌+◌, ◌*◌, ◌<◌, List, [], ◌∷◌, ◌++◌, length, Bool, true, false, ◌==◌, ◌||◌, ◌&&◌, not, Option, None, Some, refl, sym, subst, ap, ◌∙◌, arith, length-append, length-map, append-nil}
 use Rattle.std.specs.Prelude.{if◌then◌else◌, Result, Ok, Err, drop, map, nat_lt, IsSome}
+use Rattle.std.specs.List.{list_any}
 use Rattle.std.specs.Option.{is_some, unwrap_or}
+use Rattle.std.proofs.Math.Bool.{or-true}
 use Rattle.std.proofs.lemmas.Bool.{lt-ltb, and_parts, true≢false}
 use Rattle.hp_elements.specs.Tokens.{kind_of}
 use Rattle.hp_elements.specs.declared.act.Act.{Act}
@@ -25,15 +27,21 @@ use Rattle.hp_control.specs.declared.question.Crossing.{Crossing}
 use Rattle.hp_control.specs.declared.question.Question.{Question}
 use Rattle.hp_control.specs.Apply.{applied, named_edit, shifted}
 use Rattle.hp_control.specs.Faithful.{FaithfulWhere, IsBase, IsSaid, Page, Split, StandsOn, state_over}
+use Rattle.hp_control.specs.Composed.{flush}
 use Rattle.hp_control.specs.Nothing.{nothing}
-use Rattle.hp_control.specs.Outcome.{Act as StateAct, Outcome}
+use Rattle.hp_control.specs.Outcome.{Act as StateAct, Outcome, is_older, is_touch}
 use Rattle.hp_control.specs.Plan.{Heard, Plan, Runs, end_by}
 use Rattle.hp_control.specs.States.{ControlState, IsValid, StackFits, is_tall}
 use Rattle.hp_control.specs.Steps.{nothing_touched}
+use Rattle.hp_control.specs.Tree.{applied_all}
 use Rattle.hp_control.specs.Truth.{answer_of}
 use Rattle.hp_views.specs.FieldLaws.{has_own}
 use Rattle.hp_views.specs.Quiet.{drop_none, paged, paged_part, stands_kept}
+use Rattle.hp_views.specs.ResetLaws.{is_kept_by}
+use Rattle.hp_views.specs.SecondPlans.{own_modes}
 use Rattle.hp_views.specs.StackLaws.{full_stack}
+use Rattle.hp_adoption.specs.FlushActs.{MeansAs, flush_at_once}
+use Rattle.hp_adoption.specs.FlushMeans.{flushes_at_once}
 use Rattle.hp_model.specs.Finding.{finds}
 use Rattle.hp_model.specs.Handling.{all_turns, bound, settled}
 use Rattle.hp_model.specs.Rows.{turn}
@@ -44,7 +52,7 @@ use Rattle.hp_model.specs.Whole.{IsRead}
 use Rattle.hp_model.proofs.Course.{Course, Along, fits}
 use Rattle.hp_model.proofs.Finding.{act_found}
 use Rattle.hp_model.proofs.Handled.{turns-end}
-use Rattle.hp_acts.specs.ActLaws.{ActMeans, MeansBy, act_faithful, fits_of}
+use Rattle.hp_acts.specs.ActLaws.{MeansBy, act_faithful, fits_of, step_at_once}
 use Rattle.hp_acts.specs.HandlePlans.{all_turns_plan, handle_plan, handle_rest, most_turns, turns_plan, without_line_feed}
 use Rattle.hp_acts.specs.Handling.{nothing_asked, unskipped}
 use Rattle.hp_acts.specs.Known.{EndsWhole, IsHandledWhole, KnownHandled, after_first, handled_at_once, handled_rest}
@@ -52,7 +60,7 @@ use Rattle.hp_acts.specs.Plans.{act_plan, by_plan, test_plan}
 use Rattle.hp_acts.specs.RowPlans.{Reached}
 use Rattle.hp_acts.specs.Spending.{html_tag}
 use Rattle.hp_acts.specs.TestLaws.{sees, test_faithful}
-use Rattle.hp_acts.proofs.Matching.{IsHandled, MatchesAlike, matches_alike}
+use Rattle.hp_acts.proofs.Matching.{MatchesAlike, applied_after, matches_alike}
 use Rattle.hp_acts.proofs.RowMatches.{is_row_act}
 use Rattle.hp_acts.proofs.TurnMatches.{MatchesTurns, turns_match}
 
@@ -106,13 +114,28 @@ planned : (fostering : Bool) (t : Token) (a : Act) → is_row_act a ≡ true →
 planned fostering t (act.TakeOff which) h = absurd (true≢false (sym h))
 planned fostering t _ h = refl
 
+-- what an act does, its edits in their effect
+alike_flush : (d : Split) (end : Result Split Crossing) (o p : Outcome) → MeansAs o p → MatchesAlike nothing d end o → MatchesAlike nothing d end p
+alike_flush d (Ok w) o p e m = record {
+  control = m.control ∙ e.control;
+  edits = λ tree. m.edits tree ∙ (applied_after tree (map (named_edit nothing) d.edits) o.edits ∙ (e.edits (applied_all tree (map (named_edit nothing) d.edits)) ∙ sym (applied_after tree (map (named_edit nothing) d.edits) p.edits)));
+  own = sym (ap (λ l. list_any (is_older nothing) l) e.touched) ∙ m.own;
+  stands = m.stands;
+}
+alike_flush d (Err crossing) o p e m = sym (ap (λ l. list_any (is_touch nothing crossing) l) e.touched) ∙ m
+
+act_alike : (fostering : Bool) (t : Token) (a : Act) (c : ControlState) (d : Split) (end : Result Split Crossing) → MatchesAlike nothing d end (step_at_once fostering t a c) → MatchesAlike nothing d end (step fostering t a c)
+act_alike fostering t act.Flush c d end m = alike_flush d end (flush_at_once c) (flush c) (flushes_at_once c) m
+act_alike fostering t _ c d end m = m
+
 acts_known : (t : Token) (n : ℕ) → IsRead t → (fostering : Bool) (a : Act) (v : Course) (d : Split) → StandsOn nothing d → Along v n (state_over d nothing) → fits (kind_of t) a v ≡ true → is_row_act a ≡ true
     → MatchesAlike nothing d (end_by (answer_of nothing) (by_plan (act_plan fostering t a) d)) (step fostering t a (state_over d nothing))
 acts_known t n read fostering a v d st g h r =
     let c = state_over d nothing in
     act_alike fostering t a c d (end_by (answer_of nothing) (by_plan (act_plan fostering t a) d))
+    (matches_alike nothing d (end_by (answer_of nothing) (by_plan (act_plan fostering t a) d)) (step_at_once fostering t a c)
     (by_its_plan (fits_of a) (act_plan fostering t a) (step_at_once fostering t a) (planned fostering t a r) (act_faithful fostering t (read_html t read) a)
-    nothing d st (fits_there (kind_of t) a v n d st g h) (all_said d.page (step_at_once fostering t a c) (is_paged d.page d.change st.base)))
+    nothing d st (fits_there (kind_of t) a v n d st g h) (all_said d.page (step_at_once fostering t a c) (is_paged d.page d.change st.base))))
 
 tests_known : (t : Token) (x : Test) (d : Split) → StandsOn nothing d → end_by (answer_of nothing) (test_plan t x d) ≡ Ok (holds t x (state_over d nothing))
 tests_known t x d st = test_faithful t x nothing d st (sees_there x d st)

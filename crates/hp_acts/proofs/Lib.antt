@@ -3,3 +3,7 @@ pub mod RowLemmas
 pub mod TokenLeft
 pub mod RowRuns
 pub mod Keeping
+pub mod Matching
+pub mod RowMatches
+pub mod TurnMatches
+pub mod KnownMatches

@@ -17,7 +17,7 @@ use Rattle.hp_acts.specs.RowPlans.{Reached, Came}
 use Rattle.hp_acts.specs.RowPlans.{left as came_left, again as came_again}
 
 -- edits one after the other
-applied_after : (tree : Tree) (es fs : List Edit) → applied_all tree (es ++ fs) ≡ applied_all (applied_all tree es) fs
+pub applied_after : (tree : Tree) (es fs : List Edit) → applied_all tree (es ++ fs) ≡ applied_all (applied_all tree es) fs
 applied_after tree [] fs = refl
 applied_after tree (e ∷ es) fs = applied_after (applied tree e) es fs
 
@@ -38,12 +38,6 @@ done_alike s v w o d = record { control = d.control; edits = λ tree. ap (applie
 pub matches_alike : (s : ControlState) (v : Split) (end : Result Split Crossing) (o : Outcome) → Matches s v end o → MatchesAlike s v end o
 matches_alike s v (Ok w) o m = done_alike s v w o m
 matches_alike s v (Err crossing) o m = m
-
--- the same, where the edits of another outcome lead to the same trees
-pub record IsLike (o p : Outcome) : Type 0 where
-  pub control : o.control ≡ p.control
-  pub edits : MakeAlike o.edits p.edits
-  pub touched : o.touched ≡ p.touched
 
 either : (a b : Bool) → a ≡ false → b ≡ false → (a || b) ≡ false
 either false b h k = k

@@ -134,6 +134,7 @@ module _ (s : ControlState)
           (asked_matches t d read st valid)
 
   pub turns_match : (k : ℕ) (t : Token) (d : Reached) → IsRead t → StandsOn s d.split → IsValid (state_over d.split s) → MatchesTurns s d (end_by (answer_of s) (turns_plan k t d)) (turns turn k t (state_over d.split s))
+  unfolding turns_plan
   turns_match zero t d read st valid = tt
   turns_match (suc k) t d read st valid =
       subst (λ r. MatchesTurns s d r (turns turn (suc k) t (state_over d.split s))) (sym (end_then (answer_of s) (turn_plan t d) (where_again (turns_plan k))))
