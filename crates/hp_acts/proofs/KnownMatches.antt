@@ -1,5 +1,5 @@
 -- Over a known state a token is handled as the definition says, and nothing crosses.
-use Rattle.std.proofs.Common.{◌≡◌, ℕ, zero, suc, ◌+◌, ◌*◌, ◌<◌, List, [], ◌∷◌, ◌++◌, length, Bool, true, false, ◌==◌, ◌||◌, ◌&&◌, not, Option, None, Some, refl, sym, subst, ap, ◌∙◌, arith, length-append, length-map, append-nil}
+use Rattle.std.proofs.Common.{◌≡◌, ℕ, zero, suc, ◌+◌, ◌*◌, ◌<◌, ◌⊎◌, inl, inr, List, [], ◌∷◌, ◌++◌, length, Bool, true, false, ◌==◌, ◌||◌, ◌&&◌, not, Option, None, Some, refl, sym, subst, ap, ◌∙◌, arith, length-append, length-map, append-nil}
 use Rattle.std.specs.Prelude.{if◌then◌else◌, Result, Ok, Err, drop, map, nat_lt, IsSome}
 use Rattle.std.specs.List.{list_any}
 use Rattle.std.specs.Option.{is_some, unwrap_or}
@@ -62,6 +62,7 @@ use Rattle.hp_acts.specs.Spending.{html_tag}
 use Rattle.hp_acts.specs.TestLaws.{sees, test_faithful}
 use Rattle.hp_acts.proofs.Matching.{MatchesAlike, applied_after, matches_alike}
 use Rattle.hp_acts.proofs.RowMatches.{is_row_act}
+use Rattle.hp_acts.proofs.SuitingAny.{any_act, any_test, turns_any}
 use Rattle.hp_acts.proofs.TurnMatches.{MatchesTurns, turns_match}
 
 -- the tag of a token as the lexer reads it is an HTML one
@@ -128,17 +129,17 @@ act_alike : (fostering : Bool) (t : Token) (a : Act) (c : ControlState) (d : Spl
 act_alike fostering t act.Flush c d end m = alike_flush d end (flush_at_once c) (flush c) (flushes_at_once c) m
 act_alike fostering t _ c d end m = m
 
-acts_known : (t : Token) (n : ℕ) → IsRead t → (fostering : Bool) (a : Act) (v : Course) (d : Split) → StandsOn nothing d → Along v n (state_over d nothing) → fits (kind_of t) a v ≡ true → is_row_act a ≡ true
+acts_known : (t : Token) (n : ℕ) → IsRead t → (fostering : Bool) (a : Act) (v : Course) (d : Split) → StandsOn nothing d → Along v n (state_over d nothing) → fits (kind_of t) a v ≡ true → is_row_act a ≡ true → true ≡ true
     → MatchesAlike nothing d (end_by (answer_of nothing) (by_plan (act_plan fostering t a) d)) (step fostering t a (state_over d nothing))
-acts_known t n read fostering a v d st g h r =
+acts_known t n read fostering a v d st g h r i =
     let c = state_over d nothing in
     act_alike fostering t a c d (end_by (answer_of nothing) (by_plan (act_plan fostering t a) d))
     (matches_alike nothing d (end_by (answer_of nothing) (by_plan (act_plan fostering t a) d)) (step_at_once fostering t a c)
     (by_its_plan (fits_of a) (act_plan fostering t a) (step_at_once fostering t a) (planned fostering t a r) (act_faithful fostering t (read_html t read) a)
     nothing d st (fits_there (kind_of t) a v n d st g h) (all_said d.page (step_at_once fostering t a c) (is_paged d.page d.change st.base))))
 
-tests_known : (t : Token) (x : Test) (d : Split) → StandsOn nothing d → end_by (answer_of nothing) (test_plan t x d) ≡ Ok (holds t x (state_over d nothing))
-tests_known t x d st = test_faithful t x nothing d st (sees_there x d st)
+tests_known : (t : Token) (x : Test) (d : Split) → StandsOn nothing d → true ≡ true → end_by (answer_of nothing) (test_plan t x d) ≡ Ok (holds t x (state_over d nothing))
+tests_known t x d st i = test_faithful t x nothing d st (sees_there x d st)
 
 -- as many turns as the definition's
 own_length : (es : List OpenElement) (k : ℕ) → length (map (shifted 0) es ++ drop k []) ≡ length es
@@ -159,19 +160,21 @@ EndsAs v (Err crossing) h = ⊥
 from_fresh : (v : Split) → Reached
 from_fresh v = record { split = v; handled = nothing_asked }
 
-ends_so : (v : Split) (end : Result Reached Crossing) (o : Option Meant) (c : ControlState) → IsSome o → MatchesTurns nothing (record { split = v; handled = nothing_asked }) end o → EndsAs v end (unwrap_or o (unchanged c))
-ends_so v (Ok r) (Some h) c i m = record { control = m.done.control; edits = m.done.edits; switch = m.switch ∙ first_later h.switch; stopped = m.stopped; stands = m.done.stands }
-ends_so v (Ok r) None c i m = absurd m
-ends_so v (Err crossing) (Some h) c i m = absurd (true≢false (sym m ∙ nothing_touched crossing h.outcome))
-ends_so v (Err crossing) None c i m = absurd (true≢false (sym i))
+ends_so : (v : Split) (end : Result Reached Crossing) (few o : Option Meant) (c : ControlState) → few ≡ o → IsSome o → MatchesTurns nothing (record { split = v; handled = nothing_asked }) end few o → EndsAs v end (unwrap_or o (unchanged c))
+ends_so v (Ok r) few (Some h) c e i m = record { control = m.done.control; edits = m.done.edits; switch = m.switch ∙ first_later h.switch; stopped = m.stopped; stands = m.done.stands }
+ends_so v (Ok r) few None c e i m = absurd m
+ends_so v (Err crossing) few (Some h) c e i (inl m) = absurd (true≢false (sym m ∙ nothing_touched crossing h.outcome))
+ends_so v (Err crossing) few (Some h) c e i (inr m) = let z : Some h ≡ None = sym e ∙ m.1 in absurd (cc)
+ends_so v (Err crossing) few None c e i m = absurd (true≢false (sym i))
 
 all_turns_known : (t : Token) (v : Split) → IsRead t → StandsOn nothing v → IsValid (state_over v nothing) → EndsAs v (end_by (answer_of nothing) (all_turns_plan t v)) (all_turns (state_over v nothing) t)
 all_turns_known t v read st valid =
     let c = state_over v nothing in
     let d : Reached = record { split = v; handled = nothing_asked } in
-    ends_so v (end_by (answer_of nothing) (all_turns_plan t v)) (turns turn (bound c) t c) c (turns-end t c read valid)
-    (subst (λ k. MatchesTurns nothing d (end_by (answer_of nothing) (turns_plan (most_turns v) t d)) (turns turn k t c)) (as_many v)
-    (turns_match nothing acts_known tests_known (most_turns v) t d read st valid))
+    let k = most_turns v in
+    ends_so v (end_by (answer_of nothing) (all_turns_plan t v)) (turns turn k t c) (turns turn (bound c) t c) c (ap (λ j. turns turn j t c) (as_many v)) (turns-end t c read valid)
+    (subst (λ j. MatchesTurns nothing d (end_by (answer_of nothing) (turns_plan k t d)) (turns turn k t c) (turns turn j t c)) (as_many v)
+    (turns_match nothing any_act any_test acts_known tests_known k k t d (omega arith) read st valid (turns_any k t c)))
 
 -- no line feed is skipped any more
 skips_over : (s : ControlState) (v : Split) → (state_over v s).skip_lf ≡ v.change.skip_lf

@@ -4,6 +4,7 @@ pub mod TokenLeft
 pub mod RowRuns
 pub mod Keeping
 pub mod Matching
+pub mod SuitingAny
 pub mod RowMatches
 pub mod TurnMatches
 pub mod KnownMatches

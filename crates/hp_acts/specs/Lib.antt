@@ -10,4 +10,5 @@ pub mod Laws
 pub mod RowPlans
 pub mod Plain
 pub mod HandlePlans
+pub mod Suiting
 pub mod Known
