@@ -1,10 +1,11 @@
 -- Over a known state a token is handled as the definition says, and nothing crosses.
-use Rattle.std.proofs.Common.{◌≡◌, ℕ, zero, suc, ◌+◌, ◌*◌, ◌<◌, ◌⊎◌, inl, inr, List, [], ◌∷◌, ◌++◌, length, Bool, true, false, ◌==◌, ◌||◌, ◌&&◌, not, Option, None, Some, refl, sym, subst, ap, ◌∙◌, arith, length-append, length-map, append-nil}
+use Rattle.std.proofs.Common.{◌≡◌, ℕ, zero, suc, ◌+◌, ◌*◌, ◌<◌, ◌⊎◌, inl, inr, List, [], ◌∷◌, ◌++◌, length, Bool, true, false, ◌==◌, ◌||◌, ◌&&◌, not, Option, None, Some, refl, sym, subst, ap, ◌∙◌, arith, length-append, append-nil}
 use Rattle.std.specs.Prelude.{if◌then◌else◌, Result, Ok, Err, drop, map, nat_lt, IsSome}
 use Rattle.std.specs.List.{list_any}
 use Rattle.std.specs.Option.{is_some, unwrap_or}
 use Rattle.std.proofs.Math.Bool.{or-true}
-use Rattle.std.proofs.lemmas.Bool.{lt-ltb, and_parts, true≢false}
+use Rattle.std.proofs.lemmas.Bool.{lt-ltb, true≢false}
+use Rattle.std.proofs.lemmas.List.{length-map}
 use Rattle.hp_elements.specs.Tokens.{kind_of}
 use Rattle.hp_elements.specs.declared.act.Act.{Act}
 use Rattle.hp_elements.specs.declared.act.Act.TheVariants as act
@@ -143,7 +144,7 @@ tests_known t x d st i = test_faithful t x nothing d st (sees_there x d st)
 
 -- as many turns as the definition's
 own_length : (es : List OpenElement) (k : ℕ) → length (map (shifted 0) es ++ drop k []) ≡ length es
-own_length es k = ap (λ l. length (map (shifted 0) es ++ l)) (drop_none k) ∙ (length-append (map (shifted 0) es) [] ∙ (let m : length (map (shifted 0) es) ≡ length es = length-map (shifted 0) es in omega (arith, m)))
+own_length es k = ap (λ l. length (map (shifted 0) es ++ l)) (drop_none k) ∙ (length-append (map (shifted 0) es) [] ∙ (let m : length (map (shifted 0) es) ≡ length es = length-map es (shifted 0) in omega (arith, m)))
 
 as_many : (v : Split) → most_turns v ≡ bound (state_over v nothing)
 as_many v = ap (λ k. 32 + 16 * k) (sym (ap length (full_stack nothing v) ∙ own_length v.change.stack v.change.popped))
