@@ -8,3 +8,5 @@ pub mod SuitingAny
 pub mod RowMatches
 pub mod TurnMatches
 pub mod KnownMatches
+pub mod TurnRuns
+pub mod PlainRuns

@@ -13,6 +13,7 @@ use Rattle.hp_elements.specs.declared.token.Mode.{Mode}
 use Rattle.hp_elements.specs.declared.token.Token.{Token}
 use Rattle.hp_control.specs.Faithful.{Split}
 use Rattle.hp_control.specs.Plan.{Plan, gives, followed_by}
+use Rattle.hp_adoption.specs.AdoptPlans.{adopt_plan}
 use Rattle.hp_views.specs.ClosingPlans.{walk_plan}
 use Rattle.hp_views.specs.StackPlans.{in_scope_plan, through_plan}
 use Rattle.hp_foreign.specs.Plans.{names_plan, through_foreign_plan}
@@ -36,6 +37,7 @@ pub act_alike : (fostering : Bool) (t left : Token) → IsLeftOf t left → (a :
 act_alike f t left l (act.Through which) h v = ap (λ name. through_plan (kinds.Html name) kinds.Nothing v) (name_stays t left l which)
 act_alike f t left l act.ThroughForeign h v = ap (λ name. through_foreign_plan name v) l.name
 act_alike f t left l (act.ImpliedExcept which) h v = ap (λ name. implied_but_plan (known_of name) v) (name_stays t left l which)
+act_alike f t left l (act.Adopt which) h v = ap (λ name. adopt_plan f name v) (name_stays t left l which)
 act_alike f t left l act.Walk h v = ap (λ name. walk_plan name v) l.name
 act_alike f t left l act.Characters h v = absurd (cc)
 act_alike f t left l act.Replacement h v = absurd (cc)

@@ -96,7 +96,7 @@ fn close<'p, B: Below>(
     token: &Token<'p>,
     fostering: bool,
 ) -> Result<(), Refusal>
-    ensures plan { CarriesBy result (sight B.heard view.old) (sight B.heard view.new) (close_plan token.now act) }
+    ensures plan { CarriesBy result (sight B.heard view.old) (sight B.heard view.new) (close_plan fostering token.now act) }
 {
     match act {
         Act::Pop => view.pop(alloc),
