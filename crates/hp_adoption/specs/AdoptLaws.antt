@@ -1,9 +1,8 @@
 -- The adoption agency algorithm: its plan does to a view what the act does to the whole state, or it crosses where the act
 -- touches something older (13.2.6.4.7).
-use Rattle.std.specs.Prelude.{◌≡◌, ℕ, zero, suc, ◌+◌, ◌<◌, ◌&&◌, Bool, true, false, not, if◌then◌else◌, List, [], ◌∷◌, ◌++◌, Option, Some, None, Result, Ok, Err, map, drop, slice_get, refl}
-use Rattle.std.specs.Option.{is_some}
+use Rattle.std.specs.Prelude.{◌≡◌, ℕ, zero, suc, ◌&&◌, Bool, true, false, not, if◌then◌else◌, List, [], ◌∷◌, ◌++◌, Result, Ok, Err, map, slice_get, refl}
 use Rattle.std.specs.Str.{bytes_eq}
-use Rattle.std.proofs.Common.{sym, subst, ap, ◌∙◌, arith}
+use Rattle.std.proofs.Common.{sym, subst, ap, ◌∙◌}
 use Rattle.hp_elements.specs.declared.kinds.Kinds.TheVariants as kinds
 use Rattle.hp_control.specs.declared.element.OpenElement.{OpenElement}
 use Rattle.hp_control.specs.declared.element.FormattingEntry.{FormattingEntry}
@@ -12,19 +11,19 @@ use Rattle.hp_control.specs.States.{ControlState, AreIds, is_html}
 use Rattle.hp_control.specs.Truth.{answer_of, top_has_entry}
 use Rattle.hp_control.specs.Walks.{has_entry}
 use Rattle.hp_control.specs.Acts.{pop}
-use Rattle.hp_control.specs.Adoption.{find_id, turn, turns, goes_on, plain_top, is_plain, adopt}
+use Rattle.hp_control.specs.Adoption.{turn, turns, goes_on, plain_top, is_plain, adopt}
 use Rattle.hp_control.specs.Apply.{shifted, shifted_entry}
 use Rattle.hp_control.specs.Composed.{is_one}
 use Rattle.hp_control.specs.Faithful.{Split, state_over, StandsOn, IsSaid, Matches, Faithful, FaithfulTest, faithful_nothing, faithful_test, said_first, then_matches}
-use Rattle.hp_control.specs.Outcome.{Outcome, and_then}
-use Rattle.hp_control.specs.Plan.{Plan, end_by}
+use Rattle.hp_control.specs.Outcome.{and_then}
+use Rattle.hp_control.specs.Plan.{end_by}
 use Rattle.hp_control.specs.Running.{on_end, end_then}
 use Rattle.hp_views.specs.OwnIds.{ids, ids_drop}
 use Rattle.hp_views.specs.PopLaws.{pop_faithful}
 use Rattle.hp_views.specs.StackLaws.{full_stack, current_faithful}
 use Rattle.hp_views.specs.StackPlans.{current_is_plan}
 use Rattle.hp_adoption.specs.AdoptLawsBlock.{older_stack}
-use Rattle.hp_adoption.specs.AdoptLawsEntries.{older_list, whole_list, none_own, HasNoOwn, entry_own, entry_below}
+use Rattle.hp_adoption.specs.AdoptLawsEntries.{older_list, whole_list, none_own, entry_own, entry_below}
 use Rattle.hp_adoption.specs.AdoptLawsOlder.{turn_matches}
 use Rattle.hp_adoption.specs.AdoptLawsOwn.{MatchesTurn}
 use Rattle.hp_adoption.specs.AdoptPlans.{Turned, turn_plan, turns_on, turns_plan, plain_older, plain_on, is_plain_plan, adopt_by, adopt_plan}

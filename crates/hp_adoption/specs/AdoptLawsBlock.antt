@@ -1,36 +1,32 @@
 -- A turn whose formatting element is an own one with a special element above it (13.2.6.4.7).
-use Rattle.std.specs.Prelude.{◌≡◌, ℕ, suc, ◌+◌, ◌<◌, ◌≤◌, Bool, true, false, ◌||◌, if◌then◌else◌, nat_lt, List, [], ◌∷◌, ◌++◌, length, Option, Some, None, Result, Ok, Err, map, take, drop, refl}
-use Rattle.std.specs.Option.{is_some, option_map}
+use Rattle.std.specs.Prelude.{◌≡◌, ℕ, ◌+◌, ◌<◌, ◌≤◌, Bool, false, ◌||◌, List, [], ◌∷◌, ◌++◌, length, Option, Some, None, Result, Ok, map, take, drop, refl}
+use Rattle.std.specs.Option.{is_some}
 use Rattle.std.specs.List.{list_any, take-map, drop-map}
 use Rattle.std.proofs.Common.{sym, subst, ap, ◌∙◌, append_assoc, arith}
-use Rattle.std.proofs.lemmas.Bool.{le-ltb}
 use Rattle.std.proofs.lemmas.List.{length-map, map-append, take-append-le}
 use Rattle.hp_elements.specs.declared.tag.Tag.{Tag}
 use Rattle.hp_control.specs.declared.change.Change.{Change}
 use Rattle.hp_control.specs.declared.edit.Place.{Place}
-use Rattle.hp_control.specs.declared.edit.Ref.{Ref}
-use Rattle.hp_control.specs.declared.edit.Ref.TheVariants.{Fixed, Own}
+use Rattle.hp_control.specs.declared.edit.Ref.TheVariants.{Fixed}
 use Rattle.hp_control.specs.declared.element.OpenElement.{OpenElement}
 use Rattle.hp_control.specs.declared.element.FormattingEntry.{FormattingEntry}
 use Rattle.hp_control.specs.declared.question.Crossing.{Crossing}
 use Rattle.hp_control.specs.States.{ControlState}
-use Rattle.hp_control.specs.Nothing.{nothing}
 use Rattle.hp_control.specs.Truth.{answer_of}
 use Rattle.hp_control.specs.Acts.{place}
 use Rattle.hp_control.specs.Adoption.{Spot, Seat, Adopted, adopted, adopt_once, between, removed, left}
-use Rattle.hp_control.specs.Apply.{applied, shifted, shifted_entry, named, named_place, named_edit}
+use Rattle.hp_control.specs.Apply.{applied, shifted, shifted_entry, named_place, named_edit}
 use Rattle.hp_control.specs.Faithful.{Page, Split, state_over, with_page, IsBase, StandsOn, IsDone, Matches}
 use Rattle.hp_control.specs.Outcome.{Outcome, is_older}
-use Rattle.hp_control.specs.Plan.{Plan, gives, end_by}
+use Rattle.hp_control.specs.Plan.{gives, end_by}
 use Rattle.hp_control.specs.Running.{on_end, end_then}
 use Rattle.hp_views.specs.OwnWalks.{drop_own}
 use Rattle.hp_views.specs.PlaceLaws.{none_made, place_placed}
 use Rattle.hp_views.specs.PlacePlans.{place_plan}
 use Rattle.hp_views.specs.Quiet.{paged, paged_part, stands_kept}
-use Rattle.hp_views.specs.RemoveLaws.{own_id_new}
 use Rattle.hp_views.specs.StackLaws.{full_stack}
 use Rattle.hp_adoption.specs.AdoptLawsClimb.{NamesOwn, seat_on, adopted_on, adopted_own}
-use Rattle.hp_adoption.specs.AdoptLawsEntries.{lifted, older_list, whole_list, none_own}
+use Rattle.hp_adoption.specs.AdoptLawsEntries.{older_list, whole_list, none_own, own_id_new}
 use Rattle.hp_adoption.specs.AdoptPlans.{an_entry, below_depth, with_adopted, untangled, untangle_plan}
 use Rattle.hp_adoption.specs.Entries.{ref_of}
 
@@ -76,7 +72,7 @@ read_with entry block c where_ over under list next = made_of entry block over u
 abbrev own_made : Split → ℕ → ℕ → Tag → Seat → Place → Adopted
 own_made v depth id tag block where_ = adopted (ref_of (is_some v.page)) where_ (an_entry id tag) block (take depth v.change.stack) v.change.formatting v.change.made
 
-read_own : (s : ControlState) (v : Split) (fostering : Bool) (k depth id : ℕ) (tag : Tag) (block : Seat) (where_ : Place) → StandsOn s v → depth < length v.change.stack → named_place s where_ ≡ place fostering (under_at s v depth) → let entry = record { depth = k; id = s.next + id; tag = tag } in adopt_once fostering entry depth (seat_on s.next block) (state_over v s) ≡ made_of entry (seat_on s.next block) (map (shifted s.next) (take depth v.change.stack)) (under_at s v depth) (adopted_on s (older_list s v) (own_made v depth id tag block where_)) (state_over v s)
+read_own : (s : ControlState) (v : Split) (fostering : Bool) (k depth id : ℕ) (tag : Tag) (block : Seat) (where_ : Place) → StandsOn s v → depth < length v.change.stack → named_place s where_ ≡ place fostering (under_at s v depth) → let entry : Spot = record { depth = k; id = s.next + id; tag = tag } in adopt_once fostering entry depth (seat_on s.next block) (state_over v s) ≡ made_of entry (seat_on s.next block) (map (shifted s.next) (take depth v.change.stack)) (under_at s v depth) (adopted_on s (older_list s v) (own_made v depth id tag block where_)) (state_over v s)
 read_own s v fostering k depth id tag block where_ st h e =
     let c = state_over v s in
     let entry : Spot = record { depth = k; id = s.next + id; tag = tag } in

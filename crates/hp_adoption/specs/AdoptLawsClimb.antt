@@ -1,5 +1,5 @@
 -- The climb over own nodes with own numbers in place of ids is the climb in the whole state (13.2.6.4.7).
-use Rattle.std.specs.Prelude.{◌≡◌, ℕ, ◌+◌, ◌==◌, Bool, true, false, if◌then◌else◌, nat_lt, List, [], ◌∷◌, ◌++◌, Option, Some, None, map, take, drop, refl}
+use Rattle.std.specs.Prelude.{◌≡◌, ℕ, ◌+◌, ◌==◌, Bool, true, false, if◌then◌else◌, nat_lt, List, [], ◌∷◌, ◌++◌, Option, Some, None, map, take, refl}
 use Rattle.std.specs.Option.{option_map}
 use Rattle.std.specs.List.{take-map, drop-map}
 use Rattle.std.proofs.Common.{sym, ap, ◌∙◌, arith}

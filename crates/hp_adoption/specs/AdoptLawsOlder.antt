@@ -1,5 +1,5 @@
 -- A turn whose entry, if there is one, is older (13.2.6.4.7).
-use Rattle.std.specs.Prelude.{◌≡◌, ℕ, zero, suc, ◌+◌, ◌<◌, ◌≤◌, ◌==◌, Bool, true, false, not, ◌||◌, if◌then◌else◌, List, [], ◌∷◌, ◌++◌, length, Option, Some, None, Result, Ok, Err, map, take, drop, slice_get, refl}
+use Rattle.std.specs.Prelude.{◌≡◌, ℕ, suc, ◌+◌, ◌<◌, ◌==◌, Bool, true, false, not, ◌||◌, if◌then◌else◌, List, [], ◌∷◌, ◌++◌, length, Option, Some, None, map, take, slice_get, refl}
 use Rattle.std.specs.Option.{is_some, option_map}
 use Rattle.std.specs.List.{list_any}
 use Rattle.std.proofs.Common.{sym, subst, ap, ◌∙◌, arith}
@@ -13,12 +13,12 @@ use Rattle.hp_control.specs.declared.question.EntryKind.TheVariants as kind
 use Rattle.hp_control.specs.KindTests.{within}
 use Rattle.hp_control.specs.States.{ControlState}
 use Rattle.hp_control.specs.Truth.{answer_of, kind_at, kind_of}
-use Rattle.hp_control.specs.Walks.{open_at, scope_at, scope_ends, last_named}
-use Rattle.hp_control.specs.Adoption.{Spot, Seat, Case, Unlisted, Closed, Hidden, Alone, Tangled, left, between, find_name, hides, furthest, block_case, open_case, entry_case, case_of, turn_in, turn, again, goes_on}
+use Rattle.hp_control.specs.Walks.{open_at, scope_at, scope_ends}
+use Rattle.hp_control.specs.Adoption.{Spot, Seat, Hidden, left, between, find_name, hides, furthest, block_case, open_case, entry_case, turn_in, turn, goes_on}
 use Rattle.hp_control.specs.Apply.{shifted}
 use Rattle.hp_control.specs.Faithful.{Split, state_over, StandsOn, IsSaid}
 use Rattle.hp_control.specs.Outcome.{is_touch, touches}
-use Rattle.hp_control.specs.Plan.{Plan, gives, crosses, followed_by, end_by}
+use Rattle.hp_control.specs.Plan.{crosses, end_by}
 use Rattle.hp_views.specs.declared.walks.Walk.{Walk}
 use Rattle.hp_views.specs.declared.walks.Walk.TheVariants.{Found, Stopped, PastAll}
 use Rattle.hp_views.specs.OlderIds.{open_below}
@@ -27,7 +27,7 @@ use Rattle.hp_views.specs.Walks.{entry_walk}
 use Rattle.hp_adoption.specs.AdoptLawsBlock.{older_stack}
 use Rattle.hp_adoption.specs.AdoptLawsEntries.{older_list, older_entries, sunk, found_by, whole_name, entry_there, id_in, named_id, name_below}
 use Rattle.hp_adoption.specs.AdoptLawsOwn.{MatchesTurn, MeansTurn, walk_means, stays_means, entry_means, hides_on}
-use Rattle.hp_adoption.specs.AdoptPlans.{Turned, stays, walk_turn, kind_turn, turn_on, turn_plan}
+use Rattle.hp_adoption.specs.AdoptPlans.{stays, kind_turn, turn_on, turn_plan}
 
 -- an open element is in scope where no end of a scope stands above it
 some_suc : (o : Option ℕ) → is_some (option_map suc o) ≡ is_some o

@@ -1,7 +1,6 @@
 -- A turn whose entry is an own one, or whose name has no entry (13.2.6.4.7).
-use Rattle.std.specs.Prelude.{◌≡◌, ℕ, suc, ◌+◌, ◌<◌, ◌≤◌, Bool, true, false, ◌||◌, if◌then◌else◌, List, [], ◌∷◌, ◌++◌, length, Option, Some, None, Result, Ok, Err, map, take, drop, slice_get, refl}
-use Rattle.std.specs.Option.{is_some, option_map}
-use Rattle.std.specs.List.{list_any}
+use Rattle.std.specs.Prelude.{◌≡◌, ℕ, ◌+◌, ◌<◌, ◌≤◌, Bool, true, false, ◌||◌, if◌then◌else◌, List, [], ◌∷◌, length, Option, Some, None, Result, Ok, Err, map, take, refl}
+use Rattle.std.specs.Option.{option_map}
 use Rattle.std.proofs.Common.{sym, subst, ap, ◌∙◌, arith}
 use Rattle.hp_elements.specs.declared.kinds.Kinds.TheVariants as kinds
 use Rattle.hp_elements.specs.declared.sets.SetName.TheVariants as sets
@@ -13,10 +12,10 @@ use Rattle.hp_control.specs.declared.question.Crossing.{Crossing}
 use Rattle.hp_control.specs.KindTests.{within}
 use Rattle.hp_control.specs.States.{ControlState}
 use Rattle.hp_control.specs.Truth.{answer_of}
-use Rattle.hp_control.specs.Walks.{open_at, scope_ends}
+use Rattle.hp_control.specs.Walks.{scope_ends}
 use Rattle.hp_control.specs.Acts.{pop_by, walk}
-use Rattle.hp_control.specs.Adoption.{Spot, Seat, Case, Unlisted, Closed, Hidden, Alone, Tangled, removed, edit_at, hides, nearer, furthest, block_case, open_case, entry_case, strike, turn_in, again}
-use Rattle.hp_control.specs.Apply.{applied, shifted, shifted_entry}
+use Rattle.hp_control.specs.Adoption.{Spot, Seat, Case, Unlisted, Closed, Hidden, Tangled, removed, edit_at, hides, nearer, furthest, block_case, open_case, entry_case, strike, turn_in, again}
+use Rattle.hp_control.specs.Apply.{applied, shifted}
 use Rattle.hp_control.specs.Faithful.{Split, state_over, StandsOn, IsDone, IsSaid, Matches, said_first, then_done}
 use Rattle.hp_control.specs.Outcome.{Outcome, becomes, touches, after}
 use Rattle.hp_control.specs.Plan.{Plan, gives, followed_by, end_by}
@@ -29,12 +28,12 @@ use Rattle.hp_views.specs.ListPlans.{with_entries}
 use Rattle.hp_views.specs.OwnIds.{found_at, id_within}
 use Rattle.hp_views.specs.PopLaws.{own_pops, nothing_popped}
 use Rattle.hp_views.specs.Quiet.{quiet, own_touch}
-use Rattle.hp_views.specs.RemoveLaws.{full_open, own_id_new}
+use Rattle.hp_views.specs.RemoveLaws.{full_open}
 use Rattle.hp_views.specs.StackPlans.{own_popped}
 use Rattle.hp_views.specs.Walks.{id_walk}
 use Rattle.hp_adoption.specs.AdoptLawsBlock.{whole_front, untangle_matches}
 use Rattle.hp_adoption.specs.AdoptLawsClimb.{seat_on}
-use Rattle.hp_adoption.specs.AdoptLawsEntries.{older_list, whole_list, none_own, edit_own, IsEntry, spot_of}
+use Rattle.hp_adoption.specs.AdoptLawsEntries.{older_list, none_own, own_id_new, edit_own, IsEntry, spot_of}
 use Rattle.hp_adoption.specs.AdoptPlans.{Turned, struck, untangle_plan, block_turn, stays, own_turn, entry_turn, walk_turn}
 
 -- a turn was taken, and it is known whether there may be another
@@ -76,7 +75,7 @@ struck_done s v k id tag st =
 closed_means : (s : ControlState) (v : Split) (fostering : Bool) (name : List ℕ) (k id : ℕ) (tag : Tag) → StandsOn s v → MeansTurn s v fostering name (stays (struck id v)) (Closed (record { depth = k; id = s.next + id; tag = tag }))
 closed_means s v fostering name k id tag st = λ u. record { done = struck_done s v k id tag st; right = refl }
 
-alone_done : (s : ControlState) (v : Split) (k id depth : ℕ) (tag : Tag) → StandsOn s v → depth < length v.change.stack → IsSaid v.page (pop_by (depth + 1) (state_over v s)) → let entry = record { depth = k; id = s.next + id; tag = tag } in let o = pop_by (depth + 1) (state_over v s) in IsDone s v (struck id (own_popped (depth + 1) v)) (after o (strike entry o.control))
+alone_done : (s : ControlState) (v : Split) (k id depth : ℕ) (tag : Tag) → StandsOn s v → depth < length v.change.stack → IsSaid v.page (pop_by (depth + 1) (state_over v s)) → let entry : Spot = record { depth = k; id = s.next + id; tag = tag } in let o = pop_by (depth + 1) (state_over v s) in IsDone s v (struck id (own_popped (depth + 1) v)) (after o (strike entry o.control))
 alone_done s v k id depth tag st h u =
     let entry : Spot = record { depth = k; id = s.next + id; tag = tag } in
     let o = pop_by (depth + 1) (state_over v s) in
@@ -121,9 +120,9 @@ open_means s v fostering name k id depth tag st h =
     let front = whole_front s v depth (omega (arith, h)) in
     let P : Case → Type 0 = λ x. MeansTurn s v fostering name (own_turn fostering id tag v (Found depth)) x in
     subst P (sym (
-        ap (λ l. if hides l then Hidden else block_case entry depth (furthest l)) front
-        ∙ (ap (λ b. if b then Hidden else block_case entry depth (furthest (map (shifted s.next) above))) (hides_on s.next above)
-        ∙ ap (λ o. if hides above then Hidden else block_case entry depth o) (furthest_on s.next above))))
+    ap (λ l. if hides l then Hidden else block_case entry depth (furthest l)) front
+    ∙ (ap (λ b. if b then Hidden else block_case entry depth (furthest (map (shifted s.next) above))) (hides_on s.next above)
+    ∙ ap (λ o. if hides above then Hidden else block_case entry depth o) (furthest_on s.next above))))
     (hidden_means s v fostering name k id depth tag (hides above) (furthest above) st h)
 
 own_means : (s : ControlState) (v : Split) (fostering : Bool) (name : List ℕ) (k id : ℕ) (tag : Tag) (w : Walk) → StandsOn s v → id_walk id v.change.stack ≡ w → MeansTurn s v fostering name (own_turn fostering id tag v w) (open_case (record { depth = k; id = s.next + id; tag = tag }) (found_at w) (state_over v s).stack)

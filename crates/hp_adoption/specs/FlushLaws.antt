@@ -1,5 +1,5 @@
 -- Pending table characters: the plan of their flush does to a view what putting them as one text does to the whole state.
-use Rattle.std.specs.Prelude.{◌≡◌, ℕ, Bool, true, false, ◌||◌, List, [], ◌∷◌, ◌++◌, if◌then◌else◌, refl}
+use Rattle.std.specs.Prelude.{◌≡◌, ℕ, Bool, true, false, ◌||◌, List, [], ◌∷◌, ◌++◌, if◌then◌else◌, Option, Some, None, refl}
 use Rattle.std.specs.List.{list_all}
 use Rattle.std.proofs.Common.{sym, subst, ap, ◌∙◌}
 use Rattle.hp_elements.specs.declared.token.Mode.{Mode}
@@ -13,7 +13,7 @@ use Rattle.hp_control.specs.Outcome.{Outcome, is_table_text, touches, and_then}
 use Rattle.hp_control.specs.Acts.{put_here, frameset_not_ok, empty_pending}
 use Rattle.hp_control.specs.Adoption.{reconstruct}
 use Rattle.hp_control.specs.Composed.{is_white}
-use Rattle.hp_control.specs.Faithful.{Split, state_over, StandsOn, IsSaid, Matches, Faithful, faithful_then, faithful_nothing, touches_after}
+use Rattle.hp_control.specs.Faithful.{Page, Split, state_over, StandsOn, IsSaid, Matches, Faithful, faithful_then, faithful_nothing, touches_after}
 use Rattle.hp_control.specs.Plan.{gives, crosses, followed_by, end_by}
 use Rattle.hp_views.specs.FieldLaws.{frameset_faithful, empty_pending_faithful}
 use Rattle.hp_views.specs.FieldPlans.{with_change, with_pending, frameset_plan}
@@ -50,10 +50,14 @@ own_pending s v st e =
 abbrev emptied_first : List ℕ → ControlState → Outcome
 emptied_first text c = and_then empty_pending (put_whole text) c
 
+said_emptied : (page : Option Page) (c : ControlState) → IsSaid page (empty_pending c)
+said_emptied None c = refl
+said_emptied (Some p) c = tt
+
 emptied_way : (s : ControlState) (v : Split) → StandsOn s v → v.older_text ≡ false → Matches s v (end_by (answer_of s) (gives (with_change (with_pending [] v.change) v))) (empty_pending (state_over v s))
 emptied_way s v st e =
     let P : Bool → Type 0 = λ b. Matches s v (end_by (answer_of s) (if b then crosses X7 else gives (with_change (with_pending [] v.change) v))) (empty_pending (state_over v s)) in
-    subst P e (empty_pending_faithful s v st refl tt)
+    subst P e (empty_pending_faithful s v st refl (said_emptied v.page (state_over v s)))
 
 flush_way : (s : ControlState) (v : Split) (older : Bool) → v.older_text ≡ older → StandsOn s v → IsSaid v.page (flush_at_once (state_over v s)) → Matches s v (end_by (answer_of s) (flush_on v older)) (flush_at_once (state_over v s))
 flush_way s v true e st u =

@@ -12,3 +12,12 @@ pub mod FlushActs
 pub mod FlushLaws
 pub mod Joining
 pub mod FlushMeans
+pub mod ListMeans
+pub mod AdoptLawsEntries
+pub mod AdoptLawsClimb
+pub mod AdoptLawsBlock
+pub mod AdoptLawsOwn
+pub mod AdoptLawsOlder
+pub mod AdoptLaws
+pub mod LinkLaws
+pub mod AdoptMeans

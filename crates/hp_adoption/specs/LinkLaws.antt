@@ -1,26 +1,23 @@
 -- The start of a link: its plan does to a view what the act does to the whole state, or it crosses where the act touches
 -- something older (13.2.6.4.7).
-use Rattle.std.specs.Prelude.{◌≡◌, ℕ, zero, suc, ◌+◌, ◌<◌, ◌==◌, Bool, true, false, ◌||◌, if◌then◌else◌, List, [], ◌∷◌, ◌++◌, length, Option, Some, None, Result, Ok, map, take, slice_get, refl}
+use Rattle.std.specs.Prelude.{◌≡◌, ℕ, suc, ◌+◌, ◌<◌, ◌==◌, Bool, true, false, ◌||◌, if◌then◌else◌, List, [], ◌∷◌, ◌++◌, length, Option, Some, None, map, take, slice_get, refl}
 use Rattle.std.specs.Option.{is_some, option_map}
-use Rattle.std.specs.List.{list_any}
 use Rattle.std.specs.Str.{bytes_eq}
-use Rattle.std.proofs.Common.{sym, subst, ap, ◌∙◌, arith}
+use Rattle.std.proofs.Common.{sym, subst, ap, ◌∙◌}
 use Rattle.std.proofs.lemmas.Bool.{eq-eqb}
-use Rattle.std.proofs.Math.Bool.{or-true}
-use Rattle.hp_control.specs.declared.element.OpenElement.{OpenElement}
 use Rattle.hp_control.specs.declared.element.FormattingEntry.{FormattingEntry}
 use Rattle.hp_control.specs.declared.element.FormattingEntry.TheVariants.{Marker, Element}
 use Rattle.hp_control.specs.declared.question.Crossing.TheVariants.{X1}
 use Rattle.hp_control.specs.States.{ControlState}
-use Rattle.hp_control.specs.Truth.{answer_of, kind_of}
+use Rattle.hp_control.specs.Truth.{answer_of}
 use Rattle.hp_control.specs.Walks.{open_at, has_entry, last_named}
 use Rattle.hp_control.specs.Acts.{pop, remove_entry, take_off}
-use Rattle.hp_control.specs.Adoption.{Spot, Seat, Case, Closed, Hidden, lower, find_name, hides, furthest, block_case, open_case, entry_case, case_of, turn_in, turn, again, goes_on, turns, is_plain, adopt}
+use Rattle.hp_control.specs.Adoption.{Spot, Seat, Case, Closed, Hidden, lower, find_name, hides, furthest, block_case, open_case, entry_case, turn_in, again, turns, is_plain, adopt}
 use Rattle.hp_control.specs.Apply.{shifted_entry}
 use Rattle.hp_control.specs.Composed.{drop_entry, close_link_of, close_link}
 use Rattle.hp_control.specs.Faithful.{Split, state_over, StandsOn, IsSaid, Matches, Faithful, matches_then, touches_after}
-use Rattle.hp_control.specs.Outcome.{Outcome, Act, becomes, touches, after, and_then, nothing_done}
-use Rattle.hp_control.specs.Plan.{Plan, end_by}
+use Rattle.hp_control.specs.Outcome.{Outcome, Act, touches, after, and_then, nothing_done}
+use Rattle.hp_control.specs.Plan.{end_by}
 use Rattle.hp_views.specs.declared.walks.Walk.{Walk}
 use Rattle.hp_views.specs.declared.walks.Walk.TheVariants.{Found, Stopped, PastAll}
 use Rattle.hp_views.specs.OlderIds.{is_found}
@@ -165,7 +162,7 @@ drop_by s id false c l = refl
 either_met : (a b x : Bool) → (a || b) ≡ true → (a || (b || x)) ≡ true
 either_met true b x h = refl
 either_met false true x h = refl
-either_met false false x h = h
+either_met false false x h = absurd (cc)
 
 closing_touches : (s : ControlState) (fostering : Bool) (name : List ℕ) (spot : Spot) (c : ControlState) → find_name name c.formatting ≡ Some spot → spot.id < s.next → touches s X1 (closing fostering name spot.id c) ≡ true
 closing_touches s fostering name spot c e l =
