@@ -22,6 +22,8 @@ use Rattle.hp_elements.specs.declared.token.Rest.{Rest}
 use Rattle.hp_elements.specs.declared.token.Token.{Token}
 use Rattle.hp_elements.specs.declared.token.Token.TheVariants as token
 use Rattle.hp_control.specs.declared.change.Change.{Change}
+use Rattle.hp_control.specs.declared.change.Refusal.{Refusal}
+use Rattle.hp_control.specs.declared.change.Refusal.TheVariants.{Crossed, NoMemory}
 use Rattle.hp_control.specs.declared.element.OpenElement.{OpenElement}
 use Rattle.hp_control.specs.declared.question.Answer.{Answer}
 use Rattle.hp_control.specs.declared.question.Crossing.{Crossing}
@@ -41,6 +43,7 @@ use Rattle.hp_views.specs.Quiet.{drop_none, paged, paged_part, stands_kept}
 use Rattle.hp_views.specs.ResetLaws.{is_kept_by}
 use Rattle.hp_views.specs.SecondPlans.{own_modes}
 use Rattle.hp_views.specs.StackLaws.{full_stack}
+use Rattle.hp_views.specs.View.{Sight}
 use Rattle.hp_adoption.specs.FlushActs.{MeansAs, flush_at_once}
 use Rattle.hp_adoption.specs.FlushMeans.{flushes_at_once}
 use Rattle.hp_model.specs.Finding.{finds}
@@ -53,10 +56,11 @@ use Rattle.hp_model.specs.Whole.{IsRead}
 use Rattle.hp_model.proofs.Course.{Course, Along, fits}
 use Rattle.hp_model.proofs.Finding.{act_found}
 use Rattle.hp_model.proofs.Handled.{turns-end}
+use Rattle.hp_acts.specs.declared.turns.Handled.{Handled}
 use Rattle.hp_acts.specs.ActLaws.{MeansBy, act_faithful, fits_of, step_at_once}
 use Rattle.hp_acts.specs.HandlePlans.{all_turns_plan, handle_plan, handle_rest, most_turns, turns_plan, without_line_feed}
-use Rattle.hp_acts.specs.Handling.{nothing_asked, unskipped}
-use Rattle.hp_acts.specs.Known.{EndsWhole, IsHandledWhole, KnownHandled, after_first, handled_at_once, handled_rest}
+use Rattle.hp_acts.specs.Handling.{Handles, nothing_asked, unskipped}
+use Rattle.hp_acts.specs.Known.{EndsWhole, HandlesKnown, IsHandledWhole, KnownHandled, after_first, handled_at_once, handled_rest}
 use Rattle.hp_acts.specs.Plans.{act_plan, by_plan, test_plan}
 use Rattle.hp_acts.specs.RowPlans.{Reached}
 use Rattle.hp_acts.specs.Spending.{html_tag}
@@ -279,3 +283,9 @@ pub known_handled : KnownHandled
 known_handled t v old new end says r st valid read =
     let so : end_by (answer_of nothing) (handle_plan t v) ≡ end = subst (λ f. end_by f (handle_plan t v) ≡ end) says r.ends in
     whole_end t v end (subst (λ e. EndsAs v e (handled_at_once (state_over v nothing) t)) so (handled_whole t v read st valid))
+
+-- what carries out the plan of handling does so
+pub known_carried : (t : Token) (result : Result Handled Refusal) (old new : Sight) → Handles result old new (handle_plan t) → HandlesKnown t result old new
+known_carried t (Ok handled) old new r = λ says st valid read. known_handled t old.split old.heard new.heard (Ok (record { split = new.split; handled = handled })) says r st valid read
+known_carried t (Err (Crossed crossing)) old new r = λ says st valid read. known_handled t old.split old.heard new.heard (Err crossing) says r st valid read
+known_carried t (Err NoMemory) old new r = λ says st valid read. tt
