@@ -1,8 +1,8 @@
 -- Over a known state a token is handled as the definition says, and nothing crosses.
-use Rattle.std.proofs.Common.{◌≡◌, ℕ, zero, suc, ◌+◌, ◌*◌, ◌<◌, ◌⊎◌, inl, inr, List, [], ◌∷◌, ◌++◌, length, Bool, true, false, ◌==◌, ◌||◌, ◌&&◌, not, Option, None, Some, refl, sym, subst, ap, ◌∙◌, arith, length-append, append-nil}
+use Rattle.std.proofs.Common.{◌≡◌, ℕ, ◌+◌, ◌*◌, ◌<◌, ◌⊎◌, inl, inr, List, [], ◌∷◌, ◌++◌, length, Bool, true, false, ◌||◌, ◌&&◌, Option, None, Some, refl, sym, subst, ap, ◌∙◌, arith, length-append}
 use Rattle.std.specs.Prelude.{if◌then◌else◌, Result, Ok, Err, drop, map, nat_lt, IsSome}
 use Rattle.std.specs.List.{list_any}
-use Rattle.std.specs.Option.{is_some, unwrap_or}
+use Rattle.std.specs.Option.{is_some}
 use Rattle.std.proofs.Math.Bool.{or-true}
 use Rattle.std.proofs.lemmas.Bool.{lt-ltb, true≢false}
 use Rattle.std.proofs.lemmas.List.{length-map}
@@ -14,61 +14,56 @@ use Rattle.hp_elements.specs.declared.act.Test.TheVariants as test
 use Rattle.hp_elements.specs.declared.sets.Namespace.{Namespace}
 use Rattle.hp_elements.specs.declared.sets.Namespace.TheVariants.{Html}
 use Rattle.hp_elements.specs.declared.tag.Tag.{Tag}
-use Rattle.hp_elements.specs.declared.token.CharClass.{CharClass}
 use Rattle.hp_elements.specs.declared.token.Kind.{Kind}
-use Rattle.hp_elements.specs.declared.token.Mode.{Mode}
-use Rattle.hp_elements.specs.declared.token.Mode.TheVariants as mode
-use Rattle.hp_elements.specs.declared.token.Rest.{Rest}
 use Rattle.hp_elements.specs.declared.token.Token.{Token}
 use Rattle.hp_elements.specs.declared.token.Token.TheVariants as token
 use Rattle.hp_control.specs.declared.change.Change.{Change}
 use Rattle.hp_control.specs.declared.change.Refusal.{Refusal}
 use Rattle.hp_control.specs.declared.change.Refusal.TheVariants.{Crossed, NoMemory}
 use Rattle.hp_control.specs.declared.element.OpenElement.{OpenElement}
-use Rattle.hp_control.specs.declared.question.Answer.{Answer}
 use Rattle.hp_control.specs.declared.question.Crossing.{Crossing}
-use Rattle.hp_control.specs.declared.question.Question.{Question}
-use Rattle.hp_control.specs.Apply.{applied, named_edit, shifted}
-use Rattle.hp_control.specs.Faithful.{FaithfulWhere, IsBase, IsSaid, Page, Split, StandsOn, state_over}
+use Rattle.hp_control.specs.Apply.{named_edit, shifted}
 use Rattle.hp_control.specs.Composed.{flush}
+use Rattle.hp_control.specs.Faithful.{FaithfulWhere, IsBase, IsSaid, Page, Split, StandsOn, state_over}
 use Rattle.hp_control.specs.Nothing.{nothing}
 use Rattle.hp_control.specs.Outcome.{Act as StateAct, Outcome, is_older, is_touch}
-use Rattle.hp_control.specs.Plan.{Heard, Plan, Runs, end_by}
-use Rattle.hp_control.specs.States.{ControlState, IsValid, StackFits, is_tall}
+use Rattle.hp_control.specs.Plan.{Plan, end_by}
+use Rattle.hp_control.specs.States.{ControlState, IsValid, is_tall}
 use Rattle.hp_control.specs.Steps.{nothing_touched}
 use Rattle.hp_control.specs.Tree.{applied_all}
 use Rattle.hp_control.specs.Truth.{answer_of}
 use Rattle.hp_views.specs.FieldLaws.{has_own}
-use Rattle.hp_views.specs.Quiet.{drop_none, paged, paged_part, stands_kept}
+use Rattle.hp_views.specs.Quiet.{drop_none}
 use Rattle.hp_views.specs.ResetLaws.{is_kept_by}
 use Rattle.hp_views.specs.SecondPlans.{own_modes}
 use Rattle.hp_views.specs.StackLaws.{full_stack}
 use Rattle.hp_views.specs.View.{Sight}
 use Rattle.hp_adoption.specs.FlushActs.{MeansAs, flush_at_once}
 use Rattle.hp_adoption.specs.FlushMeans.{flushes_at_once}
-use Rattle.hp_model.specs.Finding.{finds}
-use Rattle.hp_model.specs.Handling.{all_turns, bound, settled}
+use Rattle.hp_model.specs.Handling.{bound, settled}
 use Rattle.hp_model.specs.Rows.{turn}
 use Rattle.hp_model.specs.Steps.{holds, step}
 use Rattle.hp_model.specs.Tokens.{is_line_feed, tag_of}
-use Rattle.hp_model.specs.Turns.{Handled as Meant, later, left_by, turns, unchanged}
+use Rattle.hp_model.specs.Turns.{Handled as Meant, turns}
 use Rattle.hp_model.specs.Whole.{IsRead}
 use Rattle.hp_model.proofs.Course.{Course, Along, fits}
 use Rattle.hp_model.proofs.Finding.{act_found}
 use Rattle.hp_model.proofs.Handled.{turns-end}
 use Rattle.hp_acts.specs.declared.turns.Handled.{Handled}
 use Rattle.hp_acts.specs.ActLaws.{MeansBy, act_faithful, fits_of, step_at_once}
-use Rattle.hp_acts.specs.HandlePlans.{all_turns_plan, handle_plan, handle_rest, most_turns, turns_plan, without_line_feed}
-use Rattle.hp_acts.specs.Handling.{Handles, nothing_asked, unskipped}
-use Rattle.hp_acts.specs.Known.{EndsWhole, HandlesKnown, IsHandledWhole, KnownHandled, after_first, handled_at_once, handled_rest}
+use Rattle.hp_acts.specs.HandlePlans.{handle_plan, most_turns}
+use Rattle.hp_acts.specs.Handling.{Handles}
+use Rattle.hp_acts.specs.Known.{EndsWhole, HandlesKnown, IsHandledWhole, KnownHandled, after_first, handled_at_once}
+use Rattle.hp_acts.specs.Older.{EndsOver, few_at_once, few_of_rest, few_turns}
 use Rattle.hp_acts.specs.Plans.{act_plan, by_plan, test_plan}
 use Rattle.hp_acts.specs.RowPlans.{Reached}
 use Rattle.hp_acts.specs.Spending.{html_tag}
+use Rattle.hp_acts.specs.Suiting.{turns_suit}
 use Rattle.hp_acts.specs.TestLaws.{sees, test_faithful}
+use Rattle.hp_acts.proofs.HandleMatches.{handled_over, rest_suits, settled_valid, suits_at_once}
 use Rattle.hp_acts.proofs.Matching.{MatchesAlike, applied_after, matches_alike}
 use Rattle.hp_acts.proofs.RowMatches.{is_row_act}
 use Rattle.hp_acts.proofs.SuitingAny.{any_act, any_test, turns_any}
-use Rattle.hp_acts.proofs.TurnMatches.{MatchesTurns, turns_match}
 
 -- the tag of a token as the lexer reads it is an HTML one
 tag_html : (tag : Tag) (space : Namespace) → tag.namespace ≡ space → (record { namespace = space; name = tag.name; attributes = tag.attributes }) ≡ tag
@@ -153,127 +148,56 @@ own_length es k = ap (λ l. length (map (shifted 0) es ++ l)) (drop_none k) ∙ 
 as_many : (v : Split) → most_turns v ≡ bound (state_over v nothing)
 as_many v = ap (λ k. 32 + 16 * k) (sym (ap length (full_stack nothing v) ∙ own_length v.change.stack v.change.popped))
 
-first_later : (o : Option Rest) → later None o ≡ o
-first_later None = refl
-first_later (Some rest) = refl
-
 -- the handling from a view is what it means
 abbrev EndsAs : Split → Result Reached Crossing → Meant → Type 0
 EndsAs v (Ok r) h = IsHandledWhole v r.split r.handled h
 EndsAs v (Err crossing) h = ⊥
 
-from_fresh : (v : Split) → Reached
-from_fresh v = record { split = v; handled = nothing_asked }
+whole_of : (v : Split) (end : Result Reached Crossing) (few : Option Meant) (h : Meant) → IsSome few → EndsOver nothing v end few h → EndsAs v end h
+whole_of v (Ok r) few h i m = record { control = m.control; edits = m.edits; switch = m.switch; stopped = m.stopped; stands = m.stands }
+whole_of v (Err crossing) few h i (inl m) = absurd (true≢false (sym m ∙ nothing_touched crossing h.outcome))
+whole_of v (Err crossing) few h i (inr m) = absurd (true≢false (sym (subst (λ o. IsSome o) m.1 i)))
 
-ends_so : (v : Split) (end : Result Reached Crossing) (few o : Option Meant) (c : ControlState) → few ≡ o → IsSome o → MatchesTurns nothing (record { split = v; handled = nothing_asked }) end few o → EndsAs v end (unwrap_or o (unchanged c))
-ends_so v (Ok r) few (Some h) c e i m = record { control = m.done.control; edits = m.done.edits; switch = m.switch ∙ first_later h.switch; stopped = m.stopped; stands = m.done.stands }
-ends_so v (Ok r) few None c e i m = absurd m
-ends_so v (Err crossing) few (Some h) c e i (inl m) = absurd (true≢false (sym m ∙ nothing_touched crossing h.outcome))
-ends_so v (Err crossing) few (Some h) c e i (inr m) = let z : Some h ≡ None = sym e ∙ m.1 in absurd (cc)
-ends_so v (Err crossing) few None c e i m = absurd (true≢false (sym i))
+-- the turns of a token don't run out
+few_there : (t : Token) (v : Split) → IsRead t → IsValid (state_over v nothing) → IsSome (few_turns v (settled (state_over v nothing)) t)
+few_there t v read valid =
+    let c = settled (state_over v nothing) in
+    subst (λ k. IsSome (turns turn k t c)) (sym (as_many v)) (turns-end t c read (settled_valid (state_over v nothing) valid))
 
-all_turns_known : (t : Token) (v : Split) → IsRead t → StandsOn nothing v → IsValid (state_over v nothing) → EndsAs v (end_by (answer_of nothing) (all_turns_plan t v)) (all_turns (state_over v nothing) t)
-all_turns_known t v read st valid =
-    let c = state_over v nothing in
-    let d : Reached = record { split = v; handled = nothing_asked } in
-    let k = most_turns v in
-    ends_so v (end_by (answer_of nothing) (all_turns_plan t v)) (turns turn k t c) (turns turn (bound c) t c) c (ap (λ j. turns turn j t c) (as_many v)) (turns-end t c read valid)
-    (subst (λ j. MatchesTurns nothing d (end_by (answer_of nothing) (turns_plan k t d)) (turns turn k t c) (turns turn j t c)) (as_many v)
-    (turns_match nothing any_act any_test acts_known tests_known k k t d (omega arith) read st valid (turns_any k t c)))
+rest_there : (t : Token) (v : Split) → IsValid (state_over v nothing) → IsSome (few_of_rest v (settled (state_over v nothing)) (after_first t))
+rest_there (token.Characters class (x ∷ y ∷ text)) v valid = few_there (token.Characters class (y ∷ text)) v tt valid
+rest_there (token.Characters class (x ∷ [])) v valid = refl
+rest_there (token.Characters class []) v valid = refl
+rest_there (token.Start self_closing tag) v valid = refl
+rest_there (token.EndTag name) v valid = refl
+rest_there (token.Comment text) v valid = refl
+rest_there (token.Doctype parts) v valid = refl
+rest_there token.EndOfInput v valid = refl
 
--- no line feed is skipped any more
-skips_over : (s : ControlState) (v : Split) → (state_over v s).skip_lf ≡ v.change.skip_lf
-skips_over s v = paged_part v.page (λ c. c.skip_lf) (applied v.change s) (λ p c. refl)
-
-settled_over : (s : ControlState) (v : Split) → state_over (unskipped v) s ≡ settled (state_over v s)
-settled_over s v = paged v.page settled (applied v.change s) (λ p c. refl)
-
-settled_same : (c : ControlState) → c.skip_lf ≡ false → settled c ≡ c
-settled_same c e = ap (λ b. record c { skip_lf = b }) (sym e)
-
-settled_fits : (m : Mode) (c : ControlState) → StackFits m c → StackFits m (settled c)
-settled_fits mode.Initial c h = h
-settled_fits mode.BeforeHtml c h = h
-settled_fits mode.Text c h = h
-settled_fits _ c h = h
-
-settled_valid : (c : ControlState) → IsValid c → IsValid (settled c)
-settled_valid c v = record {
-  stack_ids = v.stack_ids;
-  list_ids = v.list_ids;
-  head = v.head;
-  form = v.form;
-  formatting = v.formatting;
-  stack = settled_fits c.mode c v.stack;
-  original = v.original;
-  pending = v.pending;
-  template_modes = v.template_modes;
-  templates = v.templates;
-  lex = v.lex;
-}
-
-unskipped_stands : (s : ControlState) (v : Split) → StandsOn s v → StandsOn s (unskipped v)
-unskipped_stands s v st = stands_kept s v (record v.change { skip_lf = false }) refl st
-
--- from the view that skips no line feed any more
-settled_known : (t : Token) (v : Split) → IsRead t → StandsOn nothing v → IsValid (state_over v nothing) → EndsAs v (end_by (answer_of nothing) (all_turns_plan t (unskipped v))) (all_turns (settled (state_over v nothing)) t)
-settled_known t v read st valid =
-    let c = state_over v nothing in
-    let w = unskipped v in
-    let same : state_over w nothing ≡ settled c = settled_over nothing v in
-    subst (λ x. EndsAs v (end_by (answer_of nothing) (all_turns_plan t w)) (all_turns x t)) same
-    (from_settled v (end_by (answer_of nothing) (all_turns_plan t w)) (all_turns (state_over w nothing) t)
-    (all_turns_known t w read (unskipped_stands nothing v st) (subst (λ x. IsValid x) (sym same) (settled_valid c valid))))
+few_whole : (t : Token) (v : Split) → IsRead t → IsValid (state_over v nothing) → IsSome (few_at_once v (state_over v nothing) t)
+few_whole t v read valid = go ((state_over v nothing).skip_lf && is_line_feed t)
   where
-    from_settled : (u : Split) (end : Result Reached Crossing) (h : Meant) → EndsAs (unskipped u) end h → EndsAs u end h
-    from_settled u (Ok r) h m = record { control = m.control; edits = m.edits; switch = m.switch; stopped = m.stopped; stands = m.stands }
-    from_settled u (Err crossing) h m = m
+    go : (b : Bool) → IsSome (if b then few_of_rest v (settled (state_over v nothing)) (after_first t) else few_turns v (settled (state_over v nothing)) t)
+    go true = rest_there t v valid
+    go false = few_there t v read valid
 
--- nothing is left of the token
-dropped_known : (v : Split) → StandsOn nothing v → EndsAs v (end_by (answer_of nothing) (handle_rest None (unskipped v))) (handled_rest (settled (state_over v nothing)) None)
-dropped_known v st = record {
-  control = settled_over nothing v;
-  edits = λ tree. ap (applied_all tree) (sym (append-nil (map (named_edit nothing) v.edits)));
-  switch = refl;
-  stopped = refl;
-  stands = unskipped_stands nothing v st;
-}
+-- nothing more is asked
+suits_rest : (o : Option Token) (c : ControlState) → rest_suits nothing any_act any_test o c ≡ true
+suits_rest None c = refl
+suits_rest (Some t) c = turns_any (bound c) t c
 
--- where a line feed is to be skipped
-skipping_known : (t : Token) (v : Split) → IsRead t → StandsOn nothing v → IsValid (state_over v nothing)
-    → EndsAs v (end_by (answer_of nothing) (handle_rest (without_line_feed t) (unskipped v))) (if is_line_feed t then handled_rest (settled (state_over v nothing)) (after_first t) else all_turns (settled (state_over v nothing)) t)
-skipping_known (token.Characters class []) v read st valid = settled_known (token.Characters class []) v read st valid
-skipping_known (token.Characters class (x ∷ [])) v read st valid = go (x == 0xA)
+suits_any : (t : Token) (c : ControlState) → suits_at_once nothing any_act any_test t c ≡ true
+suits_any t c = go (c.skip_lf && is_line_feed t)
   where
-    go : (b : Bool) → EndsAs v (end_by (answer_of nothing) (handle_rest (if b then None else Some (token.Characters class (x ∷ []))) (unskipped v)))
-        (if b then handled_rest (settled (state_over v nothing)) None else all_turns (settled (state_over v nothing)) (token.Characters class (x ∷ [])))
-    go true = dropped_known v st
-    go false = settled_known (token.Characters class (x ∷ [])) v tt st valid
-skipping_known (token.Characters class (x ∷ y ∷ text)) v read st valid = go (x == 0xA)
-  where
-    go : (b : Bool) → EndsAs v (end_by (answer_of nothing) (handle_rest (if b then Some (token.Characters class (y ∷ text)) else Some (token.Characters class (x ∷ y ∷ text))) (unskipped v)))
-        (if b then handled_rest (settled (state_over v nothing)) (Some (token.Characters class (y ∷ text))) else all_turns (settled (state_over v nothing)) (token.Characters class (x ∷ y ∷ text)))
-    go true = settled_known (token.Characters class (y ∷ text)) v tt st valid
-    go false = settled_known (token.Characters class (x ∷ y ∷ text)) v tt st valid
-skipping_known (token.Start self_closing tag) v read st valid = settled_known (token.Start self_closing tag) v read st valid
-skipping_known (token.EndTag name) v read st valid = settled_known (token.EndTag name) v read st valid
-skipping_known (token.Comment text) v read st valid = settled_known (token.Comment text) v read st valid
-skipping_known (token.Doctype parts) v read st valid = settled_known (token.Doctype parts) v read st valid
-skipping_known token.EndOfInput v read st valid = settled_known token.EndOfInput v read st valid
+    go : (b : Bool) → (if b then rest_suits nothing any_act any_test (after_first t) (settled c) else turns_suit any_act any_test (bound (settled c)) t (settled c)) ≡ true
+    go true = suits_rest (after_first t) (settled c)
+    go false = turns_any (bound (settled c)) t (settled c)
 
 handled_whole : (t : Token) (v : Split) → IsRead t → StandsOn nothing v → IsValid (state_over v nothing) → EndsAs v (end_by (answer_of nothing) (handle_plan t v)) (handled_at_once (state_over v nothing) t)
-handled_whole t v read st valid = go v.change.skip_lf refl
-  where
-    go : (b : Bool) → v.change.skip_lf ≡ b → EndsAs v (end_by (answer_of nothing) (if b then handle_rest (without_line_feed t) (unskipped v) else all_turns_plan t v)) (handled_at_once (state_over v nothing) t)
-    go true e =
-        let c = state_over v nothing in
-        subst (λ b. EndsAs v (end_by (answer_of nothing) (handle_rest (without_line_feed t) (unskipped v))) (if b && is_line_feed t then handled_rest (settled c) (after_first t) else all_turns (settled c) t)) (sym (skips_over nothing v ∙ e))
-        (skipping_known t v read st valid)
-    go false e =
-        let c = state_over v nothing in
-        let off : c.skip_lf ≡ false = skips_over nothing v ∙ e in
-        subst (λ b. EndsAs v (end_by (answer_of nothing) (all_turns_plan t v)) (if b && is_line_feed t then handled_rest (settled c) (after_first t) else all_turns (settled c) t)) (sym off)
-        (subst (λ x. EndsAs v (end_by (answer_of nothing) (all_turns_plan t v)) (all_turns x t)) (sym (settled_same c off)) (all_turns_known t v read st valid))
+handled_whole t v read st valid =
+    let c = state_over v nothing in
+    whole_of v (end_by (answer_of nothing) (handle_plan t v)) (few_at_once v c t) (handled_at_once c t) (few_whole t v read valid)
+    (handled_over nothing any_act any_test acts_known tests_known t v read st valid (suits_any t c))
 
 whole_end : (t : Token) (v : Split) (end : Result Reached Crossing) → EndsAs v end (handled_at_once (state_over v nothing) t) → EndsWhole t v end
 whole_end t v (Ok r) m = m

@@ -7,6 +7,8 @@ pub mod Matching
 pub mod SuitingAny
 pub mod RowMatches
 pub mod TurnMatches
+pub mod SuitingFewer
+pub mod HandleMatches
 pub mod KnownMatches
 pub mod TurnRuns
 pub mod PlainRuns

@@ -12,3 +12,5 @@ pub mod Plain
 pub mod HandlePlans
 pub mod Suiting
 pub mod Known
+pub mod Told
+pub mod Older
