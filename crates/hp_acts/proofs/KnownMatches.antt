@@ -1,7 +1,6 @@
 -- Over a known state a token is handled as the definition says, and nothing crosses.
 use Rattle.std.proofs.Common.{◌≡◌, ℕ, ◌+◌, ◌*◌, ◌<◌, ◌⊎◌, inl, inr, List, [], ◌∷◌, ◌++◌, length, Bool, true, false, ◌||◌, ◌&&◌, Option, None, Some, refl, sym, subst, ap, ◌∙◌, arith, length-append}
 use Rattle.std.specs.Prelude.{if◌then◌else◌, Result, Ok, Err, drop, map, nat_lt, IsSome}
-use Rattle.std.specs.List.{list_any}
 use Rattle.std.specs.Option.{is_some}
 use Rattle.std.proofs.Math.Bool.{or-true}
 use Rattle.std.proofs.lemmas.Bool.{lt-ltb, true≢false}
@@ -11,9 +10,6 @@ use Rattle.hp_elements.specs.declared.act.Act.{Act}
 use Rattle.hp_elements.specs.declared.act.Act.TheVariants as act
 use Rattle.hp_elements.specs.declared.act.Test.{Test}
 use Rattle.hp_elements.specs.declared.act.Test.TheVariants as test
-use Rattle.hp_elements.specs.declared.sets.Namespace.{Namespace}
-use Rattle.hp_elements.specs.declared.sets.Namespace.TheVariants.{Html}
-use Rattle.hp_elements.specs.declared.tag.Tag.{Tag}
 use Rattle.hp_elements.specs.declared.token.Kind.{Kind}
 use Rattle.hp_elements.specs.declared.token.Token.{Token}
 use Rattle.hp_elements.specs.declared.token.Token.TheVariants as token
@@ -22,15 +18,13 @@ use Rattle.hp_control.specs.declared.change.Refusal.{Refusal}
 use Rattle.hp_control.specs.declared.change.Refusal.TheVariants.{Crossed, NoMemory}
 use Rattle.hp_control.specs.declared.element.OpenElement.{OpenElement}
 use Rattle.hp_control.specs.declared.question.Crossing.{Crossing}
-use Rattle.hp_control.specs.Apply.{named_edit, shifted}
-use Rattle.hp_control.specs.Composed.{flush}
-use Rattle.hp_control.specs.Faithful.{FaithfulWhere, IsBase, IsSaid, Page, Split, StandsOn, state_over}
+use Rattle.hp_control.specs.Apply.{shifted}
+use Rattle.hp_control.specs.Faithful.{IsBase, IsSaid, Page, Split, StandsOn, state_over}
 use Rattle.hp_control.specs.Nothing.{nothing}
-use Rattle.hp_control.specs.Outcome.{Act as StateAct, Outcome, is_older, is_touch}
-use Rattle.hp_control.specs.Plan.{Plan, end_by}
+use Rattle.hp_control.specs.Outcome.{Outcome}
+use Rattle.hp_control.specs.Plan.{end_by}
 use Rattle.hp_control.specs.States.{ControlState, IsValid, is_tall}
 use Rattle.hp_control.specs.Steps.{nothing_touched}
-use Rattle.hp_control.specs.Tree.{applied_all}
 use Rattle.hp_control.specs.Truth.{answer_of}
 use Rattle.hp_views.specs.FieldLaws.{has_own}
 use Rattle.hp_views.specs.Quiet.{drop_none}
@@ -38,41 +32,30 @@ use Rattle.hp_views.specs.ResetLaws.{is_kept_by}
 use Rattle.hp_views.specs.SecondPlans.{own_modes}
 use Rattle.hp_views.specs.StackLaws.{full_stack}
 use Rattle.hp_views.specs.View.{Sight}
-use Rattle.hp_adoption.specs.FlushActs.{MeansAs, flush_at_once}
-use Rattle.hp_adoption.specs.FlushMeans.{flushes_at_once}
 use Rattle.hp_model.specs.Handling.{bound, settled}
 use Rattle.hp_model.specs.Rows.{turn}
 use Rattle.hp_model.specs.Steps.{holds, step}
-use Rattle.hp_model.specs.Tokens.{is_line_feed, tag_of}
+use Rattle.hp_model.specs.Tokens.{is_line_feed}
 use Rattle.hp_model.specs.Turns.{Handled as Meant, turns}
 use Rattle.hp_model.specs.Whole.{IsRead}
 use Rattle.hp_model.proofs.Course.{Course, Along, fits}
 use Rattle.hp_model.proofs.Finding.{act_found}
 use Rattle.hp_model.proofs.Handled.{turns-end}
 use Rattle.hp_acts.specs.declared.turns.Handled.{Handled}
-use Rattle.hp_acts.specs.ActLaws.{MeansBy, act_faithful, fits_of, step_at_once}
+use Rattle.hp_acts.specs.ActLaws.{act_faithful, fits_of, step_at_once}
 use Rattle.hp_acts.specs.HandlePlans.{handle_plan, most_turns}
 use Rattle.hp_acts.specs.Handling.{Handles}
 use Rattle.hp_acts.specs.Known.{EndsWhole, HandlesKnown, IsHandledWhole, KnownHandled, after_first, handled_at_once}
 use Rattle.hp_acts.specs.Older.{EndsOver, few_at_once, few_of_rest, few_turns}
 use Rattle.hp_acts.specs.Plans.{act_plan, by_plan, test_plan}
 use Rattle.hp_acts.specs.RowPlans.{Reached}
-use Rattle.hp_acts.specs.Spending.{html_tag}
 use Rattle.hp_acts.specs.Suiting.{turns_suit}
 use Rattle.hp_acts.specs.TestLaws.{sees, test_faithful}
+use Rattle.hp_acts.proofs.ActMatches.{act_alike, by_its_plan, planned, read_html}
 use Rattle.hp_acts.proofs.HandleMatches.{handled_over, rest_suits, settled_valid, suits_at_once}
-use Rattle.hp_acts.proofs.Matching.{MatchesAlike, applied_after, matches_alike}
+use Rattle.hp_acts.proofs.Matching.{MatchesAlike, matches_alike}
 use Rattle.hp_acts.proofs.RowMatches.{is_row_act}
 use Rattle.hp_acts.proofs.SuitingAny.{any_act, any_test, turns_any}
-
--- the tag of a token as the lexer reads it is an HTML one
-tag_html : (tag : Tag) (space : Namespace) → tag.namespace ≡ space → (record { namespace = space; name = tag.name; attributes = tag.attributes }) ≡ tag
-tag_html tag space e = ap (λ x. record { namespace = x; name = tag.name; attributes = tag.attributes }) (sym e)
-
-pub read_html : (t : Token) → IsRead t → html_tag t ≡ tag_of t
-read_html (token.Start self_closing tag) h = tag_html tag Html h
-read_html (token.EndTag name) h = refl
-read_html _ h = refl
 
 -- a view over no older state has the page's facts
 is_paged : (page : Option Page) (c : Change) → IsBase page c nothing → is_some page ≡ true
@@ -106,34 +89,11 @@ sees_there : (x : Test) (d : Split) → StandsOn nothing d → sees x d ≡ true
 sees_there test.HasTemplateModes d st = ap (λ b. own_modes d.change.templates || b) (is_paged d.page d.change st.base) ∙ or-true (own_modes d.change.templates)
 sees_there _ d st = refl
 
-by_its_plan : (fit : Split → Bool) (o : Option (Split → Plan Split)) (f : StateAct) → is_some o ≡ true → MeansBy fit o f → FaithfulWhere fit (by_plan o) f
-by_its_plan fit (Some plan) f h m = m
-by_its_plan fit None f h m = absurd (true≢false (sym h))
-
--- each act of a row has a plan
-planned : (fostering : Bool) (t : Token) (a : Act) → is_row_act a ≡ true → is_some (act_plan fostering t a) ≡ true
-planned fostering t (act.TakeOff which) h = absurd (true≢false (sym h))
-planned fostering t _ h = refl
-
--- what an act does, its edits in their effect
-alike_flush : (d : Split) (end : Result Split Crossing) (o p : Outcome) → MeansAs o p → MatchesAlike nothing d end o → MatchesAlike nothing d end p
-alike_flush d (Ok w) o p e m = record {
-  control = m.control ∙ e.control;
-  edits = λ tree. m.edits tree ∙ (applied_after tree (map (named_edit nothing) d.edits) o.edits ∙ (e.edits (applied_all tree (map (named_edit nothing) d.edits)) ∙ sym (applied_after tree (map (named_edit nothing) d.edits) p.edits)));
-  own = sym (ap (λ l. list_any (is_older nothing) l) e.touched) ∙ m.own;
-  stands = m.stands;
-}
-alike_flush d (Err crossing) o p e m = sym (ap (λ l. list_any (is_touch nothing crossing) l) e.touched) ∙ m
-
-act_alike : (fostering : Bool) (t : Token) (a : Act) (c : ControlState) (d : Split) (end : Result Split Crossing) → MatchesAlike nothing d end (step_at_once fostering t a c) → MatchesAlike nothing d end (step fostering t a c)
-act_alike fostering t act.Flush c d end m = alike_flush d end (flush_at_once c) (flush c) (flushes_at_once c) m
-act_alike fostering t _ c d end m = m
-
 acts_known : (t : Token) (n : ℕ) → IsRead t → (fostering : Bool) (a : Act) (v : Course) (d : Split) → StandsOn nothing d → Along v n (state_over d nothing) → fits (kind_of t) a v ≡ true → is_row_act a ≡ true → true ≡ true
     → MatchesAlike nothing d (end_by (answer_of nothing) (by_plan (act_plan fostering t a) d)) (step fostering t a (state_over d nothing))
 acts_known t n read fostering a v d st g h r i =
     let c = state_over d nothing in
-    act_alike fostering t a c d (end_by (answer_of nothing) (by_plan (act_plan fostering t a) d))
+    act_alike nothing fostering t a c d (end_by (answer_of nothing) (by_plan (act_plan fostering t a) d))
     (matches_alike nothing d (end_by (answer_of nothing) (by_plan (act_plan fostering t a) d)) (step_at_once fostering t a c)
     (by_its_plan (fits_of a) (act_plan fostering t a) (step_at_once fostering t a) (planned fostering t a r) (act_faithful fostering t (read_html t read) a)
     nothing d st (fits_there (kind_of t) a v n d st g h) (all_said d.page (step_at_once fostering t a c) (is_paged d.page d.change st.base))))

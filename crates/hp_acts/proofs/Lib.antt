@@ -9,6 +9,8 @@ pub mod RowMatches
 pub mod TurnMatches
 pub mod SuitingFewer
 pub mod HandleMatches
+pub mod ActMatches
 pub mod KnownMatches
+pub mod OlderMatches
 pub mod TurnRuns
 pub mod PlainRuns
