@@ -15,6 +15,8 @@ pub mod runs;
 mod same;
 pub mod state;
 pub mod steps;
+#[cfg(test)]
+mod tests;
 
 pub use building::{Building, NewAttribute, NewDoctype, NewTag, Part};
 pub use combinators::{
