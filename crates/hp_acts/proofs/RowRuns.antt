@@ -1,6 +1,7 @@
 -- A row carried out act by act: what remains of its plan at each place, and that each act finds the token as it wants it.
 use Rattle.std.proofs.Common.{◌≡◌, ℕ, zero, suc, ◌+◌, ◌-◌, ◌≤◌, ◌<◌, Bool, true, false, List, [], ◌∷◌, length, drop, Option, Some, None, Result, Ok, Err, refl, ap, sym, subst, ◌∙◌, arith, add-zero, add-one, nat_lt, slice_get, inl, inr}
 use Rattle.std.specs.Prelude.{not, ◌||◌, ◌&&◌, ◌⊎◌, if◌then◌else◌}
+use Rattle.std.specs.List.{list_any}
 use Rattle.std.proofs.lemmas.Bool.{lt-ltb, le-ltb, and_parts}
 use Rattle.std.proofs.lemmas.List.{drop-drop}
 use Rattle.hp_elements.specs.declared.act.Act.{Act}
@@ -32,6 +33,13 @@ drop_past [] (suc at) h = refl
 drop_past (y ∷ ys) zero h = absurd (cc)
 drop_past (y ∷ ys) (suc at) h = drop_past ys at h
 
+-- whether one of the acts from a place on passes a test
+pub any_here : {X : Type 0} (test : X → Bool) (xs : List X) (at : ℕ) (x : X) → slice_get xs at ≡ Some x → list_any test (drop at xs) ≡ (test x || list_any test (drop (at + 1) xs))
+any_here test xs at x h = ap (list_any test) (drop_here xs at x h)
+
+pub any_past : {X : Type 0} (test : X → Bool) (xs : List X) (at : ℕ) → slice_get xs at ≡ None → list_any test (drop at xs) ≡ false
+any_past test xs at h = ap (list_any test) (drop_past xs at h)
+
 drop_on : {X : Type 0} (xs : List X) (at next : ℕ) → at ≤ next → drop (next - at) (drop at xs) ≡ drop next xs
 drop_on xs at next h =
     let same : at + (next - at) ≡ next = omega arith in
@@ -61,9 +69,9 @@ keeps_moved whole at next acts h k =
     ∙ (sym (keeps_over whole (next - (at + 1)) (at + 1) next (drop (at + 1) acts) (omega arith)) ∙ k)
 
 -- behind the act at a place the token that is left fits the rest of the row
-pub record FitsFrom (t left : Token) (at : ℕ) (acts : List Act) : Type 0 where
+pub record FitsFrom (t rest : Token) (at : ℕ) (acts : List Act) : Type 0 where
   pub whole : Bool
-  pub fits : StillFits whole t left
+  pub fits : StillFits whole t rest
   pub keeps : KeepsFrom whole at acts
 
 -- the rest of a row from a place on, whether the token is whole there or not
@@ -108,15 +116,15 @@ rules_want (act.AsFostered m) u = refl
 rules_want act.AsPresent u = refl
 rules_want _ u = absurd u
 
-pub left_twice : (t left new : Token) → IsLeftOf t left → IsLeftOf left new → IsLeftOf t new
-left_twice t left new l m = record { kind = m.kind ∙ l.kind; name = m.name ∙ l.name; closing = m.closing ∙ l.closing }
+pub left_twice : (t old new : Token) → IsLeftOf t old → IsLeftOf old new → IsLeftOf t new
+left_twice t old new l m = record { kind = m.kind ∙ l.kind; name = m.name ∙ l.name; closing = m.closing ∙ l.closing }
 
 pub left_whole : (t : Token) → IsLeftOf t t
 left_whole t = record { kind = refl; name = refl; closing = refl }
 
-fits_left : (whole : Bool) (t left : Token) → StillFits whole t left → IsLeftOf t left
-fits_left true t left e = let P : Token → Type 0 = λ token. IsLeftOf t token in subst P (sym e) (left_whole t)
-fits_left false t left l = l
+fits_left : (whole : Bool) (t old : Token) → StillFits whole t old → IsLeftOf t old
+fits_left true t old e = let P : Token → Type 0 = λ token. IsLeftOf t token in subst P (sym e) (left_whole t)
+fits_left false t old l = l
 
 fits_on : (whole leaves : Bool) (t old new : Token) → StillFits whole t old → IsLeftOf old new → (leaves ≡ true → new ≡ old) → StillFits (whole && leaves) t new
 fits_on true true t old new e l same = same refl ∙ e
@@ -126,10 +134,10 @@ fits_on false leaves t old new e l same = left_twice t old new e l
 same_on : (whole : Bool) (t old new : Token) → StillFits whole t old → new ≡ old → StillFits whole t new
 same_on whole t old new fits e = let P : Token → Type 0 = λ token. StillFits whole t token in subst P (sym e) fits
 
-is_whole : (whole wants : Bool) (t left : Token) → StillFits whole t left → (whole || not wants) ≡ true → wants ≡ true → left ≡ t
-is_whole true wants t left fits h w = fits
-is_whole false true t left fits h w = absurd (cc)
-is_whole false false t left fits h w = absurd (cc)
+is_whole : (whole wants : Bool) (t old : Token) → StillFits whole t old → (whole || not wants) ≡ true → wants ≡ true → old ≡ t
+is_whole true wants t old fits h w = fits
+is_whole false true t old fits h w = absurd (cc)
+is_whole false false t old fits h w = absurd (cc)
 
 -- follow: the rules of a mode; present: those of the mode in which the turn began; t: the whole token; acts: the row
 module _ (follow : Bool → Mode → Reached → Plan Came) (present : Reached → Plan Came) (fostering : Bool) (t : Token) (acts : List Act) where

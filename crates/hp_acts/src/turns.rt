@@ -1,5 +1,5 @@
 //! One token, handled whole (13.2.6).
-ghost use Rattle.std.specs.Prelude.{◌≡◌, ℕ, ◌<◌, ◌+◌, ◌*◌, Bool, true, false, IfOk, List, length, drop};
+ghost use Rattle.std.specs.Prelude.{◌≡◌, ℕ, ◌<◌, ◌+◌, ◌*◌, Bool, true, false, if◌then◌else◌, IfOk, List, length, drop};
 ghost use Rattle.std.specs.List.{list_any};
 ghost use Rattle.hp_elements.specs.Rules.{goes_later};
 ghost use Rattle.hp_elements.specs.declared.token.Mode.{Mode};
@@ -13,6 +13,7 @@ ghost use Rattle.hp_acts.specs.RowPlans.{Reached, Came, act_then, is_early, turn
 ghost use Rattle.hp_acts.specs.Rows.{acts_in};
 ghost use Rattle.hp_acts.specs.Spending.{IsLeftOf, gives_away, is_of_attributes, leaves_whole, reads_attributes};
 ghost use Rattle.hp_acts.specs.declared.token_parts.Spending.TheVariants.{Copies};
+ghost use Rattle.hp_acts.specs.declared.turns.Next.TheVariants.{At};
 
 use crate::acts::carry_out;
 use crate::plain::{is_plain, put_plain};
@@ -51,10 +52,10 @@ struct Turn<'p> {
 }
 
 /// Whether an act of a row from that place on reads the attributes of the token.
-fn is_read_from(row: Row, at: u32) -> bool
-    ensures { result ≡ list_any reads_attributes (drop at (acts_in row)) }
+fn is_read_from(row: Row, from: u32) -> bool
+    ensures { result ≡ list_any reads_attributes (drop from (acts_in row)) }
 {
-    let mut at = at;
+    let mut at = from;
     while let Some(act) = row.act(at) {
         if reads_attributes(act) {
             return true;
@@ -270,10 +271,10 @@ fn take_turn<'p, B: Below>(
 }
 
 /// How often one token is handled at most, where so many elements are open.
-fn most_turns(open: usize) -> u128
-    ensures { result ≡ 32 + 16 * open }
+fn most_turns(elements: usize) -> u128
+    ensures { result ≡ 32 + 16 * elements }
 {
-    32 + 16 * open as u128
+    32 + 16 * elements as u128
 }
 
 /// Handles a token until no rule asks for it again.
