@@ -21,6 +21,8 @@ use Rattle.hp_control.specs.Tree.{applied_all}
 use Rattle.hp_control.specs.Truth.{answer_of}
 use Rattle.hp_views.specs.Quiet.{paged, paged_part, stands_kept}
 use Rattle.hp_views.specs.StackLaws.{full_stack}
+use Rattle.hp_model.specs.AtOnce.{after_first, handle_at_once}
+use Rattle.hp_model.specs.AtOnce.{handle_rest as handled_rest}
 use Rattle.hp_model.specs.Handling.{all_turns, bound, settled}
 use Rattle.hp_model.specs.Rows.{turn}
 use Rattle.hp_model.specs.Steps.{holds, step}
@@ -31,7 +33,6 @@ use Rattle.hp_model.proofs.Course.{Course, Along, fits}
 use Rattle.hp_model.proofs.Handled.{turns-end}
 use Rattle.hp_acts.specs.HandlePlans.{all_turns_plan, handle_plan, handle_rest, most_turns, turns_plan, without_line_feed}
 use Rattle.hp_acts.specs.Handling.{nothing_asked, unskipped}
-use Rattle.hp_acts.specs.Known.{after_first, handled_at_once, handled_rest}
 use Rattle.hp_acts.specs.Older.{EndsOver, few_at_once, few_of_rest, few_turns}
 use Rattle.hp_acts.specs.Plans.{act_plan, by_plan, test_plan}
 use Rattle.hp_acts.specs.RowPlans.{Reached}
@@ -171,10 +172,10 @@ module _ (s : ControlState) (of_act : Bool → Token → Act → ControlState �
     skipping token.EndOfInput v read st valid i = settled_turns token.EndOfInput v read st valid i
 
     pub handled_over : (t : Token) (v : Split) → IsRead t → StandsOn s v → IsValid (state_over v s) → suits_at_once t (state_over v s) ≡ true
-        → EndsOver s v (end_by (answer_of s) (handle_plan t v)) (few_at_once v (state_over v s) t) (handled_at_once (state_over v s) t)
+        → EndsOver s v (end_by (answer_of s) (handle_plan t v)) (few_at_once v (state_over v s) t) (handle_at_once (state_over v s) t)
     handled_over t v read st valid i = go v.change.skip_lf refl
       where
-        go : (b : Bool) → v.change.skip_lf ≡ b → EndsOver s v (end_by (answer_of s) (if b then handle_rest (without_line_feed t) (unskipped v) else all_turns_plan t v)) (few_at_once v (state_over v s) t) (handled_at_once (state_over v s) t)
+        go : (b : Bool) → v.change.skip_lf ≡ b → EndsOver s v (end_by (answer_of s) (if b then handle_rest (without_line_feed t) (unskipped v) else all_turns_plan t v)) (few_at_once v (state_over v s) t) (handle_at_once (state_over v s) t)
         go true e =
             let c = state_over v s in
             let end = end_by (answer_of s) (handle_rest (without_line_feed t) (unskipped v)) in

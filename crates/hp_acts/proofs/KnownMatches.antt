@@ -32,6 +32,7 @@ use Rattle.hp_views.specs.ResetLaws.{is_kept_by}
 use Rattle.hp_views.specs.SecondPlans.{own_modes}
 use Rattle.hp_views.specs.StackLaws.{full_stack}
 use Rattle.hp_views.specs.View.{Sight}
+use Rattle.hp_model.specs.AtOnce.{after_first, handle_at_once}
 use Rattle.hp_model.specs.Handling.{bound, settled}
 use Rattle.hp_model.specs.Rows.{turn}
 use Rattle.hp_model.specs.Steps.{holds, step}
@@ -45,7 +46,7 @@ use Rattle.hp_acts.specs.declared.turns.Handled.{Handled}
 use Rattle.hp_acts.specs.ActLaws.{act_faithful, fits_of, step_at_once}
 use Rattle.hp_acts.specs.HandlePlans.{handle_plan, most_turns}
 use Rattle.hp_acts.specs.Handling.{Handles}
-use Rattle.hp_acts.specs.Known.{EndsWhole, HandlesKnown, IsHandledWhole, KnownHandled, after_first, handled_at_once}
+use Rattle.hp_acts.specs.Known.{EndsWhole, HandlesKnown, IsHandledWhole, KnownHandled}
 use Rattle.hp_acts.specs.Older.{EndsOver, few_at_once, few_of_rest, few_turns}
 use Rattle.hp_acts.specs.Plans.{act_plan, by_plan, test_plan}
 use Rattle.hp_acts.specs.RowPlans.{Reached}
@@ -153,20 +154,20 @@ suits_any t c = go (c.skip_lf && is_line_feed t)
     go true = suits_rest (after_first t) (settled c)
     go false = turns_any (bound (settled c)) t (settled c)
 
-handled_whole : (t : Token) (v : Split) → IsRead t → StandsOn nothing v → IsValid (state_over v nothing) → EndsAs v (end_by (answer_of nothing) (handle_plan t v)) (handled_at_once (state_over v nothing) t)
+handled_whole : (t : Token) (v : Split) → IsRead t → StandsOn nothing v → IsValid (state_over v nothing) → EndsAs v (end_by (answer_of nothing) (handle_plan t v)) (handle_at_once (state_over v nothing) t)
 handled_whole t v read st valid =
     let c = state_over v nothing in
-    whole_of v (end_by (answer_of nothing) (handle_plan t v)) (few_at_once v c t) (handled_at_once c t) (few_whole t v read valid)
+    whole_of v (end_by (answer_of nothing) (handle_plan t v)) (few_at_once v c t) (handle_at_once c t) (few_whole t v read valid)
     (handled_over nothing any_act any_test acts_known tests_known t v read st valid (suits_any t c))
 
-whole_end : (t : Token) (v : Split) (end : Result Reached Crossing) → EndsAs v end (handled_at_once (state_over v nothing) t) → EndsWhole t v end
+whole_end : (t : Token) (v : Split) (end : Result Reached Crossing) → EndsAs v end (handle_at_once (state_over v nothing) t) → EndsWhole t v end
 whole_end t v (Ok r) m = m
 whole_end t v (Err crossing) m = m
 
 pub known_handled : KnownHandled
 known_handled t v old new end says r st valid read =
     let so : end_by (answer_of nothing) (handle_plan t v) ≡ end = subst (λ f. end_by f (handle_plan t v) ≡ end) says r.ends in
-    whole_end t v end (subst (λ e. EndsAs v e (handled_at_once (state_over v nothing) t)) so (handled_whole t v read st valid))
+    whole_end t v end (subst (λ e. EndsAs v e (handle_at_once (state_over v nothing) t)) so (handled_whole t v read st valid))
 
 -- what carries out the plan of handling does so
 pub known_carried : (t : Token) (result : Result Handled Refusal) (old new : Sight) → Handles result old new (handle_plan t) → HandlesKnown t result old new

@@ -11,8 +11,8 @@ use Rattle.hp_control.specs.Faithful.{Split, IsDone, Matches, StandsOn, any_afte
 use Rattle.hp_control.specs.Outcome.{Outcome, after, becomes, touches, touches_any}
 use Rattle.hp_control.specs.States.{ControlState}
 use Rattle.hp_control.specs.Tree.{Tree, applied, applied_all}
+use Rattle.hp_model.specs.AtOnce.{MakeSame}
 use Rattle.hp_model.specs.Turns.{Handled, Turn, goes_on, done, again, before, and_then, as_part, joined, later, left_by, unchanged}
-use Rattle.hp_acts.specs.Known.{MakeAlike}
 use Rattle.hp_acts.specs.RowPlans.{Reached, Came}
 use Rattle.hp_acts.specs.RowPlans.{left as came_left, again as came_again}
 
@@ -24,7 +24,7 @@ applied_after tree (e ∷ es) fs = applied_after (applied tree e) es fs
 -- over s, the view went from v to w as the outcome says, its edits in their effect
 pub record IsDoneAlike (s : ControlState) (v w : Split) (o : Outcome) : Type 0 where
   pub control : state_over w s ≡ o.control
-  pub edits : MakeAlike (map (named_edit s) w.edits) (map (named_edit s) v.edits ++ o.edits)
+  pub edits : MakeSame (map (named_edit s) w.edits) (map (named_edit s) v.edits ++ o.edits)
   pub own : touches_any s o ≡ false
   pub stands : StandsOn s w
 
@@ -43,7 +43,7 @@ either : (a b : Bool) → a ≡ false → b ≡ false → (a || b) ≡ false
 either false b h k = k
 either true b h k = absurd (cc)
 
-alike_after : (s : ControlState) (u v w : List Edit) (o p : Outcome) → MakeAlike v (u ++ o.edits) → MakeAlike w (v ++ p.edits) → MakeAlike w (u ++ (after o p).edits)
+alike_after : (s : ControlState) (u v w : List Edit) (o p : Outcome) → MakeSame v (u ++ o.edits) → MakeSame w (v ++ p.edits) → MakeSame w (u ++ (after o p).edits)
 alike_after s u v w o p h k = λ tree.
     k tree ∙ (applied_after tree v p.edits ∙ (ap (λ t. applied_all t p.edits) (h tree) ∙ (sym (applied_after tree (u ++ o.edits) p.edits) ∙ ap (applied_all tree) (append_assoc u o.edits p.edits))))
 

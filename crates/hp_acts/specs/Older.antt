@@ -10,6 +10,7 @@ use Rattle.hp_control.specs.Faithful.{Split, StandsOn, state_over}
 use Rattle.hp_control.specs.Outcome.{touches, touches_any}
 use Rattle.hp_control.specs.Plan.{Heard, Runs, asked_by}
 use Rattle.hp_control.specs.States.{ControlState, IsValid}
+use Rattle.hp_model.specs.AtOnce.{MakeSame, after_first, handle_at_once}
 use Rattle.hp_model.specs.Handling.{settled}
 use Rattle.hp_model.specs.Rows.{turn}
 use Rattle.hp_model.specs.Tokens.{is_line_feed}
@@ -17,14 +18,13 @@ use Rattle.hp_model.specs.Turns.{Handled as Meant, left_by, turns, unchanged}
 use Rattle.hp_model.specs.Whole.{IsRead}
 use Rattle.hp_acts.specs.declared.turns.Handled.{Handled}
 use Rattle.hp_acts.specs.HandlePlans.{handle_plan, most_turns}
-use Rattle.hp_acts.specs.Known.{MakeAlike, after_first, handled_at_once}
 use Rattle.hp_acts.specs.RowPlans.{Reached}
 use Rattle.hp_acts.specs.Told.{is_told_at_once}
 
 -- over s, from the view v a token that means this was handled, which left w and touched nothing older
 pub record IsHandledOver (s : ControlState) (v w : Split) (handled : Handled) (h : Meant) : Type 0 where
   pub control : state_over w s ≡ left_by h
-  pub edits : MakeAlike (map (named_edit s) w.edits) (map (named_edit s) v.edits ++ h.outcome.edits)
+  pub edits : MakeSame (map (named_edit s) w.edits) (map (named_edit s) v.edits ++ h.outcome.edits)
   pub switch : handled.switch ≡ h.switch
   pub stopped : handled.stopped ≡ h.stopped
   pub own : touches_any s h.outcome ≡ false
@@ -53,4 +53,4 @@ EndsOver s v (Err crossing) few h = (touches s crossing h.outcome ≡ true) ⊎ 
 abbrev pub OlderHandled : Type 0
 OlderHandled = (t : Token) (v : Split) (old new : Heard) (end : Result Reached Crossing) (s : ControlState) → Runs old new (handle_plan t v) end → AllTrue s old.says (asked_by old.says (handle_plan t v))
     → StandsOn s v → IsValid (state_over v s) → IsRead t → is_told_at_once s t (state_over v s) ≡ true
-    → EndsOver s v end (few_at_once v (state_over v s) t) (handled_at_once (state_over v s) t)
+    → EndsOver s v end (few_at_once v (state_over v s) t) (handle_at_once (state_over v s) t)

@@ -12,10 +12,10 @@ use Rattle.hp_elements.specs.declared.token.Token.{Token}
 use Rattle.hp_control.specs.declared.element.OpenElement.{OpenElement}
 use Rattle.hp_control.specs.States.{ControlState, is_named, is_template}
 use Rattle.hp_views.specs.ResetLaws.{is_same}
+use Rattle.hp_model.specs.AtOnce.{after_first}
 use Rattle.hp_model.specs.Handling.{bound, settled}
 use Rattle.hp_model.specs.Steps.{step}
 use Rattle.hp_model.specs.Tokens.{is_line_feed}
-use Rattle.hp_acts.specs.Known.{after_first}
 use Rattle.hp_acts.specs.Suiting.{turns_suit}
 
 -- made since s
