@@ -108,7 +108,7 @@ module _ (s : ControlState) (of_act : Bool → Token → Act → ControlState �
   suits_at_once t c = if c.skip_lf && is_line_feed t then rest_suits (after_first t) (settled c) else turns_suit of_act of_test (bound (settled c)) t (settled c)
 
   module _ (acts_hold : (t : Token) (n : ℕ) → IsRead t → (fostering : Bool) (a : Act) (v : Course) (d : Split) → StandsOn s d → Along v n (state_over d s) → fits (kind_of t) a v ≡ true → is_row_act a ≡ true → of_act fostering t a (state_over d s) ≡ true
-          → MatchesAlike s d (end_by (answer_of s) (by_plan (act_plan fostering t a) d)) (step fostering t a (state_over d s)))
+      → MatchesAlike s d (end_by (answer_of s) (by_plan (act_plan fostering t a) d)) (step fostering t a (state_over d s)))
       (tests_hold : (t : Token) (x : Test) (d : Split) → StandsOn s d → of_test x (state_over d s) ≡ true → end_by (answer_of s) (test_plan t x d) ≡ Ok (holds t x (state_over d s))) where
     turns_over : (t : Token) (v : Split) → IsRead t → StandsOn s v → IsValid (state_over v s) → turns_suit of_act of_test (bound (state_over v s)) t (state_over v s) ≡ true
         → EndsOver s v (end_by (answer_of s) (all_turns_plan t v)) (few_turns v (state_over v s) t) (all_turns (state_over v s) t)
@@ -153,16 +153,16 @@ module _ (s : ControlState) (of_act : Bool → Token → Act → ControlState �
       where
         go : (b : Bool) → (if b then true else turns_suit of_act of_test (bound (settled (state_over v s))) (token.Characters class (x ∷ [])) (settled (state_over v s))) ≡ true
             → EndsOver s v (end_by (answer_of s) (handle_rest (if b then None else Some (token.Characters class (x ∷ []))) (unskipped v)))
-              (if b then few_of_rest v (settled (state_over v s)) None else few_turns v (settled (state_over v s)) (token.Characters class (x ∷ [])))
-              (if b then handled_rest (settled (state_over v s)) None else all_turns (settled (state_over v s)) (token.Characters class (x ∷ [])))
+            (if b then few_of_rest v (settled (state_over v s)) None else few_turns v (settled (state_over v s)) (token.Characters class (x ∷ [])))
+            (if b then handled_rest (settled (state_over v s)) None else all_turns (settled (state_over v s)) (token.Characters class (x ∷ [])))
         go true j = dropped v st
         go false j = settled_turns (token.Characters class (x ∷ [])) v tt st valid j
     skipping (token.Characters class (x ∷ y ∷ text)) v read st valid i = go (x == 0xA) i
       where
         go : (b : Bool) → (if b then turns_suit of_act of_test (bound (settled (state_over v s))) (token.Characters class (y ∷ text)) (settled (state_over v s)) else turns_suit of_act of_test (bound (settled (state_over v s))) (token.Characters class (x ∷ y ∷ text)) (settled (state_over v s))) ≡ true
             → EndsOver s v (end_by (answer_of s) (handle_rest (if b then Some (token.Characters class (y ∷ text)) else Some (token.Characters class (x ∷ y ∷ text))) (unskipped v)))
-              (if b then few_turns v (settled (state_over v s)) (token.Characters class (y ∷ text)) else few_turns v (settled (state_over v s)) (token.Characters class (x ∷ y ∷ text)))
-              (if b then handled_rest (settled (state_over v s)) (Some (token.Characters class (y ∷ text))) else all_turns (settled (state_over v s)) (token.Characters class (x ∷ y ∷ text)))
+            (if b then few_turns v (settled (state_over v s)) (token.Characters class (y ∷ text)) else few_turns v (settled (state_over v s)) (token.Characters class (x ∷ y ∷ text)))
+            (if b then handled_rest (settled (state_over v s)) (Some (token.Characters class (y ∷ text))) else all_turns (settled (state_over v s)) (token.Characters class (x ∷ y ∷ text)))
         go true j = settled_turns (token.Characters class (y ∷ text)) v tt st valid j
         go false j = settled_turns (token.Characters class (x ∷ y ∷ text)) v tt st valid j
     skipping (token.Start self_closing tag) v read st valid i = settled_turns (token.Start self_closing tag) v read st valid i
@@ -181,7 +181,7 @@ module _ (s : ControlState) (of_act : Bool → Token → Act → ControlState �
             let end = end_by (answer_of s) (handle_rest (without_line_feed t) (unskipped v)) in
             let on : c.skip_lf ≡ true = skips_over s v ∙ e in
             let suits : (if is_line_feed t then rest_suits (after_first t) (settled c) else turns_suit of_act of_test (bound (settled c)) t (settled c)) ≡ true =
-                sym (ap (λ b. if b && is_line_feed t then rest_suits (after_first t) (settled c) else turns_suit of_act of_test (bound (settled c)) t (settled c)) on) ∙ i in
+            sym (ap (λ b. if b && is_line_feed t then rest_suits (after_first t) (settled c) else turns_suit of_act of_test (bound (settled c)) t (settled c)) on) ∙ i in
             subst (λ b. EndsOver s v end (if b && is_line_feed t then few_of_rest v (settled c) (after_first t) else few_turns v (settled c) t) (if b && is_line_feed t then handled_rest (settled c) (after_first t) else all_turns (settled c) t)) (sym on)
             (skipping t v read st valid suits)
         go false e =
@@ -189,7 +189,7 @@ module _ (s : ControlState) (of_act : Bool → Token → Act → ControlState �
             let end = end_by (answer_of s) (all_turns_plan t v) in
             let off : c.skip_lf ≡ false = skips_over s v ∙ e in
             let suits : turns_suit of_act of_test (bound (settled c)) t (settled c) ≡ true =
-                sym (ap (λ b. if b && is_line_feed t then rest_suits (after_first t) (settled c) else turns_suit of_act of_test (bound (settled c)) t (settled c)) off) ∙ i in
+            sym (ap (λ b. if b && is_line_feed t then rest_suits (after_first t) (settled c) else turns_suit of_act of_test (bound (settled c)) t (settled c)) off) ∙ i in
             subst (λ b. EndsOver s v end (if b && is_line_feed t then few_of_rest v (settled c) (after_first t) else few_turns v (settled c) t) (if b && is_line_feed t then handled_rest (settled c) (after_first t) else all_turns (settled c) t)) (sym off)
             (subst (λ x. EndsOver s v end (few_turns v x t) (all_turns x t)) (sym (settled_same c off))
             (turns_over t v read st valid (sym (ap (λ x. turns_suit of_act of_test (bound x) t x) (settled_same c off)) ∙ suits)))

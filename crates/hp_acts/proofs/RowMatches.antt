@@ -70,7 +70,7 @@ foreign_rows t = rows_for foreign (kind_of t) refl
 module _ (s : ControlState) (from : Rank) (n : ℕ) (t : Token) (read : IsRead t)
     (of_act : Bool → Token → Act → ControlState → Bool) (of_test : Test → ControlState → Bool)
     (acts_hold : (fostering : Bool) (a : Act) (v : Course) (d : Split) → StandsOn s d → Along v n (state_over d s) → fits (kind_of t) a v ≡ true → is_row_act a ≡ true → of_act fostering t a (state_over d s) ≡ true
-        → MatchesAlike s d (end_by (answer_of s) (by_plan (act_plan fostering t a) d)) (step fostering t a (state_over d s)))
+    → MatchesAlike s d (end_by (answer_of s) (by_plan (act_plan fostering t a) d)) (step fostering t a (state_over d s)))
     (tests_hold : (x : Test) (d : Split) → StandsOn s d → of_test x (state_over d s) ≡ true → end_by (answer_of s) (test_plan t x d) ≡ Ok (holds t x (state_over d s))) where
   -- the rest of a row comes to what the rest of the definition's does, from each state on a course that passes
   abbrev Rests : (Reached → Plan Came) → (ControlState → Turn) → (Course → Bool) → (ControlState → Bool) → Type 0
@@ -113,9 +113,9 @@ module _ (s : ControlState) (from : Rank) (n : ℕ) (t : Token) (read : IsRead t
       (present_meets : (v : Course) (r : ControlState) (next : Course → Bool) → Along v n r → present_passes v next ≡ true → Meets from n next next (present r))
       (follow_suits : Bool → Mode → ControlState → Bool) (present_suits : ControlState → Bool)
       (follow_matches : (f : Bool) (m : Mode) (v : Course) (e : Reached) (next : Course → Bool) → StandsOn s e.split → Along v n (state_over e.split s) → follow_passes m v next ≡ true → follow_suits f m (state_over e.split s) ≡ true
-          → MatchesTurn s e (end_by (answer_of s) (follow_plan f m e)) (follow f m (state_over e.split s)))
+      → MatchesTurn s e (end_by (answer_of s) (follow_plan f m e)) (follow f m (state_over e.split s)))
       (present_matches : (v : Course) (e : Reached) (next : Course → Bool) → StandsOn s e.split → Along v n (state_over e.split s) → present_passes v next ≡ true → present_suits (state_over e.split s) ≡ true
-          → MatchesTurn s e (end_by (answer_of s) (present_plan e)) (present (state_over e.split s)))
+      → MatchesTurn s e (end_by (answer_of s) (present_plan e)) (present (state_over e.split s)))
       (fostering : Bool) where
     abbrev acts : ℕ → ℕ → List Act → Reached → Plan Came
     acts = acts_plan follow_plan present_plan fostering t
@@ -252,12 +252,12 @@ module _ (s : ControlState) (from : Rank) (n : ℕ) (t : Token) (read : IsRead t
             → at + 1 + length inner ≡ place
             → (if b then fine plan (fine others suits) (state_over d.split s) else fine others suits (state_over d.split s)) ≡ true
             → (Along (assume test v) n (state_over d.split s) → plan_passes from (kind_of t) follow_passes present_passes plan (assume test v) (λ w. plan_passes from (kind_of t) follow_passes present_passes others w next last) last ≡ true
-                → fine plan (fine others suits) (state_over d.split s) ≡ true
-                → MatchesTurn s d (end_by (answer_of s) (acts (at + 1) (at + 1) (inner ++ (tail ++ more)) d)) (and_then (meant plan (state_over d.split s)) (λ r. and_then (meant others r) f)))
+            → fine plan (fine others suits) (state_over d.split s) ≡ true
+            → MatchesTurn s d (end_by (answer_of s) (acts (at + 1) (at + 1) (inner ++ (tail ++ more)) d)) (and_then (meant plan (state_over d.split s)) (λ r. and_then (meant others r) f)))
             → (plan_passes from (kind_of t) follow_passes present_passes others v next last ≡ true → fine others suits (state_over d.split s) ≡ true
-                → MatchesTurn s d (end_by (answer_of s) (acts place place (tail ++ more) d)) (and_then (meant others (state_over d.split s)) f))
+            → MatchesTurn s d (end_by (answer_of s) (acts place place (tail ++ more) d)) (and_then (meant others (state_over d.split s)) f))
             → MatchesTurn s d (end_by (answer_of s) (acts (at + 1) (if b then at + 1 else place) (inner ++ (tail ++ more)) d))
-              (and_then (and_then (if b then meant plan (state_over d.split s) else goes_on (unchanged (state_over d.split s))) (meant others)) f)
+            (and_then (and_then (if b then meant plan (state_over d.split s) else goes_on (unchanged (state_over d.split s))) (meant others)) f)
         go inner tail place true e2 p2 q2 l2 i2 in_it round = way_in plan others (state_over d.split s) d (end_by (answer_of s) (acts (at + 1) (at + 1) (inner ++ (tail ++ more)) d)) f (in_it (assumed from n t read test v (state_over d.split s) g e2) p2 i2)
         go inner tail place false e2 p2 q2 l2 i2 in_it round = way_round others d inner (tail ++ more) at place f st l2 (round q2 i2)
     plan_matches (unless test plan others) at k more v d next last f suits p e st g h i rest =
@@ -281,11 +281,11 @@ module _ (s : ControlState) (from : Rank) (n : ℕ) (t : Token) (read : IsRead t
             → at + 1 + length inner ≡ place
             → (if b then fine others suits (state_over d.split s) else fine plan (fine others suits) (state_over d.split s)) ≡ true
             → (plan_passes from (kind_of t) follow_passes present_passes plan v (λ w. plan_passes from (kind_of t) follow_passes present_passes others w next last) last ≡ true → fine plan (fine others suits) (state_over d.split s) ≡ true
-                → MatchesTurn s d (end_by (answer_of s) (acts (at + 1) (at + 1) (inner ++ (tail ++ more)) d)) (and_then (meant plan (state_over d.split s)) (λ r. and_then (meant others r) f)))
+            → MatchesTurn s d (end_by (answer_of s) (acts (at + 1) (at + 1) (inner ++ (tail ++ more)) d)) (and_then (meant plan (state_over d.split s)) (λ r. and_then (meant others r) f)))
             → (Along (assume test v) n (state_over d.split s) → plan_passes from (kind_of t) follow_passes present_passes others (assume test v) next last ≡ true → fine others suits (state_over d.split s) ≡ true
-                → MatchesTurn s d (end_by (answer_of s) (acts place place (tail ++ more) d)) (and_then (meant others (state_over d.split s)) f))
+            → MatchesTurn s d (end_by (answer_of s) (acts place place (tail ++ more) d)) (and_then (meant others (state_over d.split s)) f))
             → MatchesTurn s d (end_by (answer_of s) (acts (at + 1) (if b then place else at + 1) (inner ++ (tail ++ more)) d))
-              (and_then (and_then (if b then goes_on (unchanged (state_over d.split s)) else meant plan (state_over d.split s)) (meant others)) f)
+            (and_then (and_then (if b then goes_on (unchanged (state_over d.split s)) else meant plan (state_over d.split s)) (meant others)) f)
         go inner tail place true e2 p2 q2 l2 i2 in_it round = way_round others d inner (tail ++ more) at place f st l2 (round (assumed from n t read test v (state_over d.split s) g e2) p2 i2)
         go inner tail place false e2 p2 q2 l2 i2 in_it round = way_in plan others (state_over d.split s) d (end_by (answer_of s) (acts (at + 1) (at + 1) (inner ++ (tail ++ more)) d)) f (in_it q2 i2)
 

@@ -97,7 +97,7 @@ ran_out s d (Some h) = inr (refl, refl)
 module _ (s : ControlState)
     (of_act : Bool → Token → Act → ControlState → Bool) (of_test : Test → ControlState → Bool)
     (acts_hold : (t : Token) (n : ℕ) → IsRead t → (fostering : Bool) (a : Act) (v : Course) (d : Split) → StandsOn s d → Along v n (state_over d s) → fits (kind_of t) a v ≡ true → is_row_act a ≡ true → of_act fostering t a (state_over d s) ≡ true
-        → MatchesAlike s d (end_by (answer_of s) (by_plan (act_plan fostering t a) d)) (step fostering t a (state_over d s)))
+    → MatchesAlike s d (end_by (answer_of s) (by_plan (act_plan fostering t a) d)) (step fostering t a (state_over d s)))
     (tests_hold : (t : Token) (x : Test) (d : Split) → StandsOn s d → of_test x (state_over d s) ≡ true → end_by (answer_of s) (test_plan t x d) ≡ Ok (holds t x (state_over d s))) where
   dispatch_matches : (t : Token) (d : Reached) → IsRead t → StandsOn s d.split → IsValid (state_over d.split s) → (b : Bool) → is_foreign (kind_of t) (state_over d.split s).stack ≡ b
       → (if b then plan_suits of_act of_test t (rules 4 t) (mode_turn t (state_over d.split s).mode) (rules_suit of_act of_test t 4) (rules_suit of_act of_test t 4 false (state_over d.split s).mode) false (plan_for foreign (kind_of t)) nothing_missing (state_over d.split s) else rules_suit of_act of_test t 4 false (state_over d.split s).mode (state_over d.split s)) ≡ true
@@ -126,8 +126,8 @@ module _ (s : ControlState)
       let b = is_foreign (kind_of t) c.stack in
       let u = if b then foreign_turn t c else mode_turn t c.mode c in
       let asked : end_by (answer_of s) (followed_by (goes_plan (kind_of t) d.split) (dispatched t d.split.change.mode d)) ≡ end_by (answer_of s) (dispatched t d.split.change.mode d b) =
-          end_then (answer_of s) (goes_plan (kind_of t) d.split) (dispatched t d.split.change.mode d)
-          ∙ ap (λ r. on_end r (λ x. end_by (answer_of s) (dispatched t d.split.change.mode d x))) (goes_faithful (kind_of t) s d.split st) in
+      end_then (answer_of s) (goes_plan (kind_of t) d.split) (dispatched t d.split.change.mode d)
+      ∙ ap (λ r. on_end r (λ x. end_by (answer_of s) (dispatched t d.split.change.mode d x))) (goes_faithful (kind_of t) s d.split st) in
       subst (λ r. MatchesTurn s d r u) (sym asked)
       (subst (λ m. MatchesTurn s d (end_by (answer_of s) (dispatched t m d b)) u) (mode_over s d.split) (dispatch_matches t d read st valid b refl i))
 
@@ -137,7 +137,7 @@ module _ (s : ControlState)
     where
       go : (b : Bool) → is_early d.split.page d.split.change.mode ≡ b
           → MatchesTurn s d (end_by (answer_of s) (if b then crosses X4 else followed_by (goes_plan (kind_of t) d.split) (dispatched t d.split.change.mode d)))
-            (before (entering (state_over d.split s)) (if is_foreign (kind_of t) (state_over d.split s).stack then foreign_turn t (state_over d.split s) else mode_turn t (state_over d.split s).mode (state_over d.split s)))
+          (before (entering (state_over d.split s)) (if is_foreign (kind_of t) (state_over d.split s).stack then foreign_turn t (state_over d.split s) else mode_turn t (state_over d.split s).mode (state_over d.split s)))
       go true e =
           let c = state_over d.split s in
           touched_before s X4 (entering c) (if is_foreign (kind_of t) c.stack then foreign_turn t c else mode_turn t c.mode c)
@@ -161,7 +161,7 @@ module _ (s : ControlState)
     where
       go : (end : Result Came Crossing) (u : Turn) → MatchesTurn s d end u → Leaves (weigh t (state_over d.split s)) u → where_again_suits u (turns_suit of_act of_test k) ≡ true
           → ((other : Token) (e : Reached) → IsRead other → StandsOn s e.split → IsValid (state_over e.split s) → turns_suit of_act of_test k other (state_over e.split s) ≡ true
-              → MatchesTurns s e (end_by (answer_of s) (turns_plan k other e)) (turns turn k other (state_over e.split s)) (turns turn many other (state_over e.split s)))
+          → MatchesTurns s e (end_by (answer_of s) (turns_plan k other e)) (turns turn k other (state_over e.split s)) (turns turn many other (state_over e.split s)))
           → MatchesTurns s d (on_end end (λ c. end_by (answer_of s) (where_again (turns_plan k) c))) (after_turn u (turns turn k)) (after_turn u (turns turn many))
       go (Err crossing) (goes_on h) m l q rest = inl m
       go (Err crossing) (done h) m l q rest = inl m
