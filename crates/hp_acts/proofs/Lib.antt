@@ -14,3 +14,4 @@ pub mod KnownMatches
 pub mod OlderMatches
 pub mod TurnRuns
 pub mod PlainRuns
+pub mod StepRuns

@@ -10,7 +10,7 @@ ghost use Rattle.hp_acts.specs.Carrying.{Comes, Goes, GoesBy, Stays, going, next
 ghost use Rattle.hp_acts.specs.HandlePlans.{all_turns_plan, handle_plan};
 ghost use Rattle.hp_acts.specs.Handling.{GoesLater, Handles};
 ghost use Rattle.hp_acts.specs.RowPlans.{Reached, Came, act_then, is_early, turn_plan};
-ghost use Rattle.hp_acts.specs.Rows.{acts_in};
+ghost use Rattle.hp_acts.specs.Rows.{acts_in, is_planned};
 ghost use Rattle.hp_acts.specs.Spending.{IsLeftOf, gives_away, is_of_attributes, leaves_whole, reads_attributes};
 ghost use Rattle.hp_acts.specs.declared.token_parts.Spending.TheVariants.{Copies};
 ghost use Rattle.hp_acts.specs.declared.turns.Next.TheVariants.{At};
@@ -184,6 +184,7 @@ fn step<'p, B: Below>(
 ) -> Result<Next, Refusal>
     requires later { goes_later at act ≡ true }
     requires short { at < 8 }
+    requires planned { is_planned act ≡ true }
     ensures later { IfOk result (λ next. GoesLater at next) }
     ensures goes { IfOk result (λ next. GoesBy act at next) }
     ensures stays { IfOk result (λ next. Stays (leaves_whole act (drop (at + 1) (acts_in row))) turn.old.token turn.new.token next) }
@@ -217,8 +218,10 @@ fn step<'p, B: Below>(
         }
         _ => {
             let spending = spending_at(row, at, act);
-            carry_out(alloc, view, act, &mut turn.token, spending, fostering)?;
-            Ok(Next::At(at + 1))
+            match carry_out(alloc, view, act, &mut turn.token, spending, fostering) {
+                Ok(()) => Ok(Next::At(at + 1)),
+                Err(refused) => Err(refused),
+            }
         }
     }
 }
