@@ -15,3 +15,4 @@ pub mod OlderMatches
 pub mod TurnRuns
 pub mod PlainRuns
 pub mod StepRuns
+pub mod LineFeeds
