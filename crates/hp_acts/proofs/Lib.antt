@@ -3,6 +3,16 @@ pub mod RowLemmas
 pub mod TokenLeft
 pub mod RowRuns
 pub mod Keeping
+pub mod Matching
+pub mod SuitingAny
+pub mod RowMatches
+pub mod TurnMatches
+pub mod SuitingFewer
+pub mod HandleMatches
+pub mod ActMatches
+pub mod KnownMatches
+pub mod OlderMatches
 pub mod TurnRuns
 pub mod PlainRuns
 pub mod StepRuns
+pub mod LineFeeds

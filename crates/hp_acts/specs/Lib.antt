@@ -10,3 +10,7 @@ pub mod Laws
 pub mod RowPlans
 pub mod Plain
 pub mod HandlePlans
+pub mod Suiting
+pub mod Known
+pub mod Told
+pub mod Older
