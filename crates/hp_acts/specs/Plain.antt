@@ -1,5 +1,5 @@
 -- Runs of text where the rules do nothing but put them into the current node, an own HTML element (13.2.6.4.7, 13.2.6.4.8).
-use Rattle.std.specs.Prelude.{◌≡◌, ℕ, Bool, true, false, List, [], ◌∷◌}
+use Rattle.std.specs.Prelude.{◌≡◌, ℕ, Bool, true, false, if◌then◌else◌, List, [], ◌∷◌}
 use Rattle.hp_elements.specs.declared.token.CharClass.{CharClass}
 use Rattle.hp_elements.specs.declared.token.CharClass.TheVariants.{White, Nul, Other}
 use Rattle.hp_elements.specs.declared.token.Mode.{Mode}
@@ -38,14 +38,21 @@ pub record IsPlain (v : Split) (t : Token) : Type 0 where
   pub place : is_text_mode v.change.mode ≡ true
   pub top : has_html_top v.change.stack ≡ true
 
+-- the text into the current node, and what the rules of the body do then
+abbrev pub put_text_plan : CharClass → List ℕ → Split → Plan Split
+put_text_plan Other text v = followed_by (put_plan false (child.Text text) v) frameset_plan
+put_text_plan class text v = put_plan false (child.Text text) v
+
 -- what the rules of the body do with such a run
 abbrev pub body_text_plan : CharClass → List ℕ → Split → Plan Split
-body_text_plan Other text v = followed_by (reconstruct_plan false v) (λ w. followed_by (put_plan false (child.Text text) w) frameset_plan)
-body_text_plan class text v = followed_by (reconstruct_plan false v) (put_plan false (child.Text text))
+body_text_plan class text v = followed_by (reconstruct_plan false v) (put_text_plan class text)
+
+abbrev pub is_raw : Mode → Bool
+is_raw mode.Text = true
+is_raw _ = false
 
 abbrev pub text_plan : Mode → CharClass → List ℕ → Split → Plan Split
-text_plan mode.Text class text = put_plan false (child.Text text)
-text_plan _ class text = body_text_plan class text
+text_plan m class text v = if is_raw m then put_plan false (child.Text text) v else body_text_plan class text v
 
 abbrev pub run_plan : Token → Split → Plan Split
 run_plan (Characters class text) v = text_plan v.change.mode class text v

@@ -4,7 +4,7 @@ ghost use Rattle.std.specs.Prelude.{◌≡◌, true};
 ghost use Rattle.hp_views.specs.View.{sight, split_of, Carries};
 ghost use Rattle.hp_acts.specs.HandlePlans.{all_turns_plan};
 ghost use Rattle.hp_acts.specs.Handling.{Handles};
-ghost use Rattle.hp_acts.specs.Plain.{IsPlain, body_text_plan, has_html_top, is_run, is_text_mode, run_plan};
+ghost use Rattle.hp_acts.specs.Plain.{IsPlain, body_text_plan, has_html_top, is_raw, is_run, is_text_mode, put_text_plan, run_plan, text_plan};
 
 use crate::turns::{Handled, NOTHING};
 use hp_adoption::reconstruct;
@@ -51,16 +51,29 @@ pub(crate) fn is_plain<'p, B: Below>(view: &View<'p, B>, token: &Token<'p>) -> b
 }
 
 /// Puts the text of a plain run into the current node.
+#[tactic(auto, using(crate::proofs::PlainRuns::plain_refused))]
 pub(crate) fn put_plain<'p, B: Below>(
     alloc: Global,
     view: &mut View<'p, B>,
     token: Token<'p>,
 ) -> Result<Handled, Refusal>
-    requires { IsPlain (split_of view.old) token.entry }
+    requires { IsPlain (split_of view.old) token }
     ensures { Handles result (sight B.heard view.old) (sight B.heard view.new) (all_turns_plan token.entry) }
 {
-    put_run(alloc, view, token)?;
-    Ok(NOTHING)
+    match put_run(alloc, view, token) {
+        Ok(()) => Ok(NOTHING),
+        Err(refused) => Err(refused),
+    }
+}
+
+/// Whether text alone is read in this mode.
+fn is_raw(mode: Mode) -> bool
+    ensures { result ≡ is_raw mode }
+{
+    match mode {
+        Mode::Text => true,
+        _ => false,
+    }
 }
 
 fn put_run<'p, B: Below>(
@@ -71,11 +84,23 @@ fn put_run<'p, B: Below>(
     ensures { Carries result (sight B.heard view.old) (sight B.heard view.new) (run_plan token.entry) }
 {
     match token {
-        Token::Characters { class, text } => match view.change.mode {
-            Mode::Text => view.put(alloc, false, Child::Text(text)),
-            _ => put_in_body(alloc, view, class, text),
-        },
+        Token::Characters { class, text } => put_characters(alloc, view, class, text),
         _ => Ok(()),
+    }
+}
+
+fn put_characters<'p, B: Below>(
+    alloc: Global,
+    view: &mut View<'p, B>,
+    class: CharClass,
+    text: Text<'p>,
+) -> Result<(), Refusal>
+    ensures { Carries result (sight B.heard view.old) (sight B.heard view.new) (λ v. text_plan v.change.mode class text.entry v) }
+{
+    if is_raw(view.change.mode) {
+        view.put(alloc, false, Child::Text(text))
+    } else {
+        put_in_body(alloc, view, class, text)
     }
 }
 
@@ -88,10 +113,26 @@ fn put_in_body<'p, B: Below>(
 ) -> Result<(), Refusal>
     ensures { Carries result (sight B.heard view.old) (sight B.heard view.new) (body_text_plan class text.entry) }
 {
-    reconstruct(alloc, view, false)?;
-    view.put(alloc, false, Child::Text(text))?;
+    match reconstruct(alloc, view, false) {
+        Ok(()) => put_text(alloc, view, class, text),
+        Err(refused) => Err(refused),
+    }
+}
+
+fn put_text<'p, B: Below>(
+    alloc: Global,
+    view: &mut View<'p, B>,
+    class: CharClass,
+    text: Text<'p>,
+) -> Result<(), Refusal>
+    ensures { Carries result (sight B.heard view.old) (sight B.heard view.new) (put_text_plan class text.entry) }
+{
     match class {
-        CharClass::Other => view.frameset_not_ok(alloc),
-        CharClass::White | CharClass::Nul => Ok(()),
+        CharClass::Other => {
+            view.put(alloc, false, Child::Text(text))?;
+            view.frameset_not_ok(alloc)
+        }
+        CharClass::White => view.put(alloc, false, Child::Text(text)),
+        CharClass::Nul => view.put(alloc, false, Child::Text(text)),
     }
 }
