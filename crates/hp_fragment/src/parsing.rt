@@ -22,7 +22,7 @@ use hp_control::Control;
 use hp_elements::{Rest, Token, Tokens};
 use hp_lexer::{Cursor, Lexer, Step};
 use hp_text::Page;
-use hp_tokens::OwnedText;
+use hp_tokens::{LexState, Machine, OwnedText};
 use std::alloc::Global;
 
 /// The sequential parser within a page. It reads the page in pieces, each of which ends at a `>`, so that the lexer goes no
@@ -215,9 +215,23 @@ impl<'p> Parsing<'p> {
 fn page_lexer() -> Lexer
     ensures { result ≡ record { lex = lex_start; names = built_in; asked = asked.Nothing; rested = 2 ^ 32 } }
 {
-    let mut lexer = Lexer::at_rest(Rest::Data, false);
-    lexer.lex.machine.last_tag = Some(OwnedText::new());
-    lexer
+    let Lexer {
+        lex,
+        names,
+        asked,
+        rested,
+    } = Lexer::at_rest(Rest::Data, false);
+    let LexState { machine, ahead } = lex;
+    let machine = Machine {
+        last_tag: Some(OwnedText::new()),
+        ..machine
+    };
+    Lexer {
+        lex: LexState { machine, ahead },
+        names,
+        asked,
+        rested,
+    }
 }
 
 /// Handles the tokens of the end of input, of which none is a start tag.
