@@ -1,36 +1,29 @@
 -- A row that passes the test makes no more than the test says; and so do the turns of a token.
-use Rattle.std.proofs.Common.{◌≡◌, ℕ, zero, suc, ◌+◌, ◌≤◌, Bool, true, false, not, ◌&&◌, ◌||◌, List, [], ◌∷◌, length, Option, None, Some, refl, sym, ap, ◌∙◌, subst, arith}
+use Rattle.std.proofs.Common.{◌≡◌, ℕ, zero, suc, ◌+◌, ◌≤◌, Bool, true, false, length, refl, sym, subst, arith}
 use Rattle.std.specs.Prelude.{if◌then◌else◌, nat_le}
-use Rattle.std.proofs.lemmas.Bool.{and_parts, true≢false, leb-true}
+use Rattle.std.proofs.lemmas.Bool.{and_parts, leb-true}
 use Rattle.hp_elements.specs.Rules.{Plan, ends, ◌⨾◌, when, unless, plan_for}
 use Rattle.hp_elements.specs.Tokens.{kind_of}
 use Rattle.hp_elements.specs.declared.act.Act.{Act}
 use Rattle.hp_elements.specs.declared.act.Act.TheVariants as act
-use Rattle.hp_elements.specs.declared.act.Test.{Test}
 use Rattle.hp_elements.specs.declared.token.Kind.{Kind}
-use Rattle.hp_elements.specs.declared.token.Kind.TheVariants.{Characters, Start}
+use Rattle.hp_elements.specs.declared.token.Kind.TheVariants.{Start}
 use Rattle.hp_elements.specs.declared.token.Mode.{Mode}
-use Rattle.hp_elements.specs.declared.token.Mode.TheVariants as mode
 use Rattle.hp_elements.specs.declared.token.Token.{Token}
 use Rattle.hp_elements.proofs.NameLemmas.{known_of_text}
-use Rattle.hp_control.specs.Foreign.{is_foreign}
-use Rattle.hp_control.specs.States.{ControlState, IsValid, is_settled}
-use Rattle.hp_rules_rest.specs.Foreign.{foreign}
+use Rattle.hp_control.specs.States.{ControlState}
 use Rattle.hp_rules_rest.specs.Whole.{every_mode_rows}
-use Rattle.hp_model.specs.Rows.{carry, carry_plan, entering, foreign_turn, mode_turn, nothing_more, rules, turn}
+use Rattle.hp_model.specs.Growth.{times}
+use Rattle.hp_model.specs.Rows.{carry, carry_plan, nothing_more, rules}
 use Rattle.hp_model.specs.Steps.{holds, step}
-use Rattle.hp_model.specs.Turns.{Handled, Turn, goes_on, done, again, before, after_turn, before_all, joined, and_then as turn_then, as_part, left_by, turns, unchanged}
+use Rattle.hp_model.specs.Turns.{Handled, Turn, goes_on, done, again, before, and_then as turn_then, as_part, left_by, unchanged}
 use Rattle.hp_model.specs.Whole.{IsRead}
-use Rattle.hp_model.proofs.Bills.{Bill, act_bill, act_costs, again_bill, billed, each_foreign_bill, each_mode_bill, entries_for, foreign_bill, is_end, last_bill, left_by_rank, left_in, mode_bill, more_of, no_bill, plan_bill, rules_bill, shares_at, shares_left, shares_of, times, times-add, times-more}
-use Rattle.hp_model.proofs.Costs.{Costs, costs_none, costs_then, costs_within}
-use Rattle.hp_model.proofs.Course.{Course, Along, Where, at, anywhere, left, PlaceIs, after, assume, fits, alien}
+use Rattle.hp_model.proofs.Bills.{Bill, act_bill, act_costs, again_bill, billed, more_of, plan_bill, rules_bill, shares_of, times-add, times-more}
+use Rattle.hp_model.proofs.Costs.{Costs, costs_then, costs_within}
+use Rattle.hp_model.proofs.Course.{Course, Along, after, assume, fits}
 use Rattle.hp_model.proofs.Following.{act_along}
-use Rattle.hp_model.proofs.Handled.{Leaves, along-foreign, along-start, foreign-base, foreign-standing, foreign-top, or_second, turn-leaves}
-use Rattle.hp_model.proofs.Passes.{Rank, fixed, beside, base_of, goes_foreign, rank, start}
-use Rattle.hp_model.proofs.Stacks.{is_counted}
-use Rattle.hp_model.proofs.Tally.{tally}
+use Rattle.hp_model.proofs.Passes.{rank}
 use Rattle.hp_model.proofs.Walking.{assumed, read_tag}
-use Rattle.hp_model.proofs.Weights.{weight}
 
 -- from: the token's kind and the mode in which the turn began; n: the count then; c: the state then; most: a bound of the list
 module _ (from : Kind) (first : Mode) (n most : ℕ) (c : ControlState) (room : length c.formatting + 1 ≤ most) where

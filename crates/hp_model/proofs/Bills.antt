@@ -1,52 +1,36 @@
 -- How much a row makes, as a test over the table: each way through it makes so many elements, each counted with one for every entry
 -- of the formatting list, and at most one entry; and where a token is handed on, no entry, and the fewer the fewer are left.
-use Rattle.std.proofs.Common.{◌≡◌, ℕ, zero, suc, ◌+◌, ◌≤◌, Bool, true, false, not, ◌&&◌, ◌||◌, List, [], ◌∷◌, length, Option, None, Some, refl, sym, ap, ◌∙◌, subst, arith}
+use Rattle.std.proofs.Common.{◌≡◌, ℕ, zero, suc, ◌+◌, ◌≤◌, Bool, true, false, not, ◌&&◌, ◌||◌, length, Option, None, Some, refl, sym, ap, ◌∙◌, arith}
 use Rattle.std.specs.Prelude.{if◌then◌else◌, nat_le}
-use Rattle.std.proofs.lemmas.Bool.{and_parts, true≢false, leb-true}
+use Rattle.std.proofs.lemmas.Bool.{true≢false}
 use Rattle.hp_elements.specs.Rules.{Plan, ends, ◌⨾◌, when, unless, plan_for}
-use Rattle.hp_elements.specs.Names.{text_of, known_of}
-use Rattle.hp_elements.specs.Tokens.{kind_of}
+use Rattle.hp_elements.specs.Names.{known_of}
 use Rattle.hp_elements.specs.declared.act.Act.{Act}
 use Rattle.hp_elements.specs.declared.act.Act.TheVariants as act
-use Rattle.hp_elements.specs.declared.act.Test.{Test}
 use Rattle.hp_elements.specs.declared.kinds.Kinds.TheVariants as kinds
 use Rattle.hp_elements.specs.declared.known.Known.{Known}
-use Rattle.hp_elements.specs.declared.known.Known.TheVariants as known
 use Rattle.hp_elements.specs.declared.sets.SetName.TheVariants as sets
 use Rattle.hp_elements.specs.declared.token.Kind.{Kind}
 use Rattle.hp_elements.specs.declared.token.Kind.TheVariants.{Characters, EndOfInput, Start}
 use Rattle.hp_elements.specs.declared.token.Mode.{Mode}
 use Rattle.hp_elements.specs.declared.token.Mode.TheVariants as mode
 use Rattle.hp_elements.specs.declared.token.Token.{Token}
-use Rattle.hp_elements.proofs.NameLemmas.{known_of_text}
 use Rattle.hp_elements.proofs.PlaceLemmas.{at_every_kind}
 use Rattle.hp_control.specs.Adoption.{Spot, find_name}
-use Rattle.hp_control.specs.Foreign.{insert_as_current, insert_foreign, is_foreign}
+use Rattle.hp_control.specs.Foreign.{insert_as_current, insert_foreign}
 use Rattle.hp_control.specs.Outcome.{nothing_done}
 use Rattle.hp_elements.specs.Quirks.{gives_quirks}
 use Rattle.hp_control.specs.Acts.{set_quirks, take_off}
 use Rattle.hp_control.specs.Composed.{drop_entry, implied_but}
-use Rattle.hp_control.specs.States.{ControlState, IsValid, is_settled}
+use Rattle.hp_control.specs.States.{ControlState, is_settled}
 use Rattle.hp_rules_rest.specs.Foreign.{foreign}
 use Rattle.hp_rules_rest.specs.Whole.{every_mode_rows}
-use Rattle.hp_model.specs.Rows.{carry, carry_plan, entering, foreign_turn, mode_turn, nothing_more, rules, turn}
-use Rattle.hp_model.specs.Steps.{holds, implied_but_for, step, take_off_entry}
+use Rattle.hp_model.specs.Growth.{times}
+use Rattle.hp_model.specs.Steps.{implied_but_for, step, take_off_entry}
 use Rattle.hp_model.specs.Tokens.{is_self_closing, name_for, name_of, parts_of, tag_of}
-use Rattle.hp_model.specs.Turns.{Handled, Turn, goes_on, done, again, before, and_then as turn_then, as_part, left_by, unchanged}
-use Rattle.hp_model.specs.Whole.{IsRead}
-use Rattle.hp_model.proofs.Costs.{Costs, costs_none, costs_then, costs_within, Free, costs_adopt, costs_close_link, costs_flush, costs_reconstruct, free_clear, free_close_description, free_close_item, free_close_paragraph, free_drop_entry, free_end_form, free_pop_by, free_pop_run, free_pop_to, free_push_head, free_take_head_off, free_take_off, free_through, free_through_named, within_append_to_list}
-use Rattle.hp_model.proofs.Course.{Course, Along, Where, at, anywhere, left, PlaceIs, after, assume, fits, alien}
-use Rattle.hp_model.proofs.Following.{act_along}
-use Rattle.hp_model.proofs.Handled.{along-foreign, along-start, foreign-base, foreign-standing, foreign-top, or_second}
+use Rattle.hp_model.proofs.Costs.{Costs, costs_none, costs_then, costs_within, costs_adopt, costs_close_link, costs_flush, costs_reconstruct, free_clear, free_close_description, free_close_item, free_close_paragraph, free_drop_entry, free_end_form, free_pop_by, free_pop_run, free_pop_to, free_push_head, free_take_head_off, free_take_off, free_through, free_through_named, within_append_to_list}
+use Rattle.hp_model.proofs.Course.{Course, Where, at, anywhere, left, after, assume, fits, alien}
 use Rattle.hp_model.proofs.Passes.{Rank, fixed, beside, base_of, goes_foreign, rank, start}
-use Rattle.hp_model.proofs.Walking.{assumed, read_tag}
-use Rattle.hp_model.proofs.Stacks.{is_counted}
-use Rattle.hp_model.proofs.Tally.{tally}
-
--- so many times
-abbrev pub times : ℕ → ℕ → ℕ
-times zero k = 0
-times (suc n) k = k + times n k
 
 pub times-add : (n m k : ℕ) → times (n + m) k ≡ times n k + times m k
 times-add zero m k = let e : 0 + m ≡ m = omega arith in let f : times (0 + m) k ≡ times m k = ap (λ i. times i k) e in omega arith

@@ -1,5 +1,5 @@
 -- What an act makes at most: so many elements, and so many entries of the formatting list more.
-use Rattle.std.proofs.Common.{◌≡◌, ℕ, zero, suc, ◌+◌, ◌*◌, ◌-◌, ◌≤◌, ◌<◌, ◌==◌, List, [], ◌∷◌, ◌++◌, take, drop, length, min, Bool, true, false, ◌||◌, Option, Some, None, refl, sym, ap, ◌∙◌, subst, arith, length-append}
+use Rattle.std.proofs.Common.{◌≡◌, ℕ, zero, suc, ◌+◌, ◌-◌, ◌≤◌, ◌<◌, ◌==◌, List, [], ◌∷◌, ◌++◌, take, drop, length, min, Bool, true, false, Option, Some, None, refl, sym, ap, ◌∙◌, subst, arith, length-append}
 use Rattle.std.specs.Prelude.{if◌then◌else◌, slice_get, nat_lt, nat_le}
 use Rattle.std.specs.Option.{is_some, option_map}
 use Rattle.std.specs.List.{list_all}
@@ -20,8 +20,8 @@ use Rattle.hp_control.specs.declared.element.OpenElement.{OpenElement}
 use Rattle.hp_control.specs.declared.element.FormattingEntry.{FormattingEntry}
 use Rattle.hp_control.specs.declared.element.FormattingEntry.TheVariants.{Marker, Element}
 use Rattle.hp_control.specs.Acts.{append_entry, append_to_list, clear, equal_ids, frameset_not_ok, head_element, make_room, pop_by, pop, pop_run, pop_to, push_head_of, put_here, remove_earliest, take_head_off_of, through, through_named, with_it, walk, take_off, taken_off, without_entry, remove_entry, empty_form, with_stack}
-use Rattle.hp_control.specs.Adoption.{Adopted, Case, Climbed, Hidden, Seat, Spot, adopt, adopt_once, at_block, between as nodes_between, block_case, edit_at, entry_case, find_id, find_name, furthest, goes_on, hides, is_plain, lower, open_case, pass, pass_all, pass_listed, reconstruct, relist, renew, renew_down, renew_entry, renewed, settled, spliced, spliced_at, stale, strike, turn, turn_in, turns}
-use Rattle.hp_control.specs.Composed.{close, close_description, close_item, close_link, close_link_of, close_paragraph, drop_entry, end_form, end_form_in_template, end_form_of, flush, foster_character, foster_characters, implied, implied_but, implied_except, implied_thoroughly, is_item, is_open_form, is_white, named_in_scope, put_characters, template_in_stack}
+use Rattle.hp_control.specs.Adoption.{Climbed, Hidden, Seat, Spot, adopt, adopt_once, at_block, between as nodes_between, block_case, edit_at, entry_case, find_id, find_name, furthest, goes_on, hides, is_plain, lower, open_case, pass, pass_all, pass_listed, reconstruct, renew, renew_down, renew_entry, renewed, settled, spliced, spliced_at, stale, strike, turn, turn_in, turns}
+use Rattle.hp_control.specs.Composed.{close, close_description, close_item, close_link, close_link_of, close_paragraph, drop_entry, end_form, end_form_in_template, end_form_of, flush, foster_characters, implied, implied_but, implied_except, is_item, is_open_form, is_white, named_in_scope, put_characters, template_in_stack}
 use Rattle.hp_control.specs.Outcome.{Act, Outcome, and_then, becomes, choose, nothing_done}
 use Rattle.hp_control.specs.States.{ControlState}
 use Rattle.hp_control.specs.Walks.{cleared as cleared_list, has_entry, open_at, reach, seen}
@@ -457,13 +457,13 @@ costs_renew fostering depth c = go (slice_get c.formatting depth) refl
       list = let a : length (spliced depth 1 (Element c.next tag ∷ []) c.formatting) + 1 ≡ length c.formatting + 1 = spliced-one depth (Element c.next tag ∷ []) c.formatting (got-within c.formatting depth (Element id tag) e) in omega arith;
     }
 
-costs_renew_down : (fostering : Bool) (depth : ℕ) → Within depth 0 (renew_down fostering depth)
+pub costs_renew_down : (fostering : Bool) (depth : ℕ) → Within depth 0 (renew_down fostering depth)
 costs_renew_down fostering zero c = costs_none 0 0 c
 costs_renew_down fostering (suc depth) c =
     costs_within (1 + depth) 0 (suc depth) 0 c (renew_down fostering (suc depth) c).control (omega arith) (omega arith)
     (within_then 1 0 depth 0 (renew fostering depth) (renew_down fostering depth) (costs_renew fostering depth) (costs_renew_down fostering depth) c)
 
-stale-within : (stack : List OpenElement) (es : List FormattingEntry) → stale stack es ≤ length es
+pub stale-within : (stack : List OpenElement) (es : List FormattingEntry) → stale stack es ≤ length es
 stale-within stack [] = omega arith
 stale-within stack (Marker ∷ es) = omega arith
 stale-within stack (Element id tag ∷ es) = go (is_some (open_at id stack)) (stale-within stack es)

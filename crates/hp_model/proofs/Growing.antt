@@ -1,5 +1,5 @@
 -- A token that isn't characters, nor the end of input, makes so many elements and brings at most one entry.
-use Rattle.std.proofs.Common.{◌≡◌, ℕ, zero, suc, ◌+◌, ◌≤◌, Bool, true, false, not, ◌&&◌, ◌||◌, List, [], ◌∷◌, length, Option, None, Some, refl, sym, ap, ◌∙◌, subst, arith}
+use Rattle.std.proofs.Common.{◌≡◌, ℕ, zero, suc, ◌+◌, ◌≤◌, Bool, true, false, not, ◌&&◌, ◌||◌, List, length, Option, None, Some, refl, sym, ap, subst, arith}
 use Rattle.std.specs.Prelude.{if◌then◌else◌, nat_le}
 use Rattle.std.specs.Option.{unwrap_or}
 use Rattle.std.proofs.lemmas.Bool.{and_parts, true≢false, leb-true}
@@ -12,19 +12,21 @@ use Rattle.hp_control.specs.declared.element.OpenElement.{OpenElement}
 use Rattle.hp_control.specs.Foreign.{is_foreign}
 use Rattle.hp_control.specs.States.{ControlState, IsValid}
 use Rattle.hp_rules_rest.specs.Foreign.{foreign}
+use Rattle.hp_model.specs.Growth.{times}
 use Rattle.hp_model.specs.Handling.{all_turns, bound, handle_piece, settled}
 use Rattle.hp_model.specs.Rows.{entering, foreign_turn, mode_turn, rules, turn}
 use Rattle.hp_model.specs.Tokens.{is_line_feed}
 use Rattle.hp_model.specs.Turns.{Handled, Turn, goes_on, done, again, after_turn, before_all, joined, left_by, turns, unchanged}
 use Rattle.hp_model.specs.Whole.{IsRead}
 use Rattle.hp_model.proofs.Billing.{BMeets, bmeets_before, plan_bmeets, rules_bmeet}
-use Rattle.hp_model.proofs.Bills.{Bill, again_bill, each_foreign_bill, each_left, each_mode_bill, entries_for, foreign_bill, is_end, last_bill, mode_bill, no_bill, plan_bill, rules_bill, settled_left, shares_at, shares_left, times, times-add, times-more}
+use Rattle.hp_model.proofs.Bills.{Bill, each_foreign_bill, each_left, each_mode_bill, entries_for, foreign_bill, is_end, last_bill, mode_bill, no_bill, rules_bill, settled_left, shares_at, shares_left, times-add, times-more}
 use Rattle.hp_model.proofs.Costs.{Costs, costs_none, costs_then, costs_within}
-use Rattle.hp_model.proofs.Course.{Course, Along, Where, at, anywhere, left, PlaceIs, alien}
+use Rattle.hp_model.proofs.Course.{Where, at, anywhere, left, PlaceIs, alien}
 use Rattle.hp_model.proofs.Handled.{Leaves, along-foreign, along-start, foreign-base, foreign-standing, foreign-top, settled-valid, turn-leaves, turns_of_token}
 use Rattle.hp_model.proofs.Passes.{base_of, goes_foreign, start}
 use Rattle.hp_model.proofs.Stacks.{is_counted}
 use Rattle.hp_model.proofs.Tally.{tally}
+use Rattle.hp_model.proofs.Weights.{weight}
 
 -- what a turn made, of a token of that kind, begun in that mode
 abbrev BLeaves : ℕ → Kind → Mode → ControlState → Turn → Type 0
@@ -57,12 +59,13 @@ bmeets-leaves from first n most c room (again t h) (w, b, g, i, e, read) =
     let more = and_parts (nat_le b.more 0) _ parts.1 in
     let kinds = and_parts (nat_le (entries_for (kind_of t)) (entries_for from)) (not (is_end (kind_of t))) more.1 in
     let a : shares_at (kind_of t) w.place + b.shares ≤ shares_left from first = leb-true (shares_at (kind_of t) w.place + b.shares) (shares_left from first) parts.0 in
-    let d : shares_left (kind_of t) (left_by h).mode ≤ shares_at (kind_of t) w.place = placed_left (kind_of t) w.place n (left_by h).stack (left_by h).mode g.place in
-    (b.shares,
-    costs_within (times b.shares (most + 64)) b.more (times b.shares (most + 64)) 0 c (left_by h) (omega arith) (leb-true b.more 0 more.0) i,
-    omega arith,
-    leb-true (entries_for (kind_of t)) (entries_for from) kinds.0,
-    not_false (is_end (kind_of t)) kinds.1)
+    let d : shares_left (kind_of t) (left_by h).mode ≤ shares_at (kind_of t) w.place = placed_left (kind_of t) w.place n (left_by h).stack (left_by h).mode g.place in (
+      b.shares,
+      costs_within (times b.shares (most + 64)) b.more (times b.shares (most + 64)) 0 c (left_by h) (omega arith) (leb-true b.more 0 more.0) i,
+      omega arith,
+      leb-true (entries_for (kind_of t)) (entries_for from) kinds.0,
+      not_false (is_end (kind_of t)) kinds.1,
+    )
 
 or_right : (a b : Bool) → a ≡ false → (a || b) ≡ true → b ≡ true
 or_right true b h k = absurd (true≢false h)
@@ -92,10 +95,10 @@ turn_billed most t s read v runs_on room =
     go false e = rules_bmeet (kind_of t) s.mode (tally is_counted s.stack) most s room t read 4 false s.mode (start s.mode) no_bill s (last_bill (kind_of t) s.mode) (along-start s v) none
         (or_right (is_end (kind_of t)) _ runs_on (each_mode_bill s.mode (kind_of t)))
 
-none_some : {X : Type 0} (x : X) → None ≡ Some x → ⊥
+pub none_some : {X : Type 0} (x : X) → None ≡ Some x → ⊥
 none_some x h = cc
 
-some_same : {X : Type 0} (a b : X) → Some a ≡ Some b → a ≡ b
+pub some_same : {X : Type 0} (a b : X) → Some a ≡ Some b → a ≡ b
 some_same a b h = cc
 
 turns_billed : (n most : ℕ) (t : Token) (s : ControlState) (h : Handled) → IsRead t → IsValid s → is_end (kind_of t) ≡ false → length s.formatting + 1 ≤ most → turns turn n t s ≡ Some h
@@ -124,7 +127,7 @@ turns_billed (suc n) most t s h read v runs_on room e = go (turn t s) (turn_bill
         subst (λ x. Costs (times total (most + 64)) (entries_for (kind_of t)) s (left_by x)) (some_same (joined k q) h f)
         (costs_within (times made (most + 64) + times (shares_left (kind_of other) (left_by k).mode + 8) (most + 64)) (0 + entries_for (kind_of other)) (times total (most + 64)) (entries_for (kind_of t)) s (left_by q) (omega arith) (omega arith) both)
 
-    go : (u : Turn) → BLeaves most (kind_of t) s.mode s u → Leaves _ u → after_turn u (turns turn n) ≡ Some h
+    go : (u : Turn) → BLeaves most (kind_of t) s.mode s u → Leaves (weight (kind_of t) s.mode s.stack) u → after_turn u (turns turn n) ≡ Some h
         → ((other : Token) (r : ControlState) (q : Handled) → IsRead other → IsValid r → is_end (kind_of other) ≡ false → length r.formatting + 1 ≤ most → turns turn n other r ≡ Some q
         → Costs (times (shares_left (kind_of other) r.mode + 8) (most + 64)) (entries_for (kind_of other)) r (left_by q))
         → Costs (times total (most + 64)) (entries_for (kind_of t)) s (left_by h)

@@ -25,3 +25,4 @@ pub mod Costs
 pub mod Bills
 pub mod Billing
 pub mod Growing
+pub mod RunGrowth
