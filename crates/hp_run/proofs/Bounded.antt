@@ -10,9 +10,9 @@ use Rattle.hp_control.specs.Composed.{is_foreign_now}
 use Rattle.hp_control.specs.States.{ControlState, Fits, IsValid, start}
 use Rattle.hp_control.proofs.StartLemmas.{start_valid}
 use Rattle.hp_lexer.specs.Table.{table}
-use Rattle.hp_model.specs.Growth.{AreInside, Grows, share, tags, times, worth}
+use Rattle.hp_model.specs.Growth.{Grows, share, tags, times, worth}
 use Rattle.hp_model.specs.Handling.{handle}
-use Rattle.hp_model.specs.Runs.{AreRead, Parser, Built, Step, rests, goes, Goes, here, onward, at_lexing, at_start, built, step, step_by, switched, told}
+use Rattle.hp_model.specs.Runs.{Parser, Built, goes, Goes, here, onward, at_lexing, at_start, built, step, step_by, switched, told}
 use Rattle.hp_model.proofs.RunGrowth.{built_grows, grows_then}
 use Rattle.hp_model.proofs.Running.{goes-same, goes_valid}
 use Rattle.hp_run.specs.Pages.{Runs}
@@ -57,7 +57,7 @@ step_grown names most p q es (ends ts) e s v room f = absurd (cc)
 
 way_grown : (names : List Reference) (most : ℕ) {p q : Parser} {es : List Edit} → Goes (step (table names)) p es q → IsValid p.control → length p.control.formatting + length p.lexing.unread ≤ most → Grown most p q
 way_grown names most here v room = record { count = 0; grows = record { worth = omega arith; entries = omega arith }; read = omega arith }
-way_grown names most {p} {r} (onward {q = q} {es = es} e g) v room =
+way_grown names most {p} {q = r} (onward {q = q} {es = es} e g) v room =
     let first = step_grown names most p q es (move (table names) p.lexing) refl (move_sparse names p.lexing) v room e in
     let short : length q.control.formatting ≤ length p.control.formatting + first.count = first.grows.entries in
     let few : first.count + length q.lexing.unread ≤ length p.lexing.unread = first.read in

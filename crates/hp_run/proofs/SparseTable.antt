@@ -1,5 +1,5 @@
 -- The moves of the whole table emit no more tokens that aren't characters than they consume code points, and never the end of input.
-use Rattle.std.proofs.Common.{◌≡◌, ℕ, suc, ◌+◌, ◌-◌, ◌≤◌, List, [], ◌∷◌, Bool, true, false, ◌&&◌, cond, drop, length, refl, ap, sym, subst, arith, Option, None, Some}
+use Rattle.std.proofs.Common.{◌≡◌, ℕ, ◌+◌, ◌-◌, ◌≤◌, List, [], ◌∷◌, Bool, true, false, ◌&&◌, cond, drop, length, refl, sym, subst, arith, Option, None, Some}
 use Rattle.std.specs.Prelude.{◌==◌, IsTrue}
 use Rattle.std.proofs.lemmas.List.{length-drop}
 use Rattle.hp_elements.specs.declared.token.Token.{Token}
@@ -11,7 +11,7 @@ use Rattle.hp_tokens.specs.declared.rows.Reads.{Reads}
 use Rattle.hp_tokens.specs.declared.rows.Reads.TheVariants.{Consume, Again, End}
 use Rattle.hp_tokens.specs.declared.state.State.{State}
 use Rattle.hp_tokens.specs.declared.state.State.TheVariants.{NamedCharacterReference, MarkupDeclarationOpen, AfterDoctypeName}
-use Rattle.hp_tokens.specs.Moves.{Lexing, Emitted, Move, needs_more, asks_cdata, asks_last_tag, makes, ends, after_row, all_began, move, move_on, read_as, row_move, taking}
+use Rattle.hp_tokens.specs.Moves.{Lexing, Move, needs_more, asks_cdata, asks_last_tag, makes, after_row, all_began, move, move_on, read_as, row_move, taking}
 use Rattle.hp_tokens.specs.Rows.{Row, flushed_tokens}
 use Rattle.hp_lex_tags.specs.Tags as tags
 use Rattle.hp_lex_tags.specs.Rows as tag_rows
@@ -23,7 +23,7 @@ use Rattle.hp_lex_markup.specs.Rows as markup_rows
 use Rattle.hp_lex_markup.specs.Words.{asks, count, is_open, word}
 use Rattle.hp_lex_markup.specs.declared.words.Word.{Word}
 use Rattle.hp_lexer.specs.Table.{table}
-use Rattle.hp_model.specs.Growth.{AreInside, IsInside, tag_count, tags as tag_total}
+use Rattle.hp_model.specs.Growth.{AreInside, tags as tag_total}
 use Rattle.hp_run.proofs.SparseRows.{AllInside, IsSparse, Sparse, flushed-sparse, token_tags}
 use Rattle.hp_run.proofs.SparseTagRows as tag_sparse
 use Rattle.hp_run.proofs.SparseRawRows as raw_sparse
