@@ -296,7 +296,7 @@ settled-fits mode.BeforeHtml s h = h
 settled-fits mode.Text s h = h
 settled-fits _ s h = h
 
-settled-valid : (s : ControlState) → IsValid s → IsValid (settled s)
+pub settled-valid : (s : ControlState) → IsValid s → IsValid (settled s)
 settled-valid s v = record {
   stack_ids = v.stack_ids;
   list_ids = v.list_ids;
@@ -311,7 +311,7 @@ settled-valid s v = record {
   lex = v.lex;
 }
 
-piece-valid : (t : Token) (s : ControlState) → IsRead t → IsValid s → IsValid (left_by (handle_piece s t))
+pub piece-valid : (t : Token) (s : ControlState) → IsRead t → IsValid s → IsValid (left_by (handle_piece s t))
 piece-valid t s read v = go (s.skip_lf && is_line_feed t)
   where
     go : (b : Bool) → IsValid (left_by (if b then unchanged (settled s) else all_turns (settled s) t))

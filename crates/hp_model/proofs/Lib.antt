@@ -16,3 +16,8 @@ pub mod Weights
 pub mod Handled
 pub mod Finding
 pub mod Running
+pub mod JoinedTexts
+pub mod Reconstructed
+pub mod Manners
+pub mod Together
+pub mod AtOnce

@@ -53,7 +53,7 @@ before_before h k (goes_on l) = ap goes_on (joined_assoc h k l)
 before_before h k (done l) = ap done (joined_assoc h k l)
 before_before h k (again token l) = ap (again token) (joined_assoc h k l)
 
-before_first : (c : ControlState) (t : Turn) → before (unchanged c) t ≡ t
+pub before_first : (c : ControlState) (t : Turn) → before (unchanged c) t ≡ t
 before_first c (goes_on l) = ap goes_on (joined_first c l)
 before_first c (done l) = ap done (joined_first c l)
 before_first c (again token l) = ap (again token) (joined_first c l)
@@ -69,19 +69,19 @@ along (goes_on k) f g h e = ap (before k) (e (left_by k)) ∙ before_then k (g (
 along (done k) f g h e = refl
 along (again token k) f g h e = refl
 
-last_act : (t : Turn) → and_then t (λ c. goes_on (unchanged c)) ≡ t
-last_act (goes_on k) = ap goes_on (joined_last k)
-  where
-    or_last : (b : Bool) → (b || false) ≡ b
-    or_last true = refl
-    or_last false = refl
+or_last : (b : Bool) → (b || false) ≡ b
+or_last true = refl
+or_last false = refl
 
-    joined_last : (h : Handled) → joined h (unchanged (left_by h)) ≡ h
-    joined_last h =
-        ap (λ e. record { outcome = record { control = h.outcome.control; edits = e; touched = h.outcome.touched ++ []; spared = h.outcome.spared || false }; switch = h.switch; stopped = h.stopped || false }) (append-nil h.outcome.edits)
-        ∙ (ap (λ t. record { outcome = record { control = h.outcome.control; edits = h.outcome.edits; touched = t; spared = h.outcome.spared || false }; switch = h.switch; stopped = h.stopped || false }) (append-nil h.outcome.touched)
-        ∙ (ap (λ b. record { outcome = record { control = h.outcome.control; edits = h.outcome.edits; touched = h.outcome.touched; spared = b }; switch = h.switch; stopped = h.stopped || false }) (or_last h.outcome.spared)
-        ∙ ap (λ b. record { outcome = h.outcome; switch = h.switch; stopped = b }) (or_last h.stopped)))
+pub joined_last : (h : Handled) → joined h (unchanged (left_by h)) ≡ h
+joined_last h =
+    ap (λ e. record { outcome = record { control = h.outcome.control; edits = e; touched = h.outcome.touched ++ []; spared = h.outcome.spared || false }; switch = h.switch; stopped = h.stopped || false }) (append-nil h.outcome.edits)
+    ∙ (ap (λ t. record { outcome = record { control = h.outcome.control; edits = h.outcome.edits; touched = t; spared = h.outcome.spared || false }; switch = h.switch; stopped = h.stopped || false }) (append-nil h.outcome.touched)
+    ∙ (ap (λ b. record { outcome = record { control = h.outcome.control; edits = h.outcome.edits; touched = h.outcome.touched; spared = b }; switch = h.switch; stopped = h.stopped || false }) (or_last h.outcome.spared)
+    ∙ ap (λ b. record { outcome = h.outcome; switch = h.switch; stopped = b }) (or_last h.stopped)))
+
+pub last_act : (t : Turn) → and_then t (λ c. goes_on (unchanged c)) ≡ t
+last_act (goes_on k) = ap goes_on (joined_last k)
 last_act (done k) = refl
 last_act (again token k) = refl
 

@@ -214,7 +214,7 @@ renewing fostering depth id tag h c r = record {
     same (Some i) = refl
 
 -- an entry of the list is one of formatting
-got-formatting : (es : List FormattingEntry) (depth : ℕ) (e : FormattingEntry) → slice_get es depth ≡ Some e → All IsFormatting es → IsFormatting e
+pub got-formatting : (es : List FormattingEntry) (depth : ℕ) (e : FormattingEntry) → slice_get es depth ≡ Some e → All IsFormatting es → IsFormatting e
 got-formatting [] depth e h a = absurd (none depth h)
   where
     none : (d : ℕ) → slice_get [] d ≡ Some e → ⊥

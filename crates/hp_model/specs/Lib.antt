@@ -8,3 +8,4 @@ pub mod Finding
 pub mod Laws
 pub mod Whole
 pub mod Runs
+pub mod AtOnce

@@ -2,6 +2,7 @@
 //! at run time: specs/ has the definitions, and each contract is a law of them; the bodies do nothing.
 #![tactic(auto)]
 
+ghost use Rattle.hp_model.specs.AtOnce.{BuiltAtOnce, RunsAtOnce};
 ghost use Rattle.hp_model.specs.Examples.{Examples};
 ghost use Rattle.hp_model.specs.Laws.{ForeignByActs, ModeByActs};
 ghost use Rattle.hp_model.specs.Runs.{OneRun, OneTree, RunsJoin, RunsStayValid};
@@ -34,4 +35,11 @@ pub fn runs()
     ensures one { OneRun }
     ensures tree { OneTree }
     ensures valid { RunsStayValid }
+{}
+
+/// A run of characters handled at once is its code points handled one by one: the same state, switch, end of parsing and touched
+/// parts of older states, and from every tree the same tree. So are the tokens that the lexer emits, taken as runs.
+pub fn at_once()
+    ensures token { RunsAtOnce }
+    ensures tokens { BuiltAtOnce }
 {}

@@ -3,3 +3,4 @@ pub mod TagRows
 pub mod RawRows
 pub mod MarkupRows
 pub mod TableRows
+pub mod Existing

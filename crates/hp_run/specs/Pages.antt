@@ -29,3 +29,10 @@ PagesStayValid = (names : List Reference) (new : Parser) (text : List ℕ) (es :
 -- a page has one tree
 abbrev pub OneTree : Type 0
 OneTree = (names : List Reference) (page : List ℕ) (tree other : Tree) → IsTreeOf names page tree → IsTreeOf names page other → tree ≡ other
+
+-- there is a run over each text, and a tree of each page
+abbrev pub RunsExist : Type 0
+RunsExist = (names : List Reference) (old : Parser) (text : List ℕ) → (edits : List Edit) × (new : Parser) × Runs names old text edits new
+
+abbrev pub TreesExist : Type 0
+TreesExist = (names : List Reference) (page : List ℕ) → (tree : Tree) × IsTreeOf names page tree

@@ -2,13 +2,15 @@
 //! and laws on contracts whose bodies do nothing.
 #![tactic(auto)]
 
-ghost use Rattle.hp_run.specs.Pages.{Joined, OneTree, PagesStayValid, StayValid};
+ghost use Rattle.hp_run.specs.Pages.{Joined, OneTree, PagesStayValid, RunsExist, StayValid, TreesExist};
 
 /// The run over two texts in a row is the run over the second from where the first led; runs keep states valid, and so each
-/// state that a run over a page leads to is valid; a page has one tree.
+/// state that a run over a page leads to is valid; there is a run over each text, and of each page one tree.
 pub fn pages()
     ensures join { Joined }
     ensures valid { StayValid }
     ensures pages { PagesStayValid }
     ensures tree { OneTree }
+    ensures run_exists { RunsExist }
+    ensures tree_exists { TreesExist }
 {}

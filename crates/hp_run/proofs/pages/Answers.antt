@@ -3,6 +3,7 @@ use Rattle.hp_lexer.proofs.Steady.{table_steady}
 use Rattle.hp_lexer.specs.Table.{table}
 use Rattle.hp_model.proofs.Running.{one_tree, runs-join, runs-valid}
 use Rattle.hp_model.specs.Runs.{at_start}
+use Rattle.hp_run.proofs.Existing.{run_exists, tree_exists}
 use Rattle.hp_run.proofs.TableRows.{table_read}
 use Rattle.hp_run.proofs.pages.Goals as goal
 
@@ -12,4 +13,6 @@ returns c = record {
   valid = λ names. runs-valid (table names) (table_read names);
   pages = λ names new text es run. runs-valid (table names) (table_read names) at_start new text es run start_valid;
   tree = λ names. one_tree (table names);
+  run_exists = run_exists;
+  tree_exists = tree_exists;
 }
