@@ -1,5 +1,5 @@
 -- A turn with a furthest block, from its parts.
-use Rattle.std.proofs.Common.{◌≡◌, ℕ, ◌+◌, Bool, true, false, if◌then◌else◌, List, ◌++◌, Option, Some, None, Result, Ok, Err, take, drop, slice_get, ap, sym, subst, ◌∙◌}
+use Rattle.std.proofs.Common.{◌≡◌, ℕ, ◌+◌, Bool, true, false, if◌then◌else◌, List, ◌++◌, Option, Some, None, Ok, Err, take, drop, slice_get, ap, sym, subst, ◌∙◌}
 use Rattle.std.specs.Option.{is_some, option_map}
 use Rattle.hp_elements.specs.declared.tag.Tag.{Tag}
 use Rattle.hp_control.specs.declared.change.Change.{Change}
@@ -17,7 +17,7 @@ use Rattle.hp_views.specs.PlacePlans.{place_plan}
 use Rattle.hp_views.specs.View.{Sight, Carries, Finds}
 use Rattle.hp_views.specs.declared.walks.Walk.TheVariants.{Found}
 use Rattle.hp_adoption.specs.Entries.{ref_of}
-use Rattle.hp_adoption.specs.AdoptPlans.{Turned, below_depth, with_adopted, untangled, untangle_in, untangle_at, seat_at, block_turn, own_turn, stays}
+use Rattle.hp_adoption.specs.AdoptPlans.{Turned, below_depth, with_adopted, untangled, untangle_in, untangle_at, block_turn, own_turn, stays}
 use Rattle.hp_adoption.specs.Turning.{Turns, adopted_parts, seat_depth, with_parts}
 use Rattle.hp_adoption.proofs.Nearest.{furthest_at}
 

@@ -1,5 +1,5 @@
 -- The adoption agency algorithm: what it asks of the older state and what it changes of a view (13.2.6.4.7).
-use Rattle.std.specs.Prelude.{ℕ, zero, suc, ◌+◌, Bool, true, false, not, ◌&&◌, if◌then◌else◌, List, [], ◌∷◌, ◌++◌, length, Option, Some, None, take, drop, slice_get}
+use Rattle.std.specs.Prelude.{ℕ, zero, suc, ◌+◌, Bool, true, false, not, ◌&&◌, if◌then◌else◌, List, [], ◌∷◌, ◌++◌, Option, Some, None, take, drop, slice_get}
 use Rattle.std.specs.Option.{is_some, option_map}
 use Rattle.std.specs.Str.{bytes_eq}
 use Rattle.hp_elements.specs.declared.kinds.Kinds.TheVariants as kinds
@@ -7,7 +7,7 @@ use Rattle.hp_elements.specs.declared.tag.Tag.{Tag}
 use Rattle.hp_control.specs.declared.edit.Place.{Place}
 use Rattle.hp_control.specs.declared.element.OpenElement.{OpenElement}
 use Rattle.hp_control.specs.declared.element.FormattingEntry.{FormattingEntry}
-use Rattle.hp_control.specs.declared.element.FormattingEntry.TheVariants.{Marker, Element}
+use Rattle.hp_control.specs.declared.element.FormattingEntry.TheVariants.{Element}
 use Rattle.hp_control.specs.declared.question.Crossing.TheVariants.{X1}
 use Rattle.hp_control.specs.declared.question.EntryKind.{EntryKind}
 use Rattle.hp_control.specs.declared.question.EntryKind.TheVariants.{Absent, Closed, Hidden, InScope}
@@ -16,7 +16,6 @@ use Rattle.hp_control.specs.Faithful.{Split}
 use Rattle.hp_control.specs.Plan.{Plan, gives, crosses, followed_by}
 use Rattle.hp_control.specs.States.{is_html}
 use Rattle.hp_control.specs.Walks.{has_entry}
-use Rattle.hp_views.specs.declared.asking.Standing.{Standing}
 use Rattle.hp_views.specs.declared.walks.Walk.{Walk}
 use Rattle.hp_views.specs.declared.walks.Walk.TheVariants.{Found, Stopped, PastAll}
 use Rattle.hp_views.specs.Asking.{ask_listed}

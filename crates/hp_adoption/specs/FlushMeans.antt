@@ -1,5 +1,5 @@
 -- Pending characters put as one text: what each makes of a state one after the other, all together make (13.2.6.4.10).
-use Rattle.std.specs.Prelude.{◌≡◌, ℕ, zero, suc, ◌+◌, ◌==◌, ◌&&◌, ◌||◌, Bool, true, false, if◌then◌else◌, List, [], ◌∷◌, ◌++◌, Option, Some, None, take, drop, slice_get, refl}
+use Rattle.std.specs.Prelude.{◌≡◌, ℕ, zero, suc, ◌&&◌, ◌||◌, Bool, true, false, if◌then◌else◌, List, [], ◌∷◌, ◌++◌, Option, Some, drop, slice_get, refl}
 use Rattle.std.specs.List.{list_all}
 use Rattle.std.specs.Option.{is_some, option_map}
 use Rattle.std.proofs.Common.{ap, sym, subst, ◌∙◌, append_assoc}
@@ -7,18 +7,17 @@ use Rattle.std.proofs.lemmas.Bool.{eq-eqb}
 use Rattle.std.proofs.Math.Bool.{or_assoc}
 use Rattle.hp_elements.specs.declared.tag.Tag.{Tag}
 use Rattle.hp_control.specs.declared.edit.Child.TheVariants as child
-use Rattle.hp_control.specs.declared.edit.Edit.TheVariants.{Put}
 use Rattle.hp_control.specs.declared.element.OpenElement.{OpenElement}
 use Rattle.hp_control.specs.declared.element.FormattingEntry.{FormattingEntry}
 use Rattle.hp_control.specs.declared.element.FormattingEntry.TheVariants.{Marker, Element}
 use Rattle.hp_control.specs.Acts.{place, put_here, frameset_not_ok, empty_pending, insert}
-use Rattle.hp_control.specs.Adoption.{spliced, stale, relist, renew_entry, renew, renew_down, reconstruct}
-use Rattle.hp_control.specs.Composed.{is_white, foster_character, foster_characters, put_characters, flush}
+use Rattle.hp_control.specs.Adoption.{spliced, stale, relist, renew_entry, renew_down, reconstruct}
+use Rattle.hp_control.specs.Composed.{is_white, foster_characters, put_characters}
 use Rattle.hp_control.specs.Outcome.{Outcome, becomes, after, and_then, nothing_done}
 use Rattle.hp_control.specs.States.{ControlState}
-use Rattle.hp_control.specs.Tree.{Tree, applied_all}
+use Rattle.hp_control.specs.Tree.{applied_all}
 use Rattle.hp_control.specs.Walks.{open_at}
-use Rattle.hp_adoption.specs.FlushActs.{foster_whole, whole_by, put_whole, flush_at_once, MeansAs, FlushesAtOnce}
+use Rattle.hp_adoption.specs.FlushActs.{foster_whole, whole_by, put_whole, MeansAs, FlushesAtOnce}
 use Rattle.hp_adoption.specs.Joining.{letters, letters_are_text, applied_after}
 
 -- the first so many entries are elements

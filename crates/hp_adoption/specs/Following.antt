@@ -1,5 +1,5 @@
 -- One act after another, where it is known to which view the first has led.
-use Rattle.std.specs.Prelude.{◌≡◌, ℕ, ◌<◌, Bool, true, false, ◌||◌, ◌++◌, Option, Some, None, Result, Ok, Err, map, refl}
+use Rattle.std.specs.Prelude.{◌≡◌, ◌<◌, Bool, true, false, ◌||◌, ◌++◌, Option, Some, None, Result, Ok, Err, map, refl}
 use Rattle.std.proofs.Common.{sym, subst, ap, ◌∙◌, append_assoc, arith}
 use Rattle.std.proofs.Math.Bool.{or-true}
 use Rattle.hp_control.specs.declared.change.Change.{Change}

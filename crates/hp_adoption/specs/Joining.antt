@@ -1,8 +1,7 @@
 -- Two texts put one after the other in one place make of a tree what both as one text make.
-use Rattle.std.specs.Prelude.{◌≡◌, ℕ, zero, suc, ◌<◌, ◌≤◌, ◌==◌, ◌&&◌, ◌||◌, Bool, true, false, if◌then◌else◌, List, [], ◌∷◌, ◌++◌, length, map, slice_set, slice_index_or, nat_lt, refl}
+use Rattle.std.specs.Prelude.{◌≡◌, ℕ, zero, suc, ◌==◌, ◌&&◌, ◌||◌, Bool, true, false, if◌then◌else◌, List, [], ◌∷◌, ◌++◌, length, map, nat_lt, refl}
 use Rattle.std.specs.List.{list_any}
-use Rattle.std.proofs.Common.{ap, sym, subst, ◌∙◌, arith, append_assoc, length-set}
-use Rattle.std.proofs.lemmas.Bool.{ltb-true}
+use Rattle.std.proofs.Common.{ap, sym, subst, ◌∙◌, append_assoc, length-set}
 use Rattle.std.proofs.lemmas.List.{append-nil, length-map}
 use Rattle.hp_control.specs.declared.edit.Child.TheVariants as child
 use Rattle.hp_control.specs.declared.edit.Edit.{Edit}
@@ -11,7 +10,7 @@ use Rattle.hp_control.specs.declared.edit.Place.{Place}
 use Rattle.hp_control.specs.declared.edit.Place.TheVariants.{Into, Foster}
 use Rattle.hp_control.specs.declared.edit.Ref.{Ref}
 use Rattle.hp_control.specs.declared.edit.Ref.TheVariants.{Fixed, Older, Own}
-use Rattle.hp_control.specs.Tree.{Item, Element, Text, Comment, Doctype, Branch, Tree, no_branch, branch, is_element, beside, put_last, put_before, with_inside, in_each, in_one, stands_in, has_parent, put_into, id_of, is_there, is_place, put, leads_into_document, put_child, applied, applied_all}
+use Rattle.hp_control.specs.Tree.{Item, Element, Text, Comment, Doctype, Tree, branch, is_element, beside, put_last, put_before, with_inside, in_each, in_one, stands_in, has_parent, put_into, id_of, is_there, is_place, put, leads_into_document, put_child, applied, applied_all}
 
 -- at the end of a list of children
 last_skips : (x y : Item) (rest : List Item) (a : List ℕ) (item : Item) → put_last (x ∷ put_last (y ∷ rest) (Text a)) item ≡ x ∷ put_last (put_last (y ∷ rest) (Text a)) item

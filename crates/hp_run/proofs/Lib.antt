@@ -4,3 +4,9 @@ pub mod RawRows
 pub mod MarkupRows
 pub mod TableRows
 pub mod Existing
+pub mod SparseRows
+pub mod SparseTagRows
+pub mod SparseRawRows
+pub mod SparseMarkupRows
+pub mod SparseTable
+pub mod Bounded

@@ -1,8 +1,8 @@
 -- The sequential parser by the rules of the standard's 80 states of the lexer (13.2.5), over any table of reference names.
-use Rattle.std.specs.Prelude.{◌≡◌, ℕ, List, ◌++◌}
+use Rattle.std.specs.Prelude.{◌≡◌, ℕ, ◌≤◌, ◌^◌, List, ◌++◌, length}
 use Rattle.hp_names.specs.References.{Reference}
 use Rattle.hp_control.specs.declared.edit.Edit.{Edit}
-use Rattle.hp_control.specs.States.{IsValid}
+use Rattle.hp_control.specs.States.{Fits, IsValid}
 use Rattle.hp_control.specs.Tree.{Tree}
 use Rattle.hp_lexer.specs.Table.{table}
 use Rattle.hp_model.specs.Runs.{Parser, Parses, RunsOver, at_start}
@@ -36,3 +36,8 @@ RunsExist = (names : List Reference) (old : Parser) (text : List ℕ) → (edits
 
 abbrev pub TreesExist : Type 0
 TreesExist = (names : List Reference) (page : List ℕ) → (tree : Tree) × IsTreeOf names page tree
+
+-- after a run over a page the formatting list has at most an entry for each code point, and ids can be counted
+abbrev pub PagesFit : Type 0
+PagesFit = (names : List Reference) (new : Parser) (text : List ℕ) (es : List Edit) → Runs names at_start text es new
+    → (length new.control.formatting ≤ length text) × (length text ≤ 2 ^ 24 → Fits new.control)

@@ -1,6 +1,6 @@
 use Rattle.std.proofs.Common.{◌≡◌, ◌∙◌, Some, ap, slice_get, sym}
 use Rattle.hp_elements.specs.declared.tag.Tag.{Tag}
-use Rattle.hp_control.specs.declared.element.FormattingEntry.TheVariants.{Marker, Element}
+use Rattle.hp_control.specs.declared.element.FormattingEntry.TheVariants.{Element}
 use Rattle.hp_control.specs.Faithful.{Split}
 use Rattle.hp_views.specs.View.{Sight, sight, split_of}
 use Rattle.hp_views.specs.Walks.{id_walk}

@@ -1,4 +1,4 @@
-use Rattle.std.proofs.Common.{◌≡◌, ◌-◌}
+use Rattle.std.proofs.Common.{◌-◌}
 use Rattle.hp_control.specs.Running.{Partway}
 use Rattle.hp_views.specs.View.{split_of}
 use Rattle.hp_adoption.specs.AdoptPlans.{turns_plan}

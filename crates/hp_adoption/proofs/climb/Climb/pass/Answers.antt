@@ -1,4 +1,4 @@
-use Rattle.std.proofs.Common.{◌≡◌, ◌∙◌, false, Option, Some, ap, nat_lt, sym, arith}
+use Rattle.std.proofs.Common.{◌≡◌, ◌∙◌, false, Some, ap, nat_lt, sym, arith}
 use Rattle.std.proofs.lemmas.Bool.Decides.{nat_tests}
 use Rattle.hp_control.specs.Adoption.{Climbed}
 use Rattle.hp_adoption.specs.Entries.{ref_of, tag_of}
