@@ -8,3 +8,4 @@ pub mod Ended
 pub mod Took
 pub mod Going
 pub mod Started
+pub mod HandledOnce

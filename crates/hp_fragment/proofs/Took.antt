@@ -86,7 +86,7 @@ one-left old [] t one is = is
 one-left old (x ∷ xs) t one is =
     let long : length old ≡ length ((x ∷ xs) ++ (t ∷ [])) = ap length is in
     let more : length ((x ∷ xs) ++ (t ∷ [])) ≡ length (x ∷ xs) + length (t ∷ []) = length-append (x ∷ xs) (t ∷ []) in
-    absurd (too_long (length xs) (one , long, more))
+    absurd (too_long (length xs) (one, long, more))
   where
     too_long : (n : ℕ) → (length old ≡ 1) × (length old ≡ length ((x ∷ xs) ++ (t ∷ []))) × (length ((x ∷ xs) ++ (t ∷ [])) ≡ length (x ∷ xs) + length (t ∷ [])) → ⊥
     too_long n (one, long, more) = omega (arith, one, long, more)

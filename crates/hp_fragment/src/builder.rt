@@ -11,6 +11,7 @@ ghost use Rattle.hp_steps.specs.Handling.{AllRead};
 ghost use Rattle.hp_fragment.specs.Building.{control_of, grown, IsBuilder, HandledOne, HandledAll, HasGrown};
 
 use crate::NoMemory;
+use hp_acts::handle;
 use hp_arena::Tree;
 use hp_control::{Child, Control, Edit, Edits, Nothing, Place, Ref};
 use hp_elements::{Rest, Token, Tokens};
@@ -58,9 +59,10 @@ impl<'p> Builder<'p> {
         requires read { IsRead token }
         ensures { IfOk result (λ switch. HandledOne self.old self.new token.entry switch) }
     {
-        let _ = token;
-        let _ = alloc;
-        Err(NoMemory)
+        match handle(alloc, &mut self.view, token) {
+            Ok(handled) => Ok(handled.switch),
+            Err(_) => Err(NoMemory),
+        }
     }
 
     /// Handles tokens one behind the other, of which none is to call for another state of the lexer.
@@ -107,11 +109,7 @@ impl<'p> Builder<'p> {
 }
 
 /// Applies the edits to the tree, in order, and leaves room for as many again.
-fn apply_all<'p>(
-    alloc: Global,
-    tree: &mut Tree<'p>,
-    edits: &mut Edits<'p>,
-) -> Result<(), NoMemory>
+fn apply_all<'p>(alloc: Global, tree: &mut Tree<'p>, edits: &mut Edits<'p>) -> Result<(), NoMemory>
     ensures tree { OnOk result (tree.new.branches ≡ applied_all tree.old.branches (map (named_edit nothing) edits.old)) }
     ensures edits { OnOk result (edits.new ≡ []) }
 {

@@ -202,7 +202,9 @@ impl<'p> Parsing<'p> {
     {
         hp_model::at_once();
         let Parsing {
-            lexer, mut builder, ..
+            lexer,
+            mut builder,
+            ..
         } = self;
         let tokens = lexer.finish(alloc)?;
         handle_last(alloc, &mut builder, tokens)?;

@@ -25,8 +25,7 @@ pub loop-token-preserved : goal.loop-token-preserved
 loop-token-preserved c =
     let read : IsRead c.in-Some.token = no-start c.in-Some.token (sym c.is_start.ensures ∙ c.if-is_start.false) in
     let P : Option Rest → Type 0 = λ o. HandledOne c.loop-token.builder c.handle_one.new.self c.in-Some.token o in
-    let Q : Token → Type 0 = λ t. HandledOne c.loop-token.builder c.handle_one.new.self t c.in_ok-handle_one.field-0 in
-    (
+    let Q : Token → Type 0 = λ t. HandledOne c.loop-token.builder c.handle_one.new.self t c.in_ok-handle_one.field-0 in (
       tt,
       tt,
       may_read-on c.args.tokens c.loop-token.token-iterator c.next.new.self c.in-Some.token c.loop-token.invariant.2 (search rules) read,

@@ -22,8 +22,7 @@ handle_one-requires-clause-read c = (next_read c.loop-token.token-iterator c.nex
 pub loop-token-preserved : goal.loop-token-preserved
 loop-token-preserved c =
     let read = next_read c.loop-token.token-iterator c.next.new.self c.in-Some.token c.loop-token.invariant.2 (search rules) in
-    let P : Option Rest → Type 0 = λ o. HandledOne c.loop-token.self c.handle_one.new.self c.in-Some.token o in
-    (
+    let P : Option Rest → Type 0 = λ o. HandledOne c.loop-token.self c.handle_one.new.self c.in-Some.token o in (
       tt,
       tt,
       read.1,
