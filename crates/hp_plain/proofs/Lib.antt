@@ -1,0 +1,3 @@
+pub mod Lexed
+pub mod PlainHandled
+pub mod PlainTrees
