@@ -1,5 +1,5 @@
 -- Rows made by the combinators keep the last start tag's name told.
-use Rattle.std.proofs.Common.{◌≡◌, ℕ, Bool, true, false, cond, refl, sym, subst, List, Option, None, Some, IsSome}
+use Rattle.std.proofs.Common.{◌≡◌, ℕ, Bool, true, false, cond, refl, sym, subst, List, Option, IsSome}
 use Rattle.hp_tokens.specs.declared.state.State.{State}
 use Rattle.hp_tokens.specs.declared.building.Building.{Building}
 use Rattle.hp_tokens.specs.declared.building.Building.TheVariants as building

@@ -1,5 +1,5 @@
 -- Where the last start tag's name is told, the moves of the whole table keep it told, and never ask it.
-use Rattle.std.proofs.Common.{◌≡◌, ℕ, List, [], ◌∷◌, ◌++◌, Bool, true, false, ◌&&◌, cond, refl, sym, ◌∙◌, ap, subst, Option, None, Some, IsSome}
+use Rattle.std.proofs.Common.{◌≡◌, ℕ, List, [], ◌∷◌, Bool, true, false, ◌&&◌, cond, refl, sym, subst, Option, None, Some, IsSome}
 use Rattle.std.specs.Prelude.{◌==◌, IsTrue, if◌then◌else◌}
 use Rattle.std.proofs.lemmas.Bool.{and_parts, true≢false}
 use Rattle.hp_elements.specs.declared.token.Rest.{Rest}
@@ -30,7 +30,7 @@ use Rattle.hp_control.specs.declared.edit.Edit.{Edit}
 use Rattle.hp_control.specs.Composed.{is_foreign_now}
 use Rattle.hp_lexer.specs.Table.{table}
 use Rattle.hp_model.specs.Handling.{handle}
-use Rattle.hp_model.specs.Runs.{Parser, Built, Step, rests, goes, Goes, here, onward, Rests, at_lexing, at_start, built, followed_by, step, step_by, switched, told as told_by}
+use Rattle.hp_model.specs.Runs.{Parser, goes, Goes, here, onward, at_lexing, at_start, built, followed_by, step, step_by, switched, told as told_by}
 use Rattle.hp_model.proofs.Running.{goes-same}
 use Rattle.hp_run.specs.Pages.{Runs}
 use Rattle.hp_run.proofs.ToldRows.{KeepsTag}
