@@ -1,4 +1,4 @@
-//! Tests of lower crates from outside: each call that takes memory, once with ample memory.
+//! Tests of lower crates from outside: that calls which take memory succeed where there is some.
 #![tactic(auto)]
 
 #[cfg(test)]
