@@ -1,0 +1,3 @@
+pub mod Running
+pub mod Fragments
+pub mod Texts

@@ -1,0 +1,10 @@
+//! What a part of a page does to the parser: its fragment, and the end of input.
+#![tactic(auto)]
+
+mod ending;
+mod exact;
+mod fragment;
+
+pub use ending::Ending;
+pub use exact::Exact;
+pub use fragment::Fragment;
