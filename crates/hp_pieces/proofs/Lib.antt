@@ -1,0 +1,4 @@
+pub mod FitRows
+pub mod FitTags
+pub mod FitRaw
+pub mod FitMarkup
