@@ -16,7 +16,8 @@ use Rattle.hp_tokens.specs.declared.state.Return.TheVariants as returns
 use Rattle.hp_tokens.specs.declared.state.State.{State}
 use Rattle.hp_control.specs.Composed.{is_foreign_now}
 use Rattle.hp_control.specs.declared.edit.Edit.{Edit}
-use Rattle.hp_control.specs.States.{ControlState, IsValid, LexFits, StackFits, may_be_ahead}
+use Rattle.hp_control.proofs.StartLemmas.{start_valid}
+use Rattle.hp_control.specs.States.{ControlState, IsValid, LexFits, StackFits, lex_start, may_be_ahead}
 use Rattle.hp_lexer.specs.Table.{table}
 use Rattle.hp_model.proofs.Running.{runs-valid}
 use Rattle.hp_model.specs.Handling.{handle}
@@ -89,7 +90,7 @@ relex_stack mode.Initial c l h = h
 relex_stack _ c l h = h
 
 -- a valid state with another state of the lexer
-relex_valid : (c : ControlState) (l : LexState) → IsValid c → LexFits l → IsValid (record c { lex = l })
+pub relex_valid : (c : ControlState) (l : LexState) → IsValid c → LexFits l → IsValid (record c { lex = l })
 relex_valid c l v f = record {
   stack_ids = v.stack_ids;
   list_ids = v.list_ids;
@@ -117,5 +118,5 @@ lex_fits s text es there run f =
 -- and so it leads from a valid state to a valid one
 pub exit_valid : (s : ControlState) (text : List ℕ) (es : List Edit) (there : Parser) → Runs built_in (parser_in s) text es there → IsValid s → IsValid (state_at there)
 exit_valid s text es there run v =
-    relex_valid there.control (state_at there).lex (runs-valid (table built_in) (table_read built_in) (parser_in s) there text es run v)
+    relex_valid there.control (state_at there).lex (runs-valid (table built_in) (table_read built_in) (parser_in s) there text es run (relex_valid s lex_start v start_valid.lex))
     (lex_fits s text es there run v.lex)

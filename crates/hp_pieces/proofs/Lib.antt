@@ -5,3 +5,5 @@ pub mod FitMarkup
 pub mod FitNames
 pub mod FitTable
 pub mod FitRuns
+pub mod LexKept
+pub mod HandlingLex

@@ -3,15 +3,16 @@ use Rattle.std.specs.Prelude.{◌≡◌, ℕ, List}
 use Rattle.hp_names.specs.BuiltIn.{built_in}
 use Rattle.hp_tokens.specs.Moves.{standing}
 use Rattle.hp_control.specs.declared.edit.Edit.{Edit}
-use Rattle.hp_control.specs.States.{ControlState}
+use Rattle.hp_control.specs.States.{ControlState, lex_start}
 use Rattle.hp_lexer.specs.Table.{table}
 use Rattle.hp_model.specs.AtOnce.{MakeSame}
 use Rattle.hp_model.specs.Runs.{EndsWith, Parser}
 use Rattle.hp_run.specs.Pages.{Runs}
 
--- the parser in this state, before a text: what was read ahead is unread
+-- The parser in this state, before a text: what was read ahead is unread. Where the lexer stands is told once, so it is not
+-- told in the control state too.
 abbrev pub parser_in : ControlState → Parser
-parser_in s = record { lexing = standing s.lex.machine 0 0 s.lex.ahead; control = s }
+parser_in s = record { lexing = standing s.lex.machine 0 0 s.lex.ahead; control = record s { lex = lex_start } }
 
 -- the state between two texts: what is unread was read ahead
 abbrev pub state_at : Parser → ControlState

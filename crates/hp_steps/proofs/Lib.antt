@@ -1,0 +1,11 @@
+pub mod Began
+pub mod Shifting
+pub mod ClosingRows
+pub mod ClosingTags
+pub mod ClosingRaw
+pub mod ClosingMarkup
+pub mod ClosingTable
+pub mod Batches
+pub mod Together
+pub mod Standing
+pub mod Ending

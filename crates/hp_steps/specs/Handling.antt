@@ -1,0 +1,29 @@
+-- Tokens that are handled one after the other, whatever handles them.
+use Rattle.std.specs.Prelude.{◌≡◌, List, [], ◌∷◌, ◌++◌, None}
+use Rattle.hp_elements.specs.declared.token.Token.{Token}
+use Rattle.hp_control.specs.declared.edit.Edit.{Edit}
+use Rattle.hp_control.specs.States.{ControlState}
+use Rattle.hp_model.specs.Turns.{Handled, left_by}
+use Rattle.hp_model.specs.Whole.{IsRead}
+
+abbrev pub Handler : Type 0
+Handler = ControlState → Token → Handled
+
+-- the state that they leave, and their edits
+abbrev pub left_after : Handler → ControlState → List Token → ControlState
+left_after does c [] = c
+left_after does c (t ∷ ts) = left_after does (left_by (does c t)) ts
+
+abbrev pub made_after : Handler → ControlState → List Token → List Edit
+made_after does c [] = []
+made_after does c (t ∷ ts) = (does c t).outcome.edits ++ made_after does (left_by (does c t)) ts
+
+-- none of them switches the lexer
+abbrev pub AreQuiet : Handler → ControlState → List Token → Type 0
+AreQuiet does c [] = Unit {0}
+AreQuiet does c (t ∷ ts) = ((does c t).switch ≡ None) × AreQuiet does (left_by (does c t)) ts
+
+-- tokens as the lexer reads them
+abbrev pub AllRead : List Token → Type 0
+AllRead [] = Unit {0}
+AllRead (t ∷ ts) = IsRead t × AllRead ts

@@ -1,0 +1,5 @@
+pub mod Alike
+pub mod AtOnce
+pub mod Closing
+pub mod Handling
+pub mod Standing
