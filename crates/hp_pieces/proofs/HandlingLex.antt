@@ -149,6 +149,6 @@ step-keeps p (makes l es) = built-leaves es (at_lexing p l)
 step-keeps p (ends_input es) = tt
 
 -- a run leaves it as it was
-pub goes-leave : {rules : Rules} {p q : Parser} {es : List Edit} → Goes (step rules) p es q → q.control.lex ≡ p.control.lex
-goes-leave here = refl
-goes-leave {rules} {p} (onward {q = q} e g) = goes-leave g ∙ subst (StepLeaves p.control.lex) e (step-keeps p (move rules p.lexing))
+pub goes-leave : (rules : Rules) {p q : Parser} {es : List Edit} → Goes (step rules) p es q → q.control.lex ≡ p.control.lex
+goes-leave rules here = refl
+goes-leave rules {p} (onward {q = q} e g) = goes-leave rules g ∙ subst (StepLeaves p.control.lex) e (step-keeps p (move rules p.lexing))

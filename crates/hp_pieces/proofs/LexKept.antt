@@ -90,7 +90,7 @@ renew_entry-leaves fostering (Some Marker) depth c = refl
 renew_entry-leaves fostering (Some (Element id tag)) depth c = refl
 
 renew_down-leaves : (fostering : Bool) (depth : ℕ) → Leaves (renew_down fostering depth)
-renew_down-leaves fostering zero c = refl
+renew_down-leaves fostering zero = λ c. refl
 renew_down-leaves fostering (suc depth) =
     in_order (renew fostering depth) (renew_down fostering depth) (λ c. renew_entry-leaves fostering (slice_get c.formatting depth) depth c) (renew_down-leaves fostering depth)
 
@@ -112,7 +112,7 @@ close_description-leaves =
     (chosen (is_item (kinds.Html (text_of known.Dt))) (close known.Dt) nothing_done (close-leaves known.Dt) nothing)
 
 end_form_of-leaves : (o : Option ℕ) → Leaves (end_form_of o)
-end_form_of-leaves None c = refl
+end_form_of-leaves None = λ c. refl
 end_form_of-leaves (Some id) =
     in_order empty_form (choose (is_open_form id) (and_then implied (take_off id)) nothing_done) (λ c. refl)
     (chosen (is_open_form id) (and_then implied (take_off id)) nothing_done (in_order implied (take_off id) (λ c. refl) (take_off-leaves id)) nothing)
@@ -130,17 +130,17 @@ drop_entry-leaves id = chosen (λ c. has_entry id c.formatting) (remove_entry id
 
 turn_in-leaves : (fostering : Bool) (name : List ℕ) (k : Case) → Leaves (turn_in fostering name k)
 turn_in-leaves fostering name Unlisted = through-leaves (kinds.Html name) (kinds.Set sets.Special)
-turn_in-leaves fostering name (Closed entry) c = refl
-turn_in-leaves fostering name Hidden c = refl
-turn_in-leaves fostering name (Alone entry depth) c = refl
-turn_in-leaves fostering name (Tangled entry depth block) c = refl
+turn_in-leaves fostering name (Closed entry) = λ c. refl
+turn_in-leaves fostering name Hidden = λ c. refl
+turn_in-leaves fostering name (Alone entry depth) = λ c. refl
+turn_in-leaves fostering name (Tangled entry depth block) = λ c. refl
 
 turn-leaves : (fostering : Bool) (name : List ℕ) → Leaves (turn fostering name)
 turn-leaves fostering name c = turn_in-leaves fostering name (case_of name c) c
 
 turns-leaves : (n : ℕ) (fostering : Bool) (name : List ℕ) → Leaves (turns n fostering name)
 unfolding turns
-turns-leaves zero fostering name c = refl
+turns-leaves zero fostering name = λ c. refl
 turns-leaves (suc n) fostering name =
     chosen (goes_on name) (and_then (turn fostering name) (turns n fostering name)) (turn fostering name)
     (in_order (turn fostering name) (turns n fostering name) (turn-leaves fostering name) (turns-leaves n fostering name)) (turn-leaves fostering name)
@@ -149,7 +149,7 @@ adopt-leaves : (fostering : Bool) (name : List ℕ) → Leaves (adopt fostering 
 adopt-leaves fostering name = chosen (is_plain name) pop (turns 8 fostering name) (λ c. refl) (turns-leaves 8 fostering name)
 
 close_link_of-leaves : (fostering : Bool) (o : Option Spot) → Leaves (close_link_of fostering o)
-close_link_of-leaves fostering None c = refl
+close_link_of-leaves fostering None = λ c. refl
 close_link_of-leaves fostering (Some entry) =
     in_order (adopt fostering (text_of known.A)) (and_then (drop_entry entry.id) (take_off entry.id)) (adopt-leaves fostering (text_of known.A))
     (in_order (drop_entry entry.id) (take_off entry.id) (drop_entry-leaves entry.id) (take_off-leaves entry.id))
@@ -160,11 +160,11 @@ foster_character-leaves x =
     (in_order (put_here true (child.Text (x ∷ []))) (cond (is_white x) nothing_done frameset_not_ok) (λ c. refl) (one_of (is_white x) nothing_done frameset_not_ok nothing (λ c. refl)))
 
 foster_characters-leaves : (text : List ℕ) → Leaves (foster_characters text)
-foster_characters-leaves [] c = refl
+foster_characters-leaves [] = λ c. refl
 foster_characters-leaves (x ∷ xs) = in_order (foster_character x) (foster_characters xs) (foster_character-leaves x) (foster_characters-leaves xs)
 
 put_characters-leaves : (text : List ℕ) → Leaves (put_characters text)
-put_characters-leaves [] c = refl
+put_characters-leaves [] = λ c. refl
 put_characters-leaves (x ∷ xs) = in_order (put_here false (child.Text (x ∷ []))) (put_characters xs) (λ c. refl) (put_characters-leaves xs)
 
 flush-leaves : Leaves flush
@@ -177,7 +177,7 @@ implied_but_for-leaves None c = refl
 implied_but_for-leaves (Some name) c = refl
 
 take_off_entry-leaves : (o : Option Spot) → Leaves (take_off_entry o)
-take_off_entry-leaves None c = refl
+take_off_entry-leaves None = λ c. refl
 take_off_entry-leaves (Some entry) = in_order (drop_entry entry.id) (take_off entry.id) (drop_entry-leaves entry.id) (take_off-leaves entry.id)
 
 pub step-leaves : (fostering : Bool) (t : Token) (a : RowAct) → Leaves (step fostering t a)
