@@ -7,3 +7,5 @@ pub mod FitTable
 pub mod FitRuns
 pub mod LexKept
 pub mod HandlingLex
+pub mod SameRuns
+pub mod Joining

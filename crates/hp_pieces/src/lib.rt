@@ -4,7 +4,9 @@
 mod ending;
 mod exact;
 mod fragment;
+mod laws;
 
 pub use ending::Ending;
 pub use exact::Exact;
 pub use fragment::Fragment;
+pub use laws::runs_between;
