@@ -15,7 +15,7 @@ use Rattle.hp_model.specs.Handling.{handle, handle_all, handle_piece}
 use Rattle.hp_model.specs.Runs.{AreRead, ReadsHtml}
 use Rattle.hp_model.specs.Turns.{Handled, later, left_by}
 use Rattle.hp_model.specs.Whole.{IsRead}
-use Rattle.hp_steps.specs.AtOnce.{LeaveSame, MakeSame, RunsAtOnce, handle_at_once}
+use Rattle.hp_model.specs.AtOnce.{LeaveSame, MakeSame, RunsAtOnce, handle_at_once}
 use Rattle.hp_steps.specs.Handling.{AllRead, AreQuiet, left_after, made_after}
 use Rattle.hp_steps.proofs.Batches.{left-append, made-append, quiet-join}
 

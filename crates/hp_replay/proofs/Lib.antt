@@ -1,0 +1,2 @@
+pub mod Toward
+pub mod Ended
