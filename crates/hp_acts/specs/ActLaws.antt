@@ -14,7 +14,7 @@ use Rattle.hp_elements.specs.declared.tag.Tag.{Tag}
 use Rattle.hp_elements.specs.declared.token.DoctypeParts.{DoctypeParts}
 use Rattle.hp_elements.specs.declared.token.Token.{Token}
 use Rattle.hp_control.specs.declared.edit.Child.TheVariants as child
-use Rattle.hp_control.specs.Acts.{insert, insert_into_document, set_quirks}
+use Rattle.hp_control.specs.Acts.{append_to_list, insert, insert_into_document, set_quirks}
 use Rattle.hp_control.specs.Composed.{implied, implied_except}
 use Rattle.hp_control.specs.Faithful.{Split, FaithfulWhere, Faithful, FaithfulTest, any_view, faithful_nothing, StandsOn, state_over}
 use Rattle.hp_control.specs.Foreign.{insert_foreign, insert_as_current}
@@ -33,6 +33,13 @@ use Rattle.hp_views.specs.ListLaws.{marker_faithful, clear_faithful, listed_fait
 use Rattle.hp_views.specs.PlacePlans.{insert_plan, insert_document_plan}
 use Rattle.hp_views.specs.PopLaws.{pop_faithful, pop_to_faithful, through_faithful, pop_to_first_faithful}
 use Rattle.hp_views.specs.ResetLaws.{keeps_modes, reset_faithful}
+use Rattle.hp_adoption.specs.AdoptLaws.{adopt_faithful}
+use Rattle.hp_adoption.specs.ArkLaws.{append_to_list_faithful}
+use Rattle.hp_adoption.specs.ArkPlans.{append_to_list_plan}
+use Rattle.hp_adoption.specs.FlushActs.{flush_at_once}
+use Rattle.hp_adoption.specs.FlushLaws.{flush_faithful}
+use Rattle.hp_adoption.specs.LinkLaws.{close_link_faithful}
+use Rattle.hp_adoption.specs.ReconLaws.{reconstruct_faithful}
 use Rattle.hp_foreign.specs.Laws.{insert_foreign_faithful, insert_as_current_faithful, pop_to_point_faithful, through_foreign_faithful, put_replacements_faithful}
 use Rattle.hp_foreign.specs.Plans.{insert_foreign_plan, insert_as_current_plan}
 use Rattle.hp_model.specs.Steps.{step, implied_but_for, quirks_of}
@@ -43,6 +50,7 @@ use Rattle.hp_acts.specs.Spending.{html_tag}
 -- the views that have what the act reads
 abbrev pub fits_of : Act → Split → Bool
 fits_of act.FormPointer = has_own
+fits_of act.AppendToList = has_own
 fits_of act.Reset = keeps_modes
 fits_of _ = any_view
 
@@ -50,9 +58,14 @@ abbrev pub MeansBy : (Split → Bool) → Option (Split → Plan Split) → Stat
 MeansBy fits None f = Unit {0}
 MeansBy fits (Some plan) f = FaithfulWhere fits plan f
 
+-- what an act does; the pending table characters are put as one text
+abbrev pub step_at_once : Bool → Token → Act → StateAct
+step_at_once fostering t act.Flush = flush_at_once
+step_at_once fostering t other = step fostering t other
+
 -- the law of an act
 abbrev pub ActMeans : Bool → Token → Act → Type 0
-ActMeans fostering t a = MeansBy (fits_of a) (act_plan fostering t a) (step fostering t a)
+ActMeans fostering t a = MeansBy (fits_of a) (act_plan fostering t a) (step_at_once fostering t a)
 
 implied_but_faithful : (name : Option Known) → Faithful (implied_but_plan name) (implied_but_for name)
 implied_but_faithful None = implied_faithful
@@ -65,6 +78,9 @@ quirks_way false = faithful_nothing
 -- the same tag by another description
 by_tag : (plan : Tag → Split → Plan Split) (f : Tag → StateAct) (made own : Tag) → made ≡ own → ((tag : Tag) → Faithful (plan tag) (f tag)) → Faithful (plan made) (f own)
 by_tag plan f made own e law = let P : Tag → Type 0 = λ tag. Faithful (plan made) (f tag) in subst P e (law made)
+
+by_tag_own : (plan : Tag → Split → Plan Split) (f : Tag → StateAct) (made own : Tag) → made ≡ own → ((tag : Tag) → FaithfulWhere has_own (plan tag) (f tag)) → FaithfulWhere has_own (plan made) (f own)
+by_tag_own plan f made own e law = let P : Tag → Type 0 = λ tag. FaithfulWhere has_own (plan made) (f tag) in subst P e (law made)
 
 pub act_faithful : (fostering : Bool) (t : Token) → html_tag t ≡ tag_of t → (a : Act) → ActMeans fostering t a
 act_faithful f t h act.Characters = put_faithful f (child.Text (characters t)) tt
@@ -84,7 +100,7 @@ act_faithful f t h act.InsertAsCurrent = by_tag (insert_as_current_plan f (is_se
 act_faithful f t h act.InsertHtml = by_tag insert_document_plan insert_into_document (html_tag t) (tag_of t) h insert_document_faithful
 act_faithful f t h act.InsertBareHtml = insert_document_faithful (bare (text_of known.Html))
 act_faithful f t h act.PushHead = push_head_faithful
-act_faithful f t h act.Reconstruct = tt
+act_faithful f t h act.Reconstruct = reconstruct_faithful f
 act_faithful f t h act.Pop = pop_faithful
 act_faithful f t h (act.PopTo names) = pop_to_faithful (kinds.Set names)
 act_faithful f t h act.PopToFirst = pop_to_first_faithful
@@ -103,9 +119,9 @@ act_faithful f t h act.DetachBody = detach_faithful
 act_faithful f t h act.TakeHeadOff = take_head_off_faithful
 act_faithful f t h (act.TakeOff which) = tt
 act_faithful f t h act.EndForm = end_form_faithful
-act_faithful f t h act.CloseLink = tt
-act_faithful f t h act.AppendToList = tt
-act_faithful f t h (act.Adopt which) = tt
+act_faithful f t h act.CloseLink = close_link_faithful f
+act_faithful f t h act.AppendToList = by_tag_own append_to_list_plan append_to_list (html_tag t) (tag_of t) h append_to_list_faithful
+act_faithful f t h (act.Adopt which) = adopt_faithful f (name_for t which)
 act_faithful f t h act.Marker = marker_faithful
 act_faithful f t h act.ClearToMarker = clear_faithful
 act_faithful f t h act.FramesetNotOk = frameset_faithful
@@ -121,7 +137,7 @@ act_faithful f t h (act.ReplaceTemplateMode m) = replace_mode_faithful m
 act_faithful f t h act.PopTemplateMode = pop_mode_faithful
 act_faithful f t h act.EmptyPending = empty_pending_faithful
 act_faithful f t h act.AppendPending = append_pending_faithful (characters t)
-act_faithful f t h act.Flush = tt
+act_faithful f t h act.Flush = flush_faithful
 act_faithful f t h (act.If x otherwise) = faithful_nothing
 act_faithful f t h (act.Unless x otherwise) = faithful_nothing
 act_faithful f t h act.Done = faithful_nothing

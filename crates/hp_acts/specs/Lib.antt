@@ -7,3 +7,10 @@ pub mod Handling
 pub mod ActLaws
 pub mod TestLaws
 pub mod Laws
+pub mod RowPlans
+pub mod Plain
+pub mod HandlePlans
+pub mod Suiting
+pub mod Known
+pub mod Told
+pub mod Older

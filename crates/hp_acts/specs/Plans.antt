@@ -1,6 +1,5 @@
--- What each act and each test of a row asks of the older state and changes of a view, given the token (13.2.6). None stands for
--- the acts of reconstruction, of the adoption agency and of the pending table characters, which tell it themselves, and for
--- those that only steer the row it is the plan that changes nothing.
+-- What each act and each test of a row asks of the older state and changes of a view, given the token (13.2.6). TakeOff, which
+-- stands in no row, has none; for those that only steer the row it is the plan that changes nothing.
 use Rattle.std.specs.Prelude.{ℕ, Bool, if◌then◌else◌, List, Option, Some, None}
 use Rattle.hp_elements.specs.Names.{text_of, known_of}
 use Rattle.hp_elements.specs.Quirks.{gives_quirks}
@@ -26,6 +25,11 @@ use Rattle.hp_views.specs.PlacePlans.{put_plan, put_document_plan, put_first_pla
 use Rattle.hp_views.specs.ResetPlans.{reset_plan}
 use Rattle.hp_views.specs.SecondPlans.{second_plan, own_modes}
 use Rattle.hp_views.specs.StackPlans.{in_scope_plan, current_is_plan, below_is_plan, template_plan, frameset_ok_plan, is_quirks_plan, has_form_plan, is_table_mode, pop_plan, pop_to_plan, pop_to_first_plan, through_plan}
+use Rattle.hp_adoption.specs.AdoptPlans.{adopt_plan}
+use Rattle.hp_adoption.specs.ArkPlans.{append_to_list_plan}
+use Rattle.hp_adoption.specs.FlushPlans.{flush_plan}
+use Rattle.hp_adoption.specs.LinkPlans.{close_link_plan}
+use Rattle.hp_adoption.specs.ReconPlans.{reconstruct_plan}
 use Rattle.hp_foreign.specs.Plans.{insert_foreign_plan, insert_as_current_plan, names_plan, pop_to_point_plan, put_replacements_plan, through_foreign_plan}
 use Rattle.hp_model.specs.Tokens.{bare, characters, comment, doctype_of, has_hidden_type, is_self_closing, name_for, name_of, parts_of, tag_of}
 use Rattle.hp_acts.specs.Spending.{html_tag}
@@ -56,6 +60,11 @@ implied_but_plan (Some name) = implied_except_plan name
 abbrev pub quirks_of_plan : DoctypeParts → Split → Plan Split
 quirks_of_plan parts = if gives_quirks parts then quirks_plan else leaves_it
 
+-- the plan, where there is one
+abbrev pub by_plan : Option (Split → Plan Split) → Split → Plan Split
+by_plan None v = gives v
+by_plan (Some plan) v = plan v
+
 -- what stands in fields of the state
 abbrev pub field_plan : Act → Option (Split → Plan Split)
 field_plan (act.Switch m) = Some (switch_plan m)
@@ -74,31 +83,31 @@ field_plan act.PushHead = Some push_head_plan
 field_plan act.TakeHeadOff = Some take_head_plan
 field_plan act.Quirks = Some quirks_plan
 field_plan act.EmptyPending = Some empty_pending_plan
-field_plan act.Flush = None
+field_plan act.Flush = Some flush_plan
 field_plan _ = Some leaves_it
 
 -- what closes elements
-abbrev pub close_plan : Token → Act → Option (Split → Plan Split)
-close_plan t act.Pop = Some pop_plan
-close_plan t (act.PopTo names) = Some (pop_to_plan (kinds.Set names))
-close_plan t act.PopToFirst = Some pop_to_first_plan
-close_plan t act.PopToPoint = Some pop_to_point_plan
-close_plan t (act.Through which) = Some (through_plan (kinds.Html (name_for t which)) kinds.Nothing)
-close_plan t (act.ThroughFirstOf names) = Some (through_plan (kinds.Set names) kinds.Nothing)
-close_plan t act.ThroughForeign = Some (through_foreign_plan (name_of t))
-close_plan t act.Implied = Some implied_plan
-close_plan t (act.ImpliedExcept which) = Some (implied_but_plan (known_of (name_for t which)))
-close_plan t act.ImpliedThoroughly = Some implied_thoroughly_plan
-close_plan t act.CloseParagraph = Some close_paragraph_plan
-close_plan t act.CloseItem = Some close_item_plan
-close_plan t act.CloseDescription = Some close_description_plan
-close_plan t act.Walk = Some (walk_plan (name_of t))
-close_plan t act.EndForm = Some end_form_plan
-close_plan t act.DetachBody = Some detach_plan
-close_plan t (act.Adopt which) = None
-close_plan t act.CloseLink = None
-close_plan t (act.TakeOff which) = None
-close_plan t other = field_plan other
+abbrev pub close_plan : Bool → Token → Act → Option (Split → Plan Split)
+close_plan fostering t act.Pop = Some pop_plan
+close_plan fostering t (act.PopTo names) = Some (pop_to_plan (kinds.Set names))
+close_plan fostering t act.PopToFirst = Some pop_to_first_plan
+close_plan fostering t act.PopToPoint = Some pop_to_point_plan
+close_plan fostering t (act.Through which) = Some (through_plan (kinds.Html (name_for t which)) kinds.Nothing)
+close_plan fostering t (act.ThroughFirstOf names) = Some (through_plan (kinds.Set names) kinds.Nothing)
+close_plan fostering t act.ThroughForeign = Some (through_foreign_plan (name_of t))
+close_plan fostering t act.Implied = Some implied_plan
+close_plan fostering t (act.ImpliedExcept which) = Some (implied_but_plan (known_of (name_for t which)))
+close_plan fostering t act.ImpliedThoroughly = Some implied_thoroughly_plan
+close_plan fostering t act.CloseParagraph = Some close_paragraph_plan
+close_plan fostering t act.CloseItem = Some close_item_plan
+close_plan fostering t act.CloseDescription = Some close_description_plan
+close_plan fostering t act.Walk = Some (walk_plan (name_of t))
+close_plan fostering t act.EndForm = Some end_form_plan
+close_plan fostering t act.DetachBody = Some detach_plan
+close_plan fostering t (act.Adopt which) = Some (adopt_plan fostering (name_for t which))
+close_plan fostering t act.CloseLink = Some (close_link_plan fostering)
+close_plan fostering t (act.TakeOff which) = None
+close_plan fostering t other = field_plan other
 
 -- what puts nodes into the tree
 abbrev pub act_plan : Bool → Token → Act → Option (Split → Plan Split)
@@ -119,6 +128,6 @@ act_plan fostering t act.AddMissingToBody = Some (add_body_plan (tag_of t).attri
 act_plan fostering t act.PutDoctype = Some (put_document_plan (doctype_of (parts_of t)))
 act_plan fostering t act.QuirksOfDoctype = Some (quirks_of_plan (parts_of t))
 act_plan fostering t act.FramesetNotOk = Some frameset_plan
-act_plan fostering t act.Reconstruct = None
-act_plan fostering t act.AppendToList = None
-act_plan fostering t other = close_plan t other
+act_plan fostering t act.Reconstruct = Some (reconstruct_plan fostering)
+act_plan fostering t act.AppendToList = Some (append_to_list_plan (html_tag t))
+act_plan fostering t other = close_plan fostering t other

@@ -1,10 +1,12 @@
 -- The row that a token has: the crate that has it, and its number there.
-use Rattle.std.specs.Prelude.{ℕ, Bool, true, List, Option, None, Some, slice_get}
+use Rattle.std.specs.Prelude.{ℕ, Bool, true, false, List, map, Option, None, Some, slice_get}
+use Rattle.std.specs.List.{list_all}
 use Rattle.hp_elements.specs.declared.act.Act.{Act}
+use Rattle.hp_elements.specs.declared.act.Act.TheVariants as act
 use Rattle.hp_elements.specs.declared.token.Kind.{Kind}
 use Rattle.hp_elements.specs.declared.token.Mode.{Mode}
 use Rattle.hp_elements.specs.declared.token.Mode.TheVariants as mode
-use Rattle.hp_elements.specs.Rules.{Row as RuleRow, acts_numbered, acts_for}
+use Rattle.hp_elements.specs.Rules.{Row as RuleRow, acts_numbered, acts_of}
 use Rattle.hp_rules_page.specs.Table as page
 use Rattle.hp_rules_body.specs.Table as body
 use Rattle.hp_rules_table.specs.Table as table
@@ -46,3 +48,11 @@ mode_rows_in part.Rest m = rest.rows_of m
 -- the acts of a row
 abbrev pub acts_in : Row → List Act
 acts_in row = acts_numbered (rows_in row.part) row.number
+
+-- the acts of rows: each has a plan
+abbrev pub is_planned : Act → Bool
+is_planned (act.TakeOff which) = false
+is_planned _ = true
+
+abbrev pub rows_planned : List RuleRow → Bool
+rows_planned rows = list_all (list_all is_planned) (map acts_of rows)

@@ -1,9 +1,9 @@
 //! One act of a row, carried out on a view.
-ghost use Rattle.std.specs.Prelude.{◌≡◌, OnOk};
+ghost use Rattle.std.specs.Prelude.{◌≡◌, false, OnOk};
 ghost use Rattle.hp_views.specs.View.{sight};
 ghost use Rattle.hp_acts.specs.Carrying.{CarriesBy, Carried};
 ghost use Rattle.hp_acts.specs.Plans.{act_plan, close_plan, field_plan};
-ghost use Rattle.hp_acts.specs.Spending.{IsLeftOf};
+ghost use Rattle.hp_acts.specs.Spending.{IsLeftOf, gives_away};
 ghost use Rattle.hp_acts.specs.declared.token_parts.Spending.TheVariants.{Copies};
 
 use crate::characters::{
@@ -62,6 +62,7 @@ pub(crate) fn carry_out<'p, B: Below>(
 ) -> Result<(), Refusal>
     ensures plan { CarriesBy result (sight B.heard view.old) (sight B.heard view.new) (act_plan fostering token.old act) }
     ensures left { OnOk result (IsLeftOf token.old token.new) }
+    ensures stays { gives_away act ≡ false → token.new ≡ token.old }
     ensures copies { spending ≡ Copies → token.new ≡ token.old }
 {
     match act {
@@ -96,7 +97,7 @@ fn close<'p, B: Below>(
     token: &Token<'p>,
     fostering: bool,
 ) -> Result<(), Refusal>
-    ensures plan { CarriesBy result (sight B.heard view.old) (sight B.heard view.new) (close_plan token.now act) }
+    ensures plan { CarriesBy result (sight B.heard view.old) (sight B.heard view.new) (close_plan fostering token.now act) }
 {
     match act {
         Act::Pop => view.pop(alloc),

@@ -13,6 +13,6 @@ mod token_parts;
 mod turns;
 
 pub use acts::carry;
-pub use laws::{acts_mean, tests_tell};
+pub use laws::{acts_mean, known_handled, older_handled, tests_tell};
 pub use token_parts::Spending;
 pub use turns::{Handled, handle};

@@ -1,65 +1,122 @@
 //! Runs of text where the rules do nothing but put them into the current node: a short way to what the rows say (13.2.6.4.7,
 //! 13.2.6.4.8).
+ghost use Rattle.std.specs.Prelude.{◌≡◌, true};
+ghost use Rattle.hp_views.specs.View.{sight, split_of, Carries};
+ghost use Rattle.hp_acts.specs.HandlePlans.{all_turns_plan};
+ghost use Rattle.hp_acts.specs.Handling.{Handles};
+ghost use Rattle.hp_acts.specs.Plain.{IsPlain, body_text_plan, has_html_top, is_raw, is_run, is_text_mode, put_text_plan, run_plan, text_plan};
+
 use crate::turns::{Handled, NOTHING};
-use hp_control::{Below, Child, FormattingEntry, OpenElement, Refusal, Stack, is_html};
+use hp_adoption::reconstruct;
+use hp_control::{Below, Child, OpenElement, Refusal, Stack, is_html};
 use hp_elements::{CharClass, Mode, Text, Token};
 use hp_views::View;
 use std::alloc::Global;
 
-/// Whether the element at the top is that of the list's last entry, or the list ends with a marker: then nothing is to be
-/// reconstructed. It may answer no where nothing is to be reconstructed either.
-fn is_quiet(stack: &Stack<OpenElement>, list: &Stack<FormattingEntry>, is_whole: bool) -> bool {
-    if list.is_empty() {
-        return is_whole;
-    }
-    match list.at(0) {
-        FormattingEntry::Marker => true,
-        FormattingEntry::Element { id, .. } => !stack.is_empty() && stack.at(0).id == *id,
-    }
-}
-
 /// Whether the current node is an own HTML element.
-fn is_in_html(stack: &Stack<OpenElement>) -> bool {
+fn is_in_html(stack: &Stack<OpenElement>) -> bool
+    ensures { result ≡ has_html_top stack.now }
+{
     !stack.is_empty() && is_html(stack.at(0))
 }
 
-/// Whether white space and other characters, but not U+0000, go into the current node, and the rules do nothing else but say
-/// that a frameset may no longer replace the body.
-fn takes_text<'p, B: Below>(view: &View<'p, B>) -> bool {
-    if !is_in_html(&view.change.stack) {
-        return false;
-    }
-    match view.change.mode {
-        Mode::Text => true,
-        Mode::InBody | Mode::InCell | Mode::InCaption => {
-            let is_whole = view.page.is_some();
-            is_quiet(&view.change.stack, &view.change.formatting, is_whole)
-        }
+/// Whether text goes into the current node in this mode.
+fn is_text_mode(mode: Mode) -> bool
+    ensures { result ≡ is_text_mode mode }
+{
+    match mode {
+        Mode::Text | Mode::InBody | Mode::InCell | Mode::InCaption => true,
         _ => false,
     }
 }
 
-/// Whether the token is a run of text that goes into the current node.
-pub(crate) fn is_plain<'p, B: Below>(view: &View<'p, B>, token: &Token<'p>) -> bool {
+/// Whether the token is a run of characters, but not of U+0000.
+fn is_run(token: &Token<'_>) -> bool
+    ensures { result ≡ is_run token.now }
+{
     match token {
         Token::Characters { class, .. } => match class {
             CharClass::Nul => false,
-            CharClass::White | CharClass::Other => takes_text(view),
+            CharClass::White | CharClass::Other => true,
         },
         _ => false,
     }
 }
 
+/// Whether the token is a run of text that goes into the current node.
+pub(crate) fn is_plain<'p, B: Below>(view: &View<'p, B>, token: &Token<'p>) -> bool
+    ensures { result ≡ true → IsPlain (split_of view.now) token.now }
+{
+    is_run(token) && is_text_mode(view.change.mode) && is_in_html(&view.change.stack)
+}
+
 /// Puts the text of a plain run into the current node.
+#[tactic(auto, using(crate::proofs::PlainRuns::plain_refused))]
 pub(crate) fn put_plain<'p, B: Below>(
     alloc: Global,
     view: &mut View<'p, B>,
     token: Token<'p>,
-) -> Result<Handled, Refusal> {
-    if let Token::Characters { class, text } = token {
-        put_text(alloc, view, class, text)?;
+) -> Result<Handled, Refusal>
+    requires { IsPlain (split_of view.old) token }
+    ensures { Handles result (sight B.heard view.old) (sight B.heard view.new) (all_turns_plan token.entry) }
+{
+    match put_run(alloc, view, token) {
+        Ok(()) => Ok(NOTHING),
+        Err(refused) => Err(refused),
     }
-    Ok(NOTHING)
+}
+
+/// Whether text alone is read in this mode.
+fn is_raw(mode: Mode) -> bool
+    ensures { result ≡ is_raw mode }
+{
+    match mode {
+        Mode::Text => true,
+        _ => false,
+    }
+}
+
+fn put_run<'p, B: Below>(
+    alloc: Global,
+    view: &mut View<'p, B>,
+    token: Token<'p>,
+) -> Result<(), Refusal>
+    ensures { Carries result (sight B.heard view.old) (sight B.heard view.new) (run_plan token.entry) }
+{
+    match token {
+        Token::Characters { class, text } => put_characters(alloc, view, class, text),
+        _ => Ok(()),
+    }
+}
+
+fn put_characters<'p, B: Below>(
+    alloc: Global,
+    view: &mut View<'p, B>,
+    class: CharClass,
+    text: Text<'p>,
+) -> Result<(), Refusal>
+    ensures { Carries result (sight B.heard view.old) (sight B.heard view.new) (λ v. text_plan v.change.mode class text.entry v) }
+{
+    if is_raw(view.change.mode) {
+        view.put(alloc, false, Child::Text(text))
+    } else {
+        put_in_body(alloc, view, class, text)
+    }
+}
+
+/// Puts text by the rules of the body.
+fn put_in_body<'p, B: Below>(
+    alloc: Global,
+    view: &mut View<'p, B>,
+    class: CharClass,
+    text: Text<'p>,
+) -> Result<(), Refusal>
+    ensures { Carries result (sight B.heard view.old) (sight B.heard view.new) (body_text_plan class text.entry) }
+{
+    match reconstruct(alloc, view, false) {
+        Ok(()) => put_text(alloc, view, class, text),
+        Err(refused) => Err(refused),
+    }
 }
 
 fn put_text<'p, B: Below>(
@@ -67,9 +124,15 @@ fn put_text<'p, B: Below>(
     view: &mut View<'p, B>,
     class: CharClass,
     text: Text<'p>,
-) -> Result<(), Refusal> {
-    if class == CharClass::Other && view.change.mode != Mode::Text {
-        view.frameset_not_ok(alloc)?;
+) -> Result<(), Refusal>
+    ensures { Carries result (sight B.heard view.old) (sight B.heard view.new) (put_text_plan class text.entry) }
+{
+    match class {
+        CharClass::Other => {
+            view.put(alloc, false, Child::Text(text))?;
+            view.frameset_not_ok(alloc)
+        }
+        CharClass::White => view.put(alloc, false, Child::Text(text)),
+        CharClass::Nul => view.put(alloc, false, Child::Text(text)),
     }
-    view.put(alloc, false, Child::Text(text))
 }

@@ -1,10 +1,10 @@
 //! The row that a token has, among the rules of all modes.
-ghost use Rattle.std.specs.Prelude.{◌≡◌, ◌<◌, [], true, IfSome, is_some, unwrap_or};
+ghost use Rattle.std.specs.Prelude.{◌≡◌, ◌<◌, [], true, IfSome, is_some, unwrap_or, slice_get};
 ghost use Rattle.hp_elements.specs.Rules.{acts_for, acts_numbered, goes_later};
 ghost use Rattle.hp_elements.specs.Tokens.{kind_of};
 ghost use Rattle.hp_rules_rest.specs.Foreign.{foreign};
 ghost use Rattle.hp_rules_rest.specs.Whole.{every_mode_rows};
-ghost use Rattle.hp_acts.specs.Rows.{part_in, rows_in, mode_rows_in, acts_in};
+ghost use Rattle.hp_acts.specs.Rows.{part_in, rows_in, mode_rows_in, acts_in, is_planned};
 
 use hp_elements::{Act, Mode, Token};
 
@@ -74,6 +74,16 @@ pub(crate) fn foreign_row(token: &Token<'_>) -> Row
 impl Row {
     /// The act of the row at that place; none where the row has no act there.
     pub(crate) fn act(self, at: u32) -> Option<Act>
+        ensures value { result ≡ slice_get (acts_in self) at }
+        ensures planned { IfSome result (λ act. is_planned act ≡ true) }
+        ensures later { IfSome result (λ act. goes_later at act ≡ true) }
+        ensures short { IfSome result (λ act. at < 8) }
+    {
+        self.act_at(at)
+    }
+
+    fn act_at(self, at: u32) -> Option<Act>
+        ensures value { result ≡ slice_get (acts_in self) at }
         ensures later { IfSome result (λ act. goes_later at act ≡ true) }
         ensures short { IfSome result (λ act. at < 8) }
     {

@@ -2,13 +2,15 @@
 ghost use Rattle.std.specs.Prelude.{◌≡◌, ◌<◌, OnOk, length};
 ghost use Rattle.hp_elements.specs.Names.{known_of};
 ghost use Rattle.hp_elements.specs.declared.kinds.Kinds.TheVariants as kinds;
+ghost use Rattle.hp_adoption.specs.AdoptPlans.{adopt_plan};
+ghost use Rattle.hp_adoption.specs.ArkPlans.{append_to_list_plan};
 ghost use Rattle.hp_views.specs.ClosingPlans.{walk_plan};
 ghost use Rattle.hp_views.specs.StackPlans.{through_plan};
 ghost use Rattle.hp_views.specs.View.{sight, Carries};
 ghost use Rattle.hp_foreign.specs.Plans.{through_foreign_plan};
 ghost use Rattle.hp_model.specs.Tokens.{name_for, name_of as spec_name_of};
 ghost use Rattle.hp_acts.specs.Plans.{implied_but_plan};
-ghost use Rattle.hp_acts.specs.Spending.{IsLeftOf};
+ghost use Rattle.hp_acts.specs.Spending.{IsLeftOf, html_tag};
 ghost use Rattle.hp_acts.specs.declared.token_parts.Spending.TheVariants.{Copies};
 
 use crate::token_parts::{Spending, html_of, name_of, take_tag};
@@ -77,7 +79,9 @@ pub(crate) fn adopt_named<'p, B: Below>(
     token: &Token<'p>,
     which: Which,
     fostering: bool,
-) -> Result<(), Refusal> {
+) -> Result<(), Refusal>
+    ensures plan { Carries result (sight B.heard view.old) (sight B.heard view.new) (adopt_plan fostering (name_for token.now which)) }
+{
     let name = name_of(alloc, token, which)?;
     adopt(alloc, view, fostering, name)
 }
@@ -89,6 +93,7 @@ pub(crate) fn append_current<'p, B: Below>(
     token: &mut Token<'p>,
     spending: Spending,
 ) -> Result<(), Refusal>
+    ensures plan { Carries result (sight B.heard view.old) (sight B.heard view.new) (append_to_list_plan (html_tag token.old)) }
     ensures left { OnOk result (IsLeftOf token.old token.new) }
     ensures copies { spending ≡ Copies → token.new ≡ token.old }
 {

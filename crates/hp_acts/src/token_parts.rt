@@ -1,5 +1,5 @@
 //! The parts of a token that acts read, or give to the tree and the list.
-ghost use Rattle.std.specs.Prelude.{◌≡◌, [], ◌∷◌, IfOk, IsNone, OnOk};
+ghost use Rattle.std.specs.Prelude.{◌≡◌, [], ◌∷◌, IfOk, OnOk};
 ghost use Rattle.hp_elements.specs.Names.{text_of};
 ghost use Rattle.hp_elements.specs.declared.kinds.Kinds.TheVariants as kinds;
 ghost use Rattle.hp_model.specs.Tokens.{as_start, bare, characters, comment, is_self_closing, name_for, name_of, tag_of};
@@ -7,7 +7,7 @@ ghost use Rattle.hp_acts.specs.Spending.{html_tag, IsLeftOf};
 ghost use Rattle.hp_acts.specs.declared.token_parts.Spending.TheVariants.{Copies};
 
 use hp_elements::{
-    Attribute, Chain, Kinds, Known, Name, Namespace, NoMemory, Tag, Text, Token, Which,
+    Attribute, Chain, CharClass, Kinds, Known, Name, Namespace, NoMemory, Tag, Text, Token, Which,
 };
 use std::alloc::Global;
 use std::mem;
@@ -195,17 +195,22 @@ pub(crate) fn rename(token: &mut Token<'_>, name: Known)
     }
 }
 
-/// What is left of a text without its first line feed; none where it was that alone.
-fn text_after<'p>(alloc: Global, text: Text<'p>) -> Result<Option<Text<'p>>, NoMemory>
-    ensures alone { text.entry ≡ 0xA ∷ [] → IfOk result (λ rest. IsNone rest) }
+/// What is left of characters without the line feed that they begin with; none where they are that alone.
+fn after_first<'p>(
+    alloc: Global,
+    class: CharClass,
+    text: Text<'p>,
+) -> Result<Option<Token<'p>>, NoMemory>
+    ensures { IfOk result (λ rest. rest ≡ without_line_feed (Characters class text.entry)) }
 {
-    if text.same(&Text::of_char('\n')) {
+    let after = match text.as_str().strip_prefix('\n') {
+        Some(rest) => Text::from_str(alloc, rest)?,
+        None => return Ok(Some(Token::Characters { class, text })),
+    };
+    if after.is_empty() {
         return Ok(None);
     }
-    match text.as_str().strip_prefix('\n') {
-        Some(rest) => Ok(Some(Text::from_str(alloc, rest)?)),
-        None => Ok(Some(text)),
-    }
+    Ok(Some(Token::Characters { class, text: after }))
 }
 
 /// The token without the line feed that it begins with; none where it is that alone.
@@ -213,16 +218,13 @@ pub(crate) fn after_line_feed<'p>(
     alloc: Global,
     token: Token<'p>,
 ) -> Result<Option<Token<'p>>, NoMemory>
-    ensures alone { (class : CharClass) → token.entry ≡ Characters class (0xA ∷ []) → IfOk result (λ rest. IsNone rest) }
+    ensures { IfOk result (λ rest. rest ≡ without_line_feed token.entry) }
 {
     match token {
-        Token::Characters { class, text } => match text_after(alloc, text)? {
-            Some(text) => Ok(Some(Token::Characters { class, text })),
-            None => Ok(None),
-        },
+        Token::Characters { class, text } => after_first(alloc, class, text),
         token => Ok(Some(token)),
     }
 }
 
-ghost use Rattle.hp_elements.specs.declared.token.CharClass.{CharClass};
+ghost use Rattle.hp_acts.specs.HandlePlans.{without_line_feed};
 ghost use Rattle.hp_elements.specs.declared.token.Token.TheVariants.{Characters};

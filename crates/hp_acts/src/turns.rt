@@ -1,16 +1,29 @@
 //! One token, handled whole (13.2.6).
-ghost use Rattle.std.specs.Prelude.{◌≡◌, ◌<◌, true, IfOk};
+ghost use Rattle.std.specs.Prelude.{◌≡◌, ℕ, ◌<◌, ◌+◌, ◌*◌, Bool, true, false, if◌then◌else◌, IfOk, List, length, drop};
+ghost use Rattle.std.specs.List.{list_any};
 ghost use Rattle.hp_elements.specs.Rules.{goes_later};
-ghost use Rattle.hp_acts.specs.Handling.{GoesLater};
+ghost use Rattle.hp_elements.specs.declared.token.Mode.{Mode};
+ghost use Rattle.hp_control.specs.Plan.{Plan};
+ghost use Rattle.hp_model.specs.Rows.{is_head_mode};
+ghost use Rattle.hp_views.specs.View.{page_of, sight};
+ghost use Rattle.hp_acts.specs.Carrying.{Comes, Goes, GoesBy, Stays, going, next_present, present_plan, reached, row_plan};
+ghost use Rattle.hp_acts.specs.HandlePlans.{all_turns_plan, handle_plan};
+ghost use Rattle.hp_acts.specs.Handling.{GoesLater, Handles};
+ghost use Rattle.hp_acts.specs.RowPlans.{Reached, Came, act_then, is_early, turn_plan};
+ghost use Rattle.hp_acts.specs.Rows.{acts_in, is_planned};
+ghost use Rattle.hp_acts.specs.Spending.{IsLeftOf, gives_away, is_of_attributes, leaves_whole, reads_attributes};
+ghost use Rattle.hp_acts.specs.declared.token_parts.Spending.TheVariants.{Copies};
+ghost use Rattle.hp_acts.specs.declared.turns.Next.TheVariants.{At};
 
-use crate::acts::{carry, carry_out};
+use crate::acts::carry_out;
 use crate::plain::{is_plain, put_plain};
+use crate::questions::holds;
 use crate::rows::{Row, foreign_row, row_in};
 use crate::token_parts::{Spending, after_line_feed, rename};
 use hp_control::{Below, Crossing, Refusal};
 use hp_elements::{Act, Mode, Rest, Test, Token};
 use hp_foreign::goes_to_foreign;
-use hp_views::View;
+use hp_views::{PageFacts, View};
 use std::alloc::Global;
 
 /// How deep the rules of a mode use those of others, the mode's own counted.
@@ -39,8 +52,10 @@ struct Turn<'p> {
 }
 
 /// Whether an act of a row from that place on reads the attributes of the token.
-fn is_read_from(row: Row, at: u32) -> bool {
-    let mut at = at;
+fn is_read_from(row: Row, from: u32) -> bool
+    ensures { result ≡ list_any reads_attributes (drop from (acts_in row)) }
+{
+    let mut at = from;
     while let Some(act) = row.act(at) {
         if reads_attributes(act) {
             return true;
@@ -50,7 +65,9 @@ fn is_read_from(row: Row, at: u32) -> bool {
     false
 }
 
-fn reads_attributes(act: Act) -> bool {
+fn reads_attributes(act: Act) -> bool
+    ensures { result ≡ reads_attributes act }
+{
     match act {
         Act::AppendToList => true,
         Act::If { test, .. } | Act::Unless { test, .. } => is_of_attributes(test),
@@ -58,7 +75,9 @@ fn reads_attributes(act: Act) -> bool {
     }
 }
 
-fn is_of_attributes(test: Test) -> bool {
+fn is_of_attributes(test: Test) -> bool
+    ensures { result ≡ is_of_attributes test }
+{
     match test {
         Test::TypeIsHidden | Test::HasFontAttribute => true,
         _ => false,
@@ -68,6 +87,7 @@ fn is_of_attributes(test: Test) -> bool {
 /// What becomes of the token's attributes at an act of a row: they are moved unless a later act reads them.
 fn spending_at(row: Row, at: u32, act: Act) -> Spending
     requires { at < 8 }
+    ensures { leaves_whole act (drop (at + 1) (acts_in row)) ≡ true → gives_away act ≡ true → result ≡ Copies }
 {
     match act {
         Act::Insert => {
@@ -93,32 +113,62 @@ enum Next {
     Again,
 }
 
-/// Carries out the acts of a row in order, and answers whether the token is to be handled again. `depth` says how deep it may
-/// use the rules of other modes.
+/// Carries out the acts of a row in order, and answers whether the token is to be handled again. `present` is the mode in which
+/// the turn began, where the row may use its rules; `depth` says how deep it may use the rules of other modes.
 fn carry_row<'p, B: Below>(
     alloc: Global,
     view: &mut View<'p, B>,
     turn: &mut Turn<'p>,
     row: Row,
+    present: Option<Mode>,
     fostering: bool,
     depth: u32,
-) -> Result<bool, Refusal> {
+) -> Result<bool, Refusal>
+    ensures plan { Comes result (B.heard view.old.below) (B.heard view.new.below) (row_plan depth present fostering turn.old.token 0 0 (acts_in row) (reached view.old turn.old)) turn.new.token (reached view.new turn.new) }
+    ensures left { IfOk result (λ again. again ≡ false → IsLeftOf turn.old.token turn.new.token) }
+{
     let mut at = 0;
     while let Some(act) = row.act(at) {
-        match step(alloc, view, turn, row, at, act, fostering)? {
+        match step(alloc, view, turn, row, at, act, present, fostering)? {
             Next::At(next) => at = next,
             Next::Done => return Ok(false),
             Next::Again => return Ok(true),
             Next::Rules(mode, fostering) => {
+                at += 1;
+                if depth == 0 {
+                    continue;
+                }
                 let used = row_in(mode, &turn.token);
-                if depth > 0 && carry_row(alloc, view, turn, used, fostering, depth - 1)? {
+                if carry_row(alloc, view, turn, used, None, fostering, depth - 1)? {
                     return Ok(true);
                 }
-                at += 1;
             }
         }
     }
     Ok(false)
+}
+
+/// The rules of the mode in which the turn began; where there are none the row goes on.
+fn present_rules(present: Option<Mode>, at: u32) -> Next
+    requires { at < 8 }
+    ensures { result ≡ next_present present at }
+{
+    match present {
+        Some(mode) => Next::Rules(mode, false),
+        None => Next::At(at + 1),
+    }
+}
+
+/// The place behind a test.
+fn behind(at: u32, otherwise: u8, goes_on: bool) -> Next
+    requires { at < 8 }
+    ensures { result ≡ At (if goes_on then at + 1 else otherwise) }
+{
+    if goes_on {
+        Next::At(at + 1)
+    } else {
+        Next::At(u32::from(otherwise))
+    }
 }
 
 /// Carries out the act at a place of a row.
@@ -129,11 +179,16 @@ fn step<'p, B: Below>(
     row: Row,
     at: u32,
     act: Act,
+    present: Option<Mode>,
     fostering: bool,
 ) -> Result<Next, Refusal>
     requires later { goes_later at act ≡ true }
     requires short { at < 8 }
+    requires planned { is_planned act ≡ true }
     ensures later { IfOk result (λ next. GoesLater at next) }
+    ensures goes { IfOk result (λ next. GoesBy act at next) }
+    ensures stays { IfOk result (λ next. Stays (leaves_whole act (drop (at + 1) (acts_in row))) turn.old.token turn.new.token next) }
+    ensures plan { (follow : Bool → Mode → Reached → Plan Came) (go : ℕ → Reached → Plan Came) → Goes result (B.heard view.old.below) (B.heard view.new.below) (act_then follow (present_plan follow present) fostering turn.old.token act at go (reached view.old turn.old)) (λ next. going follow go at (reached view.new turn.new) turn.new.token next) }
 {
     match act {
         Act::Done => Ok(Next::Done),
@@ -144,21 +199,14 @@ fn step<'p, B: Below>(
         }
         Act::As(mode) => Ok(Next::Rules(mode, fostering)),
         Act::AsFostered(mode) => Ok(Next::Rules(mode, true)),
-        Act::AsPresent => Ok(Next::Rules(view.change.mode, fostering)),
-        Act::If { otherwise, .. } | Act::Unless { otherwise, .. } => {
-            let goes_on = carry(
-                alloc,
-                view,
-                act,
-                &mut turn.token,
-                Spending::Copies,
-                fostering,
-            )?;
-            Ok(Next::At(if goes_on {
-                at + 1
-            } else {
-                u32::from(otherwise)
-            }))
+        Act::AsPresent => Ok(present_rules(present, at)),
+        Act::If { test, otherwise } => {
+            let holds = holds(alloc, view, &turn.token, test)?;
+            Ok(behind(at, otherwise, holds))
+        }
+        Act::Unless { test, otherwise } => {
+            let holds = holds(alloc, view, &turn.token, test)?;
+            Ok(behind(at, otherwise, !holds))
         }
         Act::Stop => {
             turn.handled.stopped = true;
@@ -170,14 +218,18 @@ fn step<'p, B: Below>(
         }
         _ => {
             let spending = spending_at(row, at, act);
-            carry_out(alloc, view, act, &mut turn.token, spending, fostering)?;
-            Ok(Next::At(at + 1))
+            match carry_out(alloc, view, act, &mut turn.token, spending, fostering) {
+                Ok(()) => Ok(Next::At(at + 1)),
+                Err(refused) => Err(refused),
+            }
         }
     }
 }
 
 /// Whether the mode is one in which the page's head isn't done yet.
-fn is_of_head(mode: Mode) -> bool {
+fn is_of_head(mode: Mode) -> bool
+    ensures { result ≡ is_head_mode mode }
+{
     match mode {
         Mode::Initial
         | Mode::BeforeHtml
@@ -189,29 +241,43 @@ fn is_of_head(mode: Mode) -> bool {
     }
 }
 
+/// Whether a token would be handled before the page's body, over an unknown older state.
+fn is_early(page: &Option<PageFacts>, mode: Mode) -> bool
+    ensures { result ≡ is_early (page_of page.now) mode }
+{
+    match page {
+        None => is_of_head(mode),
+        Some(_) => false,
+    }
+}
+
 /// Handles the token once, by the rules of foreign content or by those of the mode, and answers whether it is to be handled
 /// again. In the modes up to after head no chunk handles one.
 fn take_turn<'p, B: Below>(
     alloc: Global,
     view: &mut View<'p, B>,
     turn: &mut Turn<'p>,
-) -> Result<bool, Refusal> {
+) -> Result<bool, Refusal>
+    ensures { Comes result (B.heard view.old.below) (B.heard view.new.below) (turn_plan turn.old.token (reached view.old turn.old)) turn.new.token (reached view.new turn.new) }
+{
     let mode = view.change.mode;
-    if view.page.is_none() && is_of_head(mode) {
+    if is_early(&view.page, mode) {
         return Err(Refusal::Crossed(Crossing::X4));
     }
     if goes_to_foreign(alloc, view, &turn.token)? {
         let row = foreign_row(&turn.token);
-        carry_row(alloc, view, turn, row, false, NESTING)
+        carry_row(alloc, view, turn, row, Some(mode), false, NESTING)
     } else {
         let row = row_in(mode, &turn.token);
-        carry_row(alloc, view, turn, row, false, NESTING - 1)
+        carry_row(alloc, view, turn, row, None, false, NESTING - 1)
     }
 }
 
 /// How often one token is handled at most, where so many elements are open.
-fn most_turns(open: usize) -> usize {
-    open.saturating_mul(16).saturating_add(32)
+fn most_turns(elements: usize) -> u128
+    ensures { result ≡ 32 + 16 * elements }
+{
+    32 + 16 * elements as u128
 }
 
 /// Handles a token until no rule asks for it again.
@@ -219,7 +285,9 @@ fn take_turns<'p, B: Below>(
     alloc: Global,
     view: &mut View<'p, B>,
     token: Token<'p>,
-) -> Result<Handled, Refusal> {
+) -> Result<Handled, Refusal>
+    ensures { Handles result (sight B.heard view.old) (sight B.heard view.new) (all_turns_plan token.entry) }
+{
     let mut turn = Turn {
         token,
         handled: NOTHING,
@@ -238,7 +306,9 @@ pub fn handle<'p, B: Below>(
     alloc: Global,
     view: &mut View<'p, B>,
     token: Token<'p>,
-) -> Result<Handled, Refusal> {
+) -> Result<Handled, Refusal>
+    ensures plan { Handles result (sight B.heard view.old) (sight B.heard view.new) (handle_plan token.entry) }
+{
     if !view.change.skip_lf {
         return if is_plain(view, &token) {
             put_plain(alloc, view, token)

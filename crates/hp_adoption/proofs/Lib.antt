@@ -1,2 +1,9 @@
 pub mod Spots
 pub mod Apart
+pub mod Nearest
+pub mod TurnSteps
+pub mod Untangling
+pub mod Renewing
+pub mod Alike
+pub mod Whites
+pub mod Carrying

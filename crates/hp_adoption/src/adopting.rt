@@ -1,6 +1,10 @@
 //! A turn of the adoption agency algorithm that finds a furthest block (13.2.6.4.7).
 ghost use Rattle.std.specs.Prelude.{◌≡◌, ◌+◌, ◌<◌, ◌++◌, ◌∷◌, IfOk, Some, length, take, drop, slice_get};
-ghost use Rattle.hp_control.specs.Adoption.{settled};
+ghost use Rattle.hp_control.specs.Adoption.{pass_all, settled};
+ghost use Rattle.hp_views.specs.View.{sight, Carries};
+ghost use Rattle.hp_adoption.specs.Entries.{ref_of};
+ghost use Rattle.hp_adoption.specs.AdoptPlans.{untangle_at};
+ghost use Rattle.hp_adoption.specs.Turning.{adopted_parts, closed_parts, closing, from_block, with_parts};
 
 use crate::climb::{Climb, own_ref};
 use crate::elements::element_for;
@@ -43,7 +47,9 @@ fn take_apart(
     requires block { tangle.block < tangle.depth }
     requires inside { tangle.depth < length stack.old }
     ensures above { IfOk result (λ over. over.above ≡ take tangle.block (take tangle.depth stack.old)) }
+    ensures block { IfOk result (λ over. slice_get stack.old tangle.block ≡ Some over.block) }
     ensures between { IfOk result (λ over. over.between ≡ drop (tangle.block + 1) (take tangle.depth stack.old)) }
+    ensures rest { IfOk result (λ _. stack.new ≡ drop (tangle.depth + 1) stack.old) }
 {
     let above = stack.lift(alloc, tangle.block)?;
     match stack.pop() {
@@ -114,42 +120,85 @@ fn close(
     Ok(())
 }
 
-ghost use Rattle.hp_adoption.specs.Turning.{closing};
-
 /// Puts edits after others.
-fn note<'p>(alloc: Global, edits: &mut Edits<'p>, more: List<Edit<'p>>) -> Result<(), NoMemory> {
+fn note<'p>(alloc: Global, edits: &mut Edits<'p>, more: List<Edit<'p>>) -> Result<(), NoMemory>
+    ensures { IfOk result (λ _. edits.new ≡ edits.old ++ more.entry) }
+{
     for edit in more {
         edits.push(alloc, edit)?;
     }
     Ok(())
 }
 
-/// What is made of the own stack, which was taken apart, and of the own list; the edits are put after others.
-fn put_together<'p>(
+/// Goes from the block past the nodes between it and the formatting element. The list is spent.
+fn climbed<'p>(
     alloc: Global,
-    change: &mut Change,
-    edits: &mut Edits<'p>,
+    list: &mut Stack<FormattingEntry>,
+    next: u64,
     is_page: bool,
-    place: Place,
-    entry: u64,
-    tag: Tag,
-    over: Over,
-) -> Result<(), NoMemory> {
-    let Over {
-        above,
-        block,
-        between,
-    } = over;
+    block: OpenElement,
+    between: &[OpenElement],
+) -> Result<Climb<'p>, NoMemory>
+    ensures { IfOk result (λ climb. climb ≡ pass_all (ref_of is_page) block.id 0 between.now (from_block block list.old next)) }
+{
     let block_id = block.id;
     let mut climb = Climb {
-        formatting: mem::replace(&mut change.formatting, Stack::new()),
-        next: change.made,
+        formatting: mem::replace(list, Stack::new()),
+        next,
         kept: List::of_one(block),
         last: block_id,
         bookmark: None,
         edits: List::new(),
     };
-    climb.pass_all(alloc, is_page, block_id, between.as_slice())?;
+    climb.pass_all(alloc, is_page, block_id, between)?;
+    Ok(climb)
+}
+
+/// Puts the new element on what was kept of the block and the nodes, and what stood above the block on that.
+fn restack(
+    alloc: Global,
+    stack: &mut Stack<OpenElement>,
+    kept: List<OpenElement>,
+    element: OpenElement,
+    above: List<OpenElement>,
+) -> Result<(), NoMemory>
+    ensures { IfOk result (λ _. stack.new ≡ (above ++ element ∷ kept) ++ stack.old) }
+{
+    stack.pile(alloc, kept)?;
+    stack.push(alloc, element)?;
+    stack.pile(alloc, above)
+}
+
+/// What a turn with a furthest block knows of the formatting element and of where it stood.
+#[derive(Drop)]
+struct Formatted {
+    id: u64,
+    tag: Tag,
+    /// Where the last node goes.
+    place: Place,
+    is_page: bool,
+}
+
+/// The last steps of a turn, from what the climb has made: the stack without its part above the formatting element gets that part
+/// anew, of which `above` is what stood above the block; the edits are put after others.
+fn put_together<'p>(
+    alloc: Global,
+    change: &mut Change,
+    edits: &mut Edits<'p>,
+    element: Formatted,
+    block: u64,
+    above: List<OpenElement>,
+    climb: Climb<'p>,
+) -> Result<(), NoMemory>
+    ensures change { IfOk result (λ _. change.new ≡ with_parts (closed_parts (ref_of element.is_page) element.place element.id element.tag above block climb.entry) change.old) }
+    ensures edits { IfOk result (λ _. edits.new ≡ edits.old ++ (closed_parts (ref_of element.is_page) element.place element.id element.tag above block climb.entry).edits) }
+{
+    let Formatted {
+        id: gone,
+        tag,
+        place,
+        is_page,
+    } = element;
     let Climb {
         mut formatting,
         next: id,
@@ -161,19 +210,40 @@ fn put_together<'p>(
     let Some(next) = id.checked_add(1) else {
         return Err(NoMemory);
     };
-    let element = element_for(alloc, id, &tag)?;
+    let anew = element_for(alloc, id, &tag)?;
     let last = own_ref(is_page, last);
-    let block = own_ref(is_page, block_id);
+    let block = own_ref(is_page, block);
     let own = own_ref(is_page, id);
     close(alloc, &mut made, last, place, block, own, tag.copy(alloc)?)?;
-    let entry_made = FormattingEntry::Element { id, tag };
-    settle(alloc, &mut formatting, bookmark, entry, entry_made)?;
-    change.stack.pile(alloc, kept)?;
-    change.stack.push(alloc, element)?;
-    change.stack.pile(alloc, above)?;
+    let entry = FormattingEntry::Element { id, tag };
+    settle(alloc, &mut formatting, bookmark, gone, entry)?;
+    restack(alloc, &mut change.stack, kept, anew, above)?;
     change.formatting = formatting;
     change.made = next;
     note(alloc, edits, made)
+}
+
+/// The same from the parts of the stack: the climb, and then the last steps.
+fn rebuild<'p>(
+    alloc: Global,
+    change: &mut Change,
+    edits: &mut Edits<'p>,
+    element: Formatted,
+    over: Over,
+) -> Result<(), NoMemory>
+    ensures change { IfOk result (λ _. change.new ≡ with_parts (adopted_parts (ref_of element.is_page) element.place element.id element.tag over.above over.block over.between change.old.formatting change.old.made) change.old) }
+    ensures edits { IfOk result (λ _. edits.new ≡ edits.old ++ (adopted_parts (ref_of element.is_page) element.place element.id element.tag over.above over.block over.between change.old.formatting change.old.made).edits) }
+{
+    let Over {
+        above,
+        block,
+        between,
+    } = over;
+    let block_id = block.id;
+    let list = &mut change.formatting;
+    let is_page = element.is_page;
+    let climb = climbed(alloc, list, change.made, is_page, block, between.as_slice())?;
+    put_together(alloc, change, edits, element, block_id, above, climb)
 }
 
 /// A turn with a furthest block.
@@ -186,19 +256,16 @@ pub fn untangle<'p, B: Below>(
 ) -> Result<(), Refusal>
     requires block { tangle.block < tangle.depth }
     requires inside { tangle.depth < length view.old.change.stack }
+    ensures { Carries result (sight B.heard view.old) (sight B.heard view.new) (untangle_at fostering tangle.id tag tangle.depth tangle.block) }
 {
     let over = take_apart(alloc, &mut view.change.stack, tangle)?;
     let place = view.place(alloc, fostering)?;
-    let is_page = view.page.is_some();
-    put_together(
-        alloc,
-        &mut view.change,
-        &mut view.edits,
-        is_page,
-        place,
-        tangle.id,
+    let element = Formatted {
+        id: tangle.id,
         tag,
-        over,
-    )?;
+        place,
+        is_page: view.page.is_some(),
+    };
+    rebuild(alloc, &mut view.change, &mut view.edits, element, over)?;
     Ok(())
 }

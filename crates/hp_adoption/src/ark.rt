@@ -1,6 +1,7 @@
 //! An element put into the list of active formatting elements (13.2.4.3).
 ghost use Rattle.std.specs.Prelude.{◌≡◌, ◌<◌, ◌^◌, IfOk};
-ghost use Rattle.hp_adoption.specs.ArkPlans.{tally as spec_tally};
+ghost use Rattle.hp_views.specs.View.{sight, Carries, Knows};
+ghost use Rattle.hp_adoption.specs.ArkPlans.{tally as spec_tally, older_equals as spec_older_equals, room_with, room_plan, append_to_list_plan};
 
 use hp_control::{Below, Crossing, FormattingEntry, Refusal, Stack, same_tag};
 use hp_elements::{NoMemory, Tag};
@@ -63,7 +64,9 @@ fn older_equals<'p, B: Below>(
     alloc: Global,
     view: &mut View<'p, B>,
     tag: &Tag,
-) -> Result<u64, NoMemory> {
+) -> Result<u64, NoMemory>
+    ensures { Knows result (sight B.heard view.old) (sight B.heard view.new) (λ v. spec_older_equals v.page v.change.cuts tag.now) }
+{
     match view.page {
         Some(_) => Ok(0),
         None => {
@@ -79,7 +82,9 @@ fn make_room_by<'p, B: Below>(
     view: &mut View<'p, B>,
     own: Equal,
     older: u64,
-) -> Result<(), Refusal> {
+) -> Result<(), Refusal>
+    ensures { Carries result (sight B.heard view.old) (sight B.heard view.new) (λ v. room_with own v older) }
+{
     if older < MOST.saturating_sub(own.count) {
         return Ok(());
     }
@@ -90,11 +95,9 @@ fn make_room_by<'p, B: Below>(
 }
 
 /// Of three entries that are equal to the tag the earliest goes.
-fn make_room<'p, B: Below>(
-    alloc: Global,
-    view: &mut View<'p, B>,
-    tag: &Tag,
-) -> Result<(), Refusal> {
+fn make_room<'p, B: Below>(alloc: Global, view: &mut View<'p, B>, tag: &Tag) -> Result<(), Refusal>
+    ensures { Carries result (sight B.heard view.old) (sight B.heard view.new) (room_plan tag.now) }
+{
     let own = equal_entries(&view.change.formatting, tag);
     if own.ended {
         make_room_by(alloc, view, own, 0)
@@ -110,7 +113,9 @@ pub fn append_to_list<'p, B: Below>(
     alloc: Global,
     view: &mut View<'p, B>,
     tag: Tag,
-) -> Result<(), Refusal> {
+) -> Result<(), Refusal>
+    ensures { Carries result (sight B.heard view.old) (sight B.heard view.new) (append_to_list_plan tag) }
+{
     make_room(alloc, view, &tag)?;
     view.append_entry(alloc, tag)
 }

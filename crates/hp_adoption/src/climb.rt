@@ -1,12 +1,15 @@
 //! The way from the furthest block up to the formatting element (13.2.6.4.7, the inner loop).
-ghost use Rattle.std.specs.Prelude.{◌≡◌, IfOk};
-ghost use Rattle.hp_adoption.specs.Entries.{ref_of};
+ghost use Rattle.std.specs.Prelude.{◌≡◌, ◌++◌, IfOk};
+ghost use Rattle.hp_control.specs.Adoption.{pass_listed, pass_all, renewed, find_id};
+ghost use Rattle.hp_adoption.specs.Entries.{ref_of, tag_of};
+ghost use Rattle.hp_adoption.specs.Turning.{renewing, marked as spec_marked};
 
 use crate::elements::element_for;
 use crate::entries::{strike, supplant};
 use hp_control::{Child, Edit, FormattingEntry, OpenElement, Place, Ref, Stack};
 use hp_elements::{List, NoMemory, Tag};
 use std::alloc::Global;
+use std::marker::Model;
 
 /// How many nodes of a turn are made anew.
 const RENEWED: usize = 3;
@@ -37,8 +40,16 @@ pub struct Climb<'p> {
     pub edits: List<Edit<'p>>,
 }
 
+impl<'p> Model for Climb<'p> {
+    ghost use Rattle.hp_control.specs.Adoption.{Climbed};
+
+    ghost Value = { Climbed };
+
+    ghost view = { λ k. record { formatting = k.formatting; next = k.next; kept = k.kept; last = k.last; bookmark = k.bookmark; edits = k.edits } };
+}
+
 impl<'p> Climb<'p> {
-    /// A new element of the tag takes the place of the node, whose entry has that depth, and the last node goes into it.
+    /// A new element of the tag takes the place of the node, and the last node goes into it.
     fn renew(
         &mut self,
         alloc: Global,
@@ -46,32 +57,28 @@ impl<'p> Climb<'p> {
         block: u64,
         node: u64,
         tag: Tag,
-    ) -> Result<(), NoMemory> {
+    ) -> Result<(), NoMemory>
+        ensures { IfOk result (λ _. self.new ≡ renewed (ref_of is_page) block node tag self.old) }
+    {
         let id = self.next;
         let Some(next) = id.checked_add(1) else {
             return Err(NoMemory);
         };
         let element = element_for(alloc, id, &tag)?;
         self.kept.push(alloc, element)?;
-        let copy = tag.copy(alloc)?;
-        supplant(
-            &mut self.formatting,
-            node,
-            FormattingEntry::Element { id, tag },
-        );
-        let child = Child::Element(own_ref(is_page, self.last));
-        let place = Place::Into(own_ref(is_page, id));
-        self.edits.push(alloc, Edit::NewElement { tag: copy })?;
-        self.edits.push(alloc, Edit::Put { child, place })?;
-        if self.last == block {
-            self.bookmark = Some(id);
-        }
+        let last = own_ref(is_page, self.last);
+        let made = own_ref(is_page, id);
+        note_renewed(alloc, &mut self.edits, last, made, tag.copy(alloc)?)?;
+        let entry = FormattingEntry::Element { id, tag };
+        supplant(&mut self.formatting, node, entry);
+        self.bookmark = marked(self.last, block, id, self.bookmark);
         self.last = id;
         self.next = next;
         Ok(())
     }
 
     /// Goes past the node of this id, the turn's `count`th.
+    #[tactic(auto, using(crate::proofs::Spots::passed_none, crate::proofs::Spots::passed_new, crate::proofs::Spots::passed_late))]
     fn pass(
         &mut self,
         alloc: Global,
@@ -79,7 +86,9 @@ impl<'p> Climb<'p> {
         block: u64,
         count: usize,
         node: u64,
-    ) -> Result<(), NoMemory> {
+    ) -> Result<(), NoMemory>
+        ensures { IfOk result (λ _. self.new ≡ pass_listed (ref_of is_page) block count node (find_id node self.old.formatting) self.old) }
+    {
         if count > RENEWED {
             strike(&mut self.formatting, node);
             return Ok(());
@@ -97,12 +106,42 @@ impl<'p> Climb<'p> {
         is_page: bool,
         block: u64,
         nodes: &[OpenElement],
-    ) -> Result<(), NoMemory> {
+    ) -> Result<(), NoMemory>
+        ensures { IfOk result (λ _. self.new ≡ pass_all (ref_of is_page) block 0 nodes.now self.old) }
+    {
         for index in 0..nodes.len() {
             self.pass(alloc, is_page, block, index + 1, nodes[index].id)?;
         }
         Ok(())
     }
+}
+
+/// The edits of a node that is made anew.
+fn note_renewed(
+    alloc: Global,
+    edits: &mut List<Edit<'_>>,
+    last: Ref,
+    made: Ref,
+    tag: Tag,
+) -> Result<(), NoMemory>
+    ensures { IfOk result (λ _. edits.new ≡ edits.old ++ renewing last made tag) }
+{
+    edits.push(alloc, Edit::NewElement { tag })?;
+    edits.push(
+        alloc,
+        Edit::Put {
+            child: Child::Element(last),
+            place: Place::Into(made),
+        },
+    )?;
+    Ok(())
+}
+
+/// The entry that the bookmark is after, once a node after the last one is made anew.
+fn marked(last: u64, block: u64, made: u64, bookmark: Option<u64>) -> Option<u64>
+    ensures { result ≡ spec_marked last block made bookmark }
+{
+    if last == block { Some(made) } else { bookmark }
 }
 
 /// The tag of the entry of this id.
@@ -118,5 +157,3 @@ fn find_tag(alloc: Global, list: &Stack<FormattingEntry>, id: u64) -> Result<Opt
     }
     Ok(None)
 }
-
-ghost use Rattle.hp_adoption.specs.Entries.{tag_of};

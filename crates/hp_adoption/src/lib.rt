@@ -7,6 +7,7 @@ mod ark;
 mod climb;
 mod elements;
 mod entries;
+mod laws;
 mod links;
 mod pending;
 mod plain;
@@ -14,6 +15,7 @@ mod reconstruction;
 mod turns;
 
 pub use ark::append_to_list;
+pub use laws::{adoption_means, append_to_list_means, flush_means, reconstruct_means};
 pub use links::close_link;
 pub use pending::flush;
 pub use plain::adopt;

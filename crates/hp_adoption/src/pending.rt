@@ -1,6 +1,9 @@
 //! The pending table characters go into the tree (13.2.6.4.10).
 ghost use Rattle.std.specs.Prelude.{◌≡◌};
+ghost use Rattle.std.specs.List.{list_all};
 ghost use Rattle.hp_control.specs.Composed.{is_white as spec_is_white};
+ghost use Rattle.hp_views.specs.View.{sight, Carries};
+ghost use Rattle.hp_adoption.specs.FlushPlans.{fostered_text, foster_text, flush_text, flush_plan};
 
 use crate::reconstruction::reconstruct;
 use hp_control::{Below, Child, Crossing, Refusal};
@@ -20,19 +23,39 @@ fn is_white(c: char) -> bool
 }
 
 /// Whether all characters are white.
-fn are_white(text: &Text<'_>) -> bool {
-    text.as_str().chars().all(is_white)
+fn are_white(text: &Text<'_>) -> bool
+    ensures { result ≡ list_all spec_is_white text.now }
+{
+    for c in text.as_str().chars() {
+        if !is_white(c) {
+            return false;
+        }
+    }
+    true
 }
 
-/// Puts the characters where content goes that may not stand in a table.
+/// Puts the characters where content goes that may not stand in a table, and a frameset may no longer replace the body.
+fn put_fostered<'p, B: Below>(
+    alloc: Global,
+    view: &mut View<'p, B>,
+    text: Text<'p>,
+) -> Result<(), Refusal>
+    ensures { Carries result (sight B.heard view.old) (sight B.heard view.new) (fostered_text text.entry) }
+{
+    view.put(alloc, true, Child::Text(text))?;
+    view.frameset_not_ok(alloc)
+}
+
+/// The same, after a reconstruction.
 fn foster<'p, B: Below>(
     alloc: Global,
     view: &mut View<'p, B>,
     text: Text<'p>,
-) -> Result<(), Refusal> {
+) -> Result<(), Refusal>
+    ensures { Carries result (sight B.heard view.old) (sight B.heard view.new) (foster_text text.entry) }
+{
     reconstruct(alloc, view, true)?;
-    view.put(alloc, true, Child::Text(text))?;
-    view.frameset_not_ok(alloc)
+    put_fostered(alloc, view, text)
 }
 
 /// Puts characters into the tree.
@@ -40,7 +63,9 @@ fn put_text<'p, B: Below>(
     alloc: Global,
     view: &mut View<'p, B>,
     text: Text<'p>,
-) -> Result<(), Refusal> {
+) -> Result<(), Refusal>
+    ensures { Carries result (sight B.heard view.old) (sight B.heard view.new) (flush_text text.entry) }
+{
     if text.is_empty() {
         Ok(())
     } else if are_white(&text) {
@@ -52,7 +77,9 @@ fn put_text<'p, B: Below>(
 
 /// Puts the pending table characters into the tree: at the current node where all are white, and else where content goes that may
 /// not stand in a table. They are one text. Where the chunk began among them, it crosses.
-pub fn flush<'p, B: Below>(alloc: Global, view: &mut View<'p, B>) -> Result<(), Refusal> {
+pub fn flush<'p, B: Below>(alloc: Global, view: &mut View<'p, B>) -> Result<(), Refusal>
+    ensures { Carries result (sight B.heard view.old) (sight B.heard view.new) flush_plan }
+{
     if view.older_text {
         return Err(Refusal::Crossed(Crossing::X7));
     }

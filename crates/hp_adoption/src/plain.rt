@@ -1,8 +1,12 @@
 //! The adoption agency algorithm (13.2.6.4.7).
-ghost use Rattle.std.specs.Prelude.{◌≡◌};
+ghost use Rattle.std.specs.Prelude.{◌≡◌, ◌&&◌};
+ghost use Rattle.std.specs.Str.{bytes_eq};
+ghost use Rattle.hp_control.specs.States.{is_html};
+ghost use Rattle.hp_views.specs.View.{sight, Answers, Carries};
+ghost use Rattle.hp_adoption.specs.AdoptPlans.{plain_below, is_plain_plan, adopt_plan};
 
 use crate::turns::turns;
-use hp_control::{Below, Refusal, is_html};
+use hp_control::{Below, OpenElement, Refusal, is_html};
 use hp_elements::{Kinds, Name};
 use hp_views::{View, older_listed};
 use std::alloc::Global;
@@ -12,13 +16,27 @@ fn is_plain<'p, B: Below>(
     alloc: Global,
     view: &mut View<'p, B>,
     name: &Name,
-) -> Result<bool, Refusal> {
+) -> Result<bool, Refusal>
+    ensures { Answers result (sight B.heard view.old) (sight B.heard view.new) (is_plain_plan name.now) }
+{
     if view.change.stack.is_empty() {
         return is_plain_below(alloc, view, name);
     }
     let top = view.change.stack.at(0);
-    let is_named = is_html(top) && name.same(&top.name);
-    Ok(is_named && !view.has_entry(top.id))
+    Ok(is_of_name(top, name) && !view.has_entry(top.id))
+}
+
+/// Whether the element is an HTML one of that name.
+fn is_of_name(element: &OpenElement, name: &Name) -> bool
+    ensures { result ≡ (is_html element.now && bytes_eq name.now element.now.name) }
+{
+    is_html(element) && same_name(name, &element.name)
+}
+
+fn same_name(name: &Name, other: &Name) -> bool
+    ensures { result ≡ bytes_eq name.now other.now }
+{
+    name.same(other)
 }
 
 /// The same of the older current node.
@@ -26,7 +44,9 @@ fn is_plain_below<'p, B: Below>(
     alloc: Global,
     view: &mut View<'p, B>,
     name: &Name,
-) -> Result<bool, Refusal> {
+) -> Result<bool, Refusal>
+    ensures { Answers result (sight B.heard view.old) (sight B.heard view.new) (plain_below name.now) }
+{
     if !view.current_is(alloc, Kinds::Html(name.copy(alloc)?))? {
         return Ok(false);
     }
@@ -43,7 +63,9 @@ pub fn adopt<'p, B: Below>(
     view: &mut View<'p, B>,
     fostering: bool,
     name: Name,
-) -> Result<(), Refusal> {
+) -> Result<(), Refusal>
+    ensures { Carries result (sight B.heard view.old) (sight B.heard view.new) (adopt_plan fostering name) }
+{
     if is_plain(alloc, view, &name)? {
         view.pop(alloc)
     } else {

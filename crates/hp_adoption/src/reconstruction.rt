@@ -1,10 +1,11 @@
 //! Reconstruction of the active formatting elements (13.2.4.3).
-ghost use Rattle.std.specs.Prelude.{◌≡◌, IfOk};
+ghost use Rattle.std.specs.Prelude.{◌≡◌};
+ghost use Rattle.hp_views.specs.View.{sight, Carries};
 ghost use Rattle.hp_views.specs.Walks.{IsWithin};
-ghost use Rattle.hp_adoption.specs.ReconPlans.{is_settled as spec_is_settled, stale_walk as spec_stale_walk};
+ghost use Rattle.hp_adoption.specs.ReconPlans.{is_settled as spec_is_settled, stale_walk as spec_stale_walk, renew_plan, renew_down_plan, reconstruct_plan};
 
+use crate::elements::point_of;
 use hp_control::{Below, Change, Crossing, FormattingEntry, OpenElement, Refusal, Stack};
-use hp_elements::{Namespace, NoMemory, Point, Tag};
 use hp_views::{View, Walk, older_quiet, open_walk};
 use std::alloc::Global;
 
@@ -44,13 +45,16 @@ fn stale_walk(change: &Change) -> Walk
     Walk::PastAll
 }
 
-/// Makes the element of an own entry anew. It is an HTML element, as each element of the list is.
+/// Makes the element of an own entry anew.
+#[tactic(auto, using(crate::proofs::Renewing::got, crate::proofs::Renewing::put_back, crate::proofs::Renewing::past_end, crate::proofs::Renewing::set_twice))]
 fn renew<'p, B: Below>(
     alloc: Global,
     view: &mut View<'p, B>,
     fostering: bool,
     depth: usize,
-) -> Result<(), Refusal> {
+) -> Result<(), Refusal>
+    ensures { Carries result (sight B.heard view.old) (sight B.heard view.new) (renew_plan fostering depth) }
+{
     if depth >= view.change.formatting.len() {
         return Ok(());
     }
@@ -62,31 +66,14 @@ fn renew<'p, B: Below>(
         FormattingEntry::Marker => Ok(()),
         FormattingEntry::Element { tag, .. } => {
             let id = view.change.made;
-            let copy = html_tag(alloc, &tag)?;
-            let entry = FormattingEntry::Element { id, tag };
+            let copy = tag.copy(alloc)?;
+            let point = point_of(alloc, &tag)?;
+            let entry = FormattingEntry::Element { id, tag: copy };
             let _ = view.change.formatting.replace(depth, entry);
-            view.insert(alloc, fostering, copy, Point::No)
+            view.insert(alloc, fostering, tag, point)
         }
     }
 }
-
-/// The HTML tag of the same name and attributes.
-fn html_tag(alloc: Global, tag: &Tag) -> Result<Tag, NoMemory>
-    ensures { IfOk result (λ copy. copy.namespace ≡ Html) }
-{
-    let Tag {
-        namespace: _,
-        name,
-        attributes,
-    } = tag.copy(alloc)?;
-    Ok(Tag {
-        namespace: Namespace::Html,
-        name,
-        attributes,
-    })
-}
-
-ghost use Rattle.hp_elements.specs.declared.sets.Namespace.TheVariants.{Html};
 
 /// Makes the elements of so many own entries anew, the last entry's last.
 fn renew_down<'p, B: Below>(
@@ -94,7 +81,9 @@ fn renew_down<'p, B: Below>(
     view: &mut View<'p, B>,
     fostering: bool,
     count: usize,
-) -> Result<(), Refusal> {
+) -> Result<(), Refusal>
+    ensures { Carries result (sight B.heard view.old) (sight B.heard view.new) (renew_down_plan fostering count) }
+{
     for turn in 0..count {
         renew(alloc, view, fostering, count - 1 - turn)?;
     }
@@ -107,7 +96,9 @@ pub fn reconstruct<'p, B: Below>(
     alloc: Global,
     view: &mut View<'p, B>,
     fostering: bool,
-) -> Result<(), Refusal> {
+) -> Result<(), Refusal>
+    ensures { Carries result (sight B.heard view.old) (sight B.heard view.new) (reconstruct_plan fostering) }
+{
     match stale_walk(&view.change) {
         Walk::Found(count) => renew_down(alloc, view, fostering, count),
         Walk::Stopped => reconstruct_below(alloc, view, fostering),
@@ -120,7 +111,9 @@ fn reconstruct_below<'p, B: Below>(
     alloc: Global,
     view: &mut View<'p, B>,
     fostering: bool,
-) -> Result<(), Refusal> {
+) -> Result<(), Refusal>
+    ensures { Carries result (sight B.heard view.old) (sight B.heard view.new) (recon_below fostering) }
+{
     let depth = view.change.popped;
     let cuts = view.change.cuts;
     if older_quiet(&mut view.below, alloc, depth, cuts)? {
@@ -130,3 +123,5 @@ fn reconstruct_below<'p, B: Below>(
         Err(Refusal::Crossed(Crossing::X2))
     }
 }
+
+ghost use Rattle.hp_adoption.specs.ReconPlans.{recon_below};

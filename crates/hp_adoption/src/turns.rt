@@ -1,5 +1,13 @@
 //! The turns of the adoption agency algorithm (13.2.6.4.7).
-ghost use Rattle.std.specs.Prelude.{◌+◌, ◌^◌, ◌<◌, ◌≤◌, length, IfSome};
+ghost use Rattle.std.specs.Prelude.{◌≡◌, ◌+◌, ◌^◌, ◌<◌, ◌≤◌, length, slice_get, take, IfSome};
+ghost use Rattle.std.specs.List.{list_any};
+ghost use Rattle.hp_control.specs.Adoption.{hides as spec_hides, furthest as spec_furthest};
+ghost use Rattle.hp_control.specs.KindTests.{within};
+ghost use Rattle.hp_views.specs.View.{sight, Carries};
+ghost use Rattle.hp_views.specs.Walks.{id_walk};
+ghost use Rattle.hp_views.specs.declared.walks.Walk.TheVariants.{Found};
+ghost use Rattle.hp_adoption.specs.AdoptPlans.{own_turn, entry_turn, walk_turn, older_turn, kind_turn, turn_plan, turns_plan};
+ghost use Rattle.hp_adoption.specs.Turning.{Turns, last_within, seat_depth};
 
 use crate::adopting::{Tangle, untangle};
 use crate::entries::strike;
@@ -10,32 +18,49 @@ use hp_elements::{Kinds, Name, SetName, Tag};
 use hp_views::{View, Walk, name_walk, older_listed, open_walk};
 use std::alloc::Global;
 
-/// Whether an end of a scope stands above that depth.
-fn hides(stack: &Stack<OpenElement>, depth: usize) -> bool
+/// Whether an element of these kinds stands above that depth.
+fn is_above(kinds: &Kinds, stack: &Stack<OpenElement>, depth: usize) -> bool
     requires { depth ≤ length stack.now }
+    ensures { result ≡ list_any (within kinds.now) (take depth stack.now) }
 {
-    let ends = Kinds::Set(SetName::DefaultScopeEnds);
     for above in 0..depth {
-        if is_within(&ends, stack.at(above)) {
+        if is_within(kinds, stack.at(above)) {
             return true;
         }
     }
     false
 }
 
-/// The depth of the special element above that depth that is nearest to it.
-fn furthest(stack: &Stack<OpenElement>, depth: usize) -> Option<usize>
+/// Whether an end of a scope stands above that depth.
+fn hides(stack: &Stack<OpenElement>, depth: usize) -> bool
     requires { depth ≤ length stack.now }
-    ensures { IfSome result (λ block. block < depth) }
+    ensures { result ≡ spec_hides (take depth stack.now) }
 {
-    let special = Kinds::Set(SetName::Special);
+    is_above(&Kinds::Set(SetName::DefaultScopeEnds), stack, depth)
+}
+
+/// The depth of the element of these kinds above that depth that is nearest to it.
+fn last_above(kinds: &Kinds, stack: &Stack<OpenElement>, depth: usize) -> Option<usize>
+    requires { depth ≤ length stack.now }
+    ensures found { result ≡ last_within (within kinds.now) (take depth stack.now) }
+    ensures above { IfSome result (λ block. block < depth) }
+{
     for turn in 0..depth {
         let above = depth - 1 - turn;
-        if is_within(&special, stack.at(above)) {
+        if is_within(kinds, stack.at(above)) {
             return Some(above);
         }
     }
     None
+}
+
+/// The depth of the special element above that depth that is nearest to it.
+fn furthest(stack: &Stack<OpenElement>, depth: usize) -> Option<usize>
+    requires { depth ≤ length stack.now }
+    ensures found { result ≡ seat_depth (spec_furthest (take depth stack.now)) }
+    ensures above { IfSome result (λ block. block < depth) }
+{
+    last_above(&Kinds::Set(SetName::Special), stack, depth)
 }
 
 /// A turn whose formatting element is an own one.
@@ -45,7 +70,9 @@ fn turn_own<'p, B: Below>(
     fostering: bool,
     id: u64,
     tag: Tag,
-) -> Result<bool, Refusal> {
+) -> Result<bool, Refusal>
+    ensures { Turns result (sight B.heard view.old) (sight B.heard view.new) (λ v. own_turn fostering id tag v (id_walk id v.change.stack)) }
+{
     match open_walk(&view.change.stack, id) {
         Walk::Found(depth) => turn_open(alloc, view, fostering, id, tag, depth),
         Walk::Stopped => {
@@ -70,6 +97,7 @@ fn turn_open<'p, B: Below>(
 ) -> Result<bool, Refusal>
     requires inside { depth < length view.old.change.stack }
     requires small { depth + 1 < 2 ^ 64 }
+    ensures { Turns result (sight B.heard view.old) (sight B.heard view.new) (λ v. own_turn fostering id tag v (Found depth)) }
 {
     if hides(&view.change.stack, depth) {
         return Ok(false);
@@ -95,6 +123,7 @@ fn turn_entry<'p, B: Below>(
     at: usize,
 ) -> Result<bool, Refusal>
     requires { at < length view.old.change.formatting }
+    ensures { Turns result (sight B.heard view.old) (sight B.heard view.new) (λ v. entry_turn fostering v (slice_get v.change.formatting at)) }
 {
     match view.change.formatting.at(at) {
         FormattingEntry::Marker => Ok(false),
@@ -111,7 +140,9 @@ fn turn_older<'p, B: Below>(
     alloc: Global,
     view: &mut View<'p, B>,
     name: &Name,
-) -> Result<bool, Refusal> {
+) -> Result<bool, Refusal>
+    ensures { Turns result (sight B.heard view.old) (sight B.heard view.new) (older_turn name.now) }
+{
     let depth = view.change.popped;
     let cuts = view.change.cuts;
     let standing = older_listed(&mut view.below, alloc, depth, cuts, name.copy(alloc)?)?;
@@ -124,7 +155,9 @@ fn turn_by<'p, B: Below>(
     view: &mut View<'p, B>,
     name: &Name,
     kind: EntryKind,
-) -> Result<bool, Refusal> {
+) -> Result<bool, Refusal>
+    ensures { Turns result (sight B.heard view.old) (sight B.heard view.new) (λ v. kind_turn name.now v kind) }
+{
     match kind {
         EntryKind::Absent => walk(alloc, view, name),
         EntryKind::Closed => Err(Refusal::Crossed(Crossing::X1)),
@@ -140,7 +173,9 @@ fn turn_by<'p, B: Below>(
 }
 
 /// What an end tag does that no row names.
-fn walk<'p, B: Below>(alloc: Global, view: &mut View<'p, B>, name: &Name) -> Result<bool, Refusal> {
+fn walk<'p, B: Below>(alloc: Global, view: &mut View<'p, B>, name: &Name) -> Result<bool, Refusal>
+    ensures { Turns result (sight B.heard view.old) (sight B.heard view.new) (walk_turn name.now) }
+{
     view.walk(alloc, name.copy(alloc)?)?;
     Ok(false)
 }
@@ -151,7 +186,9 @@ fn turn<'p, B: Below>(
     view: &mut View<'p, B>,
     fostering: bool,
     name: &Name,
-) -> Result<bool, Refusal> {
+) -> Result<bool, Refusal>
+    ensures { Turns result (sight B.heard view.old) (sight B.heard view.new) (turn_plan fostering name.now) }
+{
     match name_walk(&view.change.formatting, name) {
         Walk::Found(at) => turn_entry(alloc, view, fostering, at),
         Walk::Stopped => walk(alloc, view, name),
@@ -165,10 +202,14 @@ pub fn turns<'p, B: Below>(
     view: &mut View<'p, B>,
     fostering: bool,
     name: &Name,
-) -> Result<(), Refusal> {
+) -> Result<(), Refusal>
+    ensures { Carries result (sight B.heard view.old) (sight B.heard view.new) (turns_plan 8 fostering name.now) }
+{
     for _turn in 0..8usize {
-        if !turn(alloc, view, fostering, name)? {
-            return Ok(());
+        match turn(alloc, view, fostering, name) {
+            Ok(true) => {}
+            Ok(false) => return Ok(()),
+            Err(refusal) => return Err(refusal),
         }
     }
     Ok(())

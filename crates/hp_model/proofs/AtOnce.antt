@@ -14,6 +14,7 @@ use Rattle.hp_control.specs.declared.edit.Edit.{Edit}
 use Rattle.hp_control.specs.States.{ControlState, IsFormatting, IsValid}
 use Rattle.hp_control.specs.Tree.{applied_all}
 use Rattle.hp_model.specs.AtOnce.{LeaveSame, MakeSame, after_first, built_at_once, handle_at_once, handle_rest}
+use Rattle.hp_model.specs.Growth.{steps_left}
 use Rattle.hp_model.specs.Handling.{all_turns, bound, handle, handle_piece, settled}
 use Rattle.hp_model.specs.Rows.{entering, turn}
 use Rattle.hp_model.specs.Runs.{AreRead, Built, Parser, built, switched, told}
@@ -98,7 +99,7 @@ parted_here n class a b c man f e here there =
       switch = refl;
     }
 
-parted_later : (n : ℕ) (class : CharClass) (a b : List ℕ) (c : ControlState) (h : HandsOn class c (λ text. turn (token.Characters class text) c)) → Parted n class a b (left_by h.first) → Parted (suc n) class a b c
+parted_later : (n : ℕ) (class : CharClass) (a b : List ℕ) (c : ControlState) (h : HandsOn (steps_left c.mode) class c (λ text. turn (token.Characters class text) c)) → Parted n class a b (left_by h.first) → Parted (suc n) class a b c
 parted_later n class a b c h p = record {
   first = joined h.first p.first;
   second = p.second;
@@ -121,12 +122,12 @@ parted : (n : ℕ) (class : CharClass) (a b : List ℕ) (c : ControlState) → A
 parted zero class a b c f s = absurd (true≢false (sym s))
 parted (suc n) class a b c f s = go (manner class c.mode c.stack) refl (turn_deals class c) (parted n class a b)
   where
-    there : (man : Manner) → manner class c.mode c.stack ≡ man → DealsAfter (entering (carried man a c).control) class (carried man a c).control man (λ text. turn (token.Characters class text) (carried man a c).control)
+    there : (man : Manner) → manner class c.mode c.stack ≡ man → DealsAfter (steps_left (carried man a c).control.mode) (entering (carried man a c).control) class (carried man a c).control man (λ text. turn (token.Characters class text) (carried man a c).control)
     there man e =
         let d : ControlState = (carried man a c).control in
-        subst (λ x. DealsAfter (entering d) class d x (λ text. turn (token.Characters class text) d)) (stays class man a c f e).manner (turn_deals class d)
+        subst (λ x. DealsAfter (steps_left d.mode) (entering d) class d x (λ text. turn (token.Characters class text) d)) (stays class man a c f e).manner (turn_deals class d)
 
-    go : (man : Manner) → manner class c.mode c.stack ≡ man → DealsAfter (entering c) class c man (λ text. turn (token.Characters class text) c)
+    go : (man : Manner) → manner class c.mode c.stack ≡ man → DealsAfter (steps_left c.mode) (entering c) class c man (λ text. turn (token.Characters class text) c)
         → ((d : ControlState) → All IsFormatting d.formatting → IsSome (turns turn n (token.Characters class a) d) → Parted n class a b d)
         → Parted (suc n) class a b c
     go drops e d rest = parted_here n class a b c drops f e d (there drops e)

@@ -21,3 +21,8 @@ pub mod Reconstructed
 pub mod Manners
 pub mod Together
 pub mod AtOnce
+pub mod Costs
+pub mod Bills
+pub mod Billing
+pub mod Growing
+pub mod RunGrowth

@@ -73,7 +73,7 @@ runs-join rules steady old mid new a b es fs f g =
       rests = g.rests;
     }
 
-goes-same : (p q : Parser) (es fs : List Edit) → goes p es ≡ goes q fs → (p ≡ q) × (es ≡ fs)
+pub goes-same : (p q : Parser) (es fs : List Edit) → goes p es ≡ goes q fs → (p ≡ q) × (es ≡ fs)
 goes-same p q es fs e = (cc, cc)
 
 one_way : {next : Parser → Step} {p q r : Parser} {es fs : List Edit} → Goes next p es q → Rests next q → Goes next p fs r → Rests next r → (es ≡ fs) × (q ≡ r)
@@ -119,7 +119,7 @@ built-valid : (es : List Emitted) (p : Parser) → AreRead es → IsValid p.cont
 built-valid [] p read v = v
 built-valid (e ∷ es) p read v = built-valid es (told p (handle p.control e.token)) read.1 (handle-valid e.token p.control read.0 v)
 
-goes_valid : (p q : Parser) (es : List Edit) (m : Move) → ((l : Lexing) (ts : List Emitted) → m ≡ makes l ts → AreRead ts) → step_by p m ≡ goes q es → IsValid p.control → IsValid q.control
+pub goes_valid : (p q : Parser) (es : List Edit) (m : Move) → ((l : Lexing) (ts : List Emitted) → m ≡ makes l ts → AreRead ts) → step_by p m ≡ goes q es → IsValid p.control → IsValid q.control
 goes_valid p q es needs_more read e v = absurd (cc)
 goes_valid p q es (asks_cdata foreign html) read e v =
     subst (λ (x : Parser). IsValid x.control) (goes-same (at_lexing p (if is_foreign_now p.control then foreign else html)) q [] es e).0 v

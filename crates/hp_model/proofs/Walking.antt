@@ -36,7 +36,7 @@ use Rattle.hp_model.proofs.Courses.{seen-any}
 use Rattle.hp_model.proofs.Following.{act_along}
 use Rattle.hp_model.proofs.Passes.{Rank, again_passes, act_passes, plan_passes, rules_pass}
 
-read_tag : (t : Token) → IsRead t → (tag_of t).namespace ≡ Html
+pub read_tag : (t : Token) → IsRead t → (tag_of t).namespace ≡ Html
 read_tag (token.Start self_closing tag) h = h
 read_tag (token.EndTag name) h = refl
 read_tag _ h = refl

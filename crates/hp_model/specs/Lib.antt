@@ -9,3 +9,4 @@ pub mod Laws
 pub mod Whole
 pub mod Runs
 pub mod AtOnce
+pub mod Growth

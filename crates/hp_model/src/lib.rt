@@ -4,6 +4,7 @@
 
 ghost use Rattle.hp_model.specs.AtOnce.{BuiltAtOnce, RunsAtOnce};
 ghost use Rattle.hp_model.specs.Examples.{Examples};
+ghost use Rattle.hp_model.specs.Growth.{BuiltGrows};
 ghost use Rattle.hp_model.specs.Laws.{ForeignByActs, ModeByActs};
 ghost use Rattle.hp_model.specs.Runs.{OneRun, OneTree, RunsJoin, RunsStayValid};
 ghost use Rattle.hp_model.specs.Whole.{ActsFind, HandedOn, StaysValid, TurnsEnd};
@@ -42,4 +43,10 @@ pub fn runs()
 pub fn at_once()
     ensures token { RunsAtOnce }
     ensures tokens { BuiltAtOnce }
+{}
+
+/// What tokens make at most: characters bring no entry of the formatting list and use no ids but those that wait for them; each
+/// other token inside a page brings at most one entry, and uses so many ids.
+pub fn growth()
+    ensures { BuiltGrows }
 {}

@@ -7,6 +7,8 @@ mod pile;
 mod prescan;
 mod quiet;
 mod tags;
+#[cfg(test)]
+mod tests;
 
 pub use hp_elements::NoMemory;
 pub use prescan::Prescan;

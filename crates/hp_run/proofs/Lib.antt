@@ -4,3 +4,14 @@ pub mod RawRows
 pub mod MarkupRows
 pub mod TableRows
 pub mod Existing
+pub mod SparseRows
+pub mod SparseTagRows
+pub mod SparseRawRows
+pub mod SparseMarkupRows
+pub mod SparseTable
+pub mod Bounded
+pub mod ToldRows
+pub mod ToldTagRows
+pub mod ToldRawRows
+pub mod ToldMarkupRows
+pub mod ToldTable

@@ -1,11 +1,12 @@
 -- The sequential parser by the rules of the standard's 80 states of the lexer (13.2.5), over any table of reference names.
-use Rattle.std.specs.Prelude.{◌≡◌, ℕ, List, ◌++◌}
+use Rattle.std.specs.Prelude.{◌≡◌, ℕ, ◌≤◌, ◌^◌, List, ◌++◌, length}
 use Rattle.hp_names.specs.References.{Reference}
+use Rattle.hp_tokens.specs.Moves.{asks_last_tag, move, needs_more}
 use Rattle.hp_control.specs.declared.edit.Edit.{Edit}
-use Rattle.hp_control.specs.States.{IsValid}
+use Rattle.hp_control.specs.States.{Fits, IsValid}
 use Rattle.hp_control.specs.Tree.{Tree}
 use Rattle.hp_lexer.specs.Table.{table}
-use Rattle.hp_model.specs.Runs.{Parser, Parses, RunsOver, at_start}
+use Rattle.hp_model.specs.Runs.{Goes, Parser, Parses, RunsOver, at_start, followed_by, step}
 
 -- the run over a text, and the tree of a page
 abbrev pub Runs : List Reference → Parser → List ℕ → List Edit → Parser → Type 0
@@ -36,3 +37,15 @@ RunsExist = (names : List Reference) (old : Parser) (text : List ℕ) → (edits
 
 abbrev pub TreesExist : Type 0
 TreesExist = (names : List Reference) (page : List ℕ) → (tree : Tree) × IsTreeOf names page tree
+
+-- after a run over a page the formatting list has at most an entry for each code point, and ids can be counted
+abbrev pub PagesFit : Type 0
+PagesFit = (names : List Reference) (new : Parser) (text : List ℕ) (es : List Edit) → Runs names at_start text es new
+    → (length new.control.formatting ≤ length text) × (length text ≤ 2 ^ 24 → Fits new.control)
+
+-- along a run over a page the last start tag's name is never asked, and the run rests only where more text is needed
+abbrev pub NeverAsked : Type 0
+NeverAsked = (names : List Reference) (page : List ℕ) (p : Parser) (es : List Edit) → Goes (step (table names)) (followed_by at_start page) es p → move (table names) p.lexing ≡ asks_last_tag → ⊥
+
+abbrev pub RestsForMore : Type 0
+RestsForMore = (names : List Reference) (page : List ℕ) (new : Parser) (es : List Edit) → Runs names at_start page es new → move (table names) new.lexing ≡ needs_more

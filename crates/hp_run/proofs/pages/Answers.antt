@@ -3,6 +3,7 @@ use Rattle.hp_lexer.proofs.Steady.{table_steady}
 use Rattle.hp_lexer.specs.Table.{table}
 use Rattle.hp_model.proofs.Running.{one_tree, runs-join, runs-valid}
 use Rattle.hp_model.specs.Runs.{at_start}
+use Rattle.hp_run.proofs.Bounded.{pages_fit}
 use Rattle.hp_run.proofs.Existing.{run_exists, tree_exists}
 use Rattle.hp_run.proofs.TableRows.{table_read}
 use Rattle.hp_run.proofs.pages.Goals as goal
@@ -12,6 +13,7 @@ returns c = record {
   join = λ names. runs-join (table names) (table_steady names);
   valid = λ names. runs-valid (table names) (table_read names);
   pages = λ names new text es run. runs-valid (table names) (table_read names) at_start new text es run start_valid;
+  fit = pages_fit;
   tree = λ names. one_tree (table names);
   run_exists = run_exists;
   tree_exists = tree_exists;

@@ -1,0 +1,145 @@
+-- The short way of a run of text comes to the same as the rows.
+use Rattle.std.proofs.Common.{◌≡◌, ℕ, suc, ◌+◌, ◌-◌, ◌*◌, ◌<◌, Bool, true, false, List, [], ◌∷◌, length, Option, Some, None, Result, Ok, Err, refl, ap, sym, subst, ◌∙◌, arith}
+use Rattle.std.specs.Prelude.{not, ◌||◌, ◌&&◌}
+use Rattle.hp_elements.specs.Tokens.{kind_of}
+use Rattle.hp_elements.specs.declared.sets.Namespace.{Namespace}
+use Rattle.hp_elements.specs.declared.token.CharClass.{CharClass}
+use Rattle.hp_elements.specs.declared.token.CharClass.TheVariants.{White, Nul, Other}
+use Rattle.hp_elements.specs.declared.token.Kind.TheVariants as kind
+use Rattle.hp_elements.specs.declared.token.Mode.{Mode}
+use Rattle.hp_elements.specs.declared.token.Mode.TheVariants as mode
+use Rattle.hp_elements.specs.declared.token.Token.{Token}
+use Rattle.hp_elements.specs.declared.token.Token.TheVariants.{Characters}
+use Rattle.hp_control.specs.declared.change.Refusal.{Refusal}
+use Rattle.hp_control.specs.declared.change.Refusal.TheVariants.{Crossed, NoMemory}
+use Rattle.hp_control.specs.declared.element.OpenElement.{OpenElement}
+use Rattle.hp_control.specs.Faithful.{Page, Split}
+use Rattle.hp_control.specs.Foreign.{enters, is_annotation, is_svg_start}
+use Rattle.hp_control.specs.Plan.{Plan, gives, crosses, asks, followed_by, Heard, Runs}
+use Rattle.hp_control.specs.declared.question.Crossing.{Crossing}
+use Rattle.hp_adoption.specs.ReconPlans.{reconstruct_plan}
+use Rattle.hp_control.specs.declared.edit.Child.TheVariants as child
+use Rattle.hp_control.specs.Running.{runs_crosses, runs_gives, runs_then}
+use Rattle.hp_control.specs.States.{is_html}
+use Rattle.hp_foreign.specs.Plans.{goes_on, goes_plan}
+use Rattle.hp_rules_rest.specs.Whole.{every_mode_rows}
+use Rattle.hp_views.specs.FieldPlans.{frameset_plan}
+use Rattle.hp_views.specs.PlacePlans.{put_plan}
+use Rattle.hp_views.specs.View.{Sight, Carries}
+use Rattle.hp_acts.specs.declared.turns.Handled.{Handled}
+use Rattle.hp_acts.specs.HandlePlans.{all_turns_plan, most_turns, turns_plan, where_again}
+use Rattle.hp_acts.specs.Handling.{Handles, nothing_asked}
+use Rattle.hp_acts.specs.Plain.{IsPlain, body_text_plan, has_html_top, is_run, is_text_mode, put_text_plan, run_plan, text_plan}
+use Rattle.hp_acts.specs.RowPlans.{Reached, Came, left, again, changed, dispatched, is_early, mode_plan, rules_plan, turn_plan, where_left}
+use Rattle.hp_acts.proofs.TurnRuns.{turn_on, turns_next}
+
+pub follow_assoc : {X Y Z : Type 0} (p : Plan X) (f : X → Plan Y) (g : Y → Plan Z) → followed_by (followed_by p f) g ≡ followed_by p (λ x. followed_by (f x) g)
+follow_assoc (gives x) f g = refl
+follow_assoc (crosses crossing) f g = refl
+follow_assoc (asks q go) f g = ap (asks q) (λ i. λ a. follow_assoc (go a) f g i)
+
+abbrev ended : Reached → Split → Plan Came
+ended r v = gives (left (changed r v))
+
+-- the rules of the body, used so deep
+in_body : (depth : ℕ) (class : CharClass) (text : List ℕ) (r : Reached) → is_run (Characters class text) ≡ true → rules_plan (suc depth) (Characters class text) false mode.InBody r ≡ followed_by (body_text_plan class text r.split) (ended r)
+unfolding rules_plan every_mode_rows
+in_body depth White text r h = sym (follow_assoc (reconstruct_plan false r.split) (put_text_plan White text) (ended r))
+in_body depth Nul text r h = absurd (cc)
+in_body depth Other text r h =
+    sym (follow_assoc (reconstruct_plan false r.split) (put_text_plan Other text) (ended r)
+    ∙ ap (λ (next : Split → Plan Came). followed_by (reconstruct_plan false r.split) next) (λ i. λ w. follow_assoc (put_plan false (child.Text text) w) frameset_plan (ended r) i))
+
+-- a row that only uses the rules of the body
+through_body : (class : CharClass) (text : List ℕ) (r : Reached) → is_run (Characters class text) ≡ true → followed_by (rules_plan 3 (Characters class text) false mode.InBody r) (where_left (λ s. gives (left s))) ≡ followed_by (body_text_plan class text r.split) (ended r)
+through_body class text r h =
+    ap (λ p. followed_by p (where_left (λ s. gives (left s)))) (in_body 2 class text r h)
+    ∙ follow_assoc (body_text_plan class text r.split) (ended r) (where_left (λ s. gives (left s)))
+
+in_text : (class : CharClass) (text : List ℕ) (r : Reached) → is_run (Characters class text) ≡ true → rules_plan 4 (Characters class text) false mode.Text r ≡ followed_by (text_plan mode.Text class text r.split) (ended r)
+unfolding rules_plan every_mode_rows
+in_text White text r h = refl
+in_text Nul text r h = absurd (cc)
+in_text Other text r h = refl
+
+cell_uses : (class : CharClass) (text : List ℕ) (r : Reached) → is_run (Characters class text) ≡ true → rules_plan 4 (Characters class text) false mode.InCell r ≡ followed_by (rules_plan 3 (Characters class text) false mode.InBody r) (where_left (λ s. gives (left s)))
+unfolding rules_plan every_mode_rows
+cell_uses White text r h = refl
+cell_uses Nul text r h = absurd (cc)
+cell_uses Other text r h = refl
+
+caption_uses : (class : CharClass) (text : List ℕ) (r : Reached) → is_run (Characters class text) ≡ true → rules_plan 4 (Characters class text) false mode.InCaption r ≡ followed_by (rules_plan 3 (Characters class text) false mode.InBody r) (where_left (λ s. gives (left s)))
+unfolding rules_plan every_mode_rows
+caption_uses White text r h = refl
+caption_uses Nul text r h = absurd (cc)
+caption_uses Other text r h = refl
+
+in_mode : (m : Mode) (class : CharClass) (text : List ℕ) (r : Reached) → is_text_mode m ≡ true → is_run (Characters class text) ≡ true → mode_plan (Characters class text) m r ≡ followed_by (text_plan m class text r.split) (ended r)
+in_mode mode.InBody class text r m h = in_body 3 class text r h
+in_mode mode.Text class text r m h = in_text class text r h
+in_mode mode.InCell class text r m h = cell_uses class text r h ∙ through_body class text r h
+in_mode mode.InCaption class text r m h = caption_uses class text r h ∙ through_body class text r h
+in_mode _ class text r m h = absurd (cc)
+
+not_early : (page : Option Page) (m : Mode) → is_text_mode m ≡ true → is_early page m ≡ false
+not_early (Some page) m h = refl
+not_early None mode.Text h = refl
+not_early None mode.InBody h = refl
+not_early None mode.InCell h = refl
+not_early None mode.InCaption h = refl
+not_early None _ h = absurd (cc)
+
+-- text is no foreign content where the current node is an own HTML element
+not_foreign : (class : CharClass) (v : Split) (stack : List OpenElement) → has_html_top stack ≡ true → goes_on (kind.Characters class) v stack ≡ gives false
+not_foreign class v [] h = absurd (cc)
+not_foreign class v (e ∷ es) h = ap gives (ap not (ap (λ b. false || b || enters e.point (kind.Characters class) || (is_annotation e && is_svg_start (kind.Characters class))) h))
+
+run_turn : (class : CharClass) (text : List ℕ) (r : Reached) → is_run (Characters class text) ≡ true → is_text_mode r.split.change.mode ≡ true → has_html_top r.split.change.stack ≡ true → turn_plan (Characters class text) r ≡ followed_by (text_plan r.split.change.mode class text r.split) (ended r)
+run_turn class text r run place top =
+    turn_on (Characters class text) r (not_early r.split.page r.split.change.mode place)
+    ∙ (ap (λ p. followed_by p (dispatched (Characters class text) r.split.change.mode r)) (not_foreign class r.split r.split.change.stack top)
+    ∙ in_mode r.split.change.mode class text r place run)
+
+abbrev done_with : Split → Plan Reached
+done_with v = gives (record { split = v; handled = nothing_asked })
+
+some_turns : (n : ℕ) (class : CharClass) (text : List ℕ) (r : Reached) → is_run (Characters class text) ≡ true → is_text_mode r.split.change.mode ≡ true → has_html_top r.split.change.stack ≡ true → 0 < n → turns_plan n (Characters class text) r ≡ followed_by (text_plan r.split.change.mode class text r.split) (λ v. gives (changed r v))
+some_turns n class text r run place top few =
+    let all : n ≡ n - 0 = omega arith in
+    ap (λ k. turns_plan k (Characters class text) r) all
+    ∙ (turns_next n 0 (Characters class text) r few
+    ∙ (ap (λ p. followed_by p (where_again (turns_plan (n - 1)))) (run_turn class text r run place top)
+    ∙ follow_assoc (text_plan r.split.change.mode class text r.split) (ended r) (where_again (turns_plan (n - 1)))))
+
+pub run_alike : (t : Token) (v : Split) → IsPlain v t → all_turns_plan t v ≡ followed_by (run_plan t v) done_with
+run_alike (Characters class text) v p = some_turns (most_turns v) class text (record { split = v; handled = nothing_asked }) p.run p.place p.top (omega arith)
+run_alike _ v p = absurd (not_run p.run)
+  where
+    not_run : false ≡ true → ⊥
+    not_run e = cc
+
+-- it was put there, and nothing is asked
+pub plain_put : (a b : Heard) (t : Token) (v w : Split) → IsPlain v t → Runs a b (run_plan t v) (Ok w) → Runs a b (all_turns_plan t v) (Ok (record { split = w; handled = nothing_asked }))
+plain_put a b t v w p run =
+    let P : Plan Reached → Type 0 = λ plan. Runs a b plan (Ok (record { split = w; handled = nothing_asked })) in
+    subst P (sym (run_alike t v p)) (runs_then done_with run (runs_gives b (record { split = w; handled = nothing_asked })))
+
+pub plain_crosses : (a b : Heard) (t : Token) (v : Split) (crossing : Crossing) → IsPlain v t → Runs a b (run_plan t v) (Err crossing) → Runs a b (all_turns_plan t v) (Err crossing)
+plain_crosses a b t v crossing p run =
+    let P : Plan Reached → Type 0 = λ plan. Runs a b plan (Err crossing) in
+    subst P (sym (run_alike t v p)) (runs_crosses done_with run)
+
+-- it crosses there, or memory is wanting
+pub plain_refused : (refused : Refusal) (old new : Sight) (t : Token) → IsPlain old.split t → Carries (Err refused) old new (run_plan t) → Handles (Err refused) old new (all_turns_plan t)
+plain_refused (Crossed crossing) old new t p run = plain_crosses old.heard new.heard t old.split crossing p run
+plain_refused NoMemory old new t p run = tt
+
+-- one call, and then another
+pub first_refused : (refused : Refusal) (old new : Sight) (plan next : Split → Plan Split) → Carries (Err refused) old new plan → Carries (Err refused) old new (λ v. followed_by (plan v) next)
+first_refused (Crossed crossing) old new plan next run = runs_crosses next run
+first_refused NoMemory old new plan next run = tt
+
+pub both_carried : (result : Result (Unit {0}) Refusal) (old mid new : Sight) (plan next : Split → Plan Split) → Runs old.heard mid.heard (plan old.split) (Ok mid.split) → Carries result mid new next → Carries result old new (λ v. followed_by (plan v) next)
+both_carried (Ok u) old mid new plan next run k = runs_then next run k
+both_carried (Err (Crossed crossing)) old mid new plan next run k = runs_then next run k
+both_carried (Err NoMemory) old mid new plan next run k = tt

@@ -1,0 +1,29 @@
+-- A plan, and then another from where it led.
+use Rattle.std.proofs.Common.{◌≡◌, Result, Ok, Err, subst, sym}
+use Rattle.std.specs.Result.{IsErrAnd}
+use Rattle.hp_control.specs.declared.change.Refusal.{Refusal}
+use Rattle.hp_control.specs.declared.change.Refusal.TheVariants.{Crossed, NoMemory}
+use Rattle.hp_control.specs.Faithful.{Split}
+use Rattle.hp_control.specs.Plan.{Plan, followed_by, Runs}
+use Rattle.hp_control.specs.Running.{runs_then, runs_crosses}
+use Rattle.hp_views.specs.View.{Sight, Carries}
+
+pub carries_next : (result : Result (Unit {0}) Refusal) (old mid new : Sight) (p q : Split → Plan Split) → Runs old.heard mid.heard (p old.split) (Ok mid.split) → Carries result mid new q → Carries result old new (λ v. followed_by (p v) q)
+carries_next (Ok u) old mid new p q r k = runs_then q r k
+carries_next (Err (Crossed crossing)) old mid new p q r k = runs_then q r k
+carries_next (Err NoMemory) old mid new p q r k = tt
+
+carries_refused : (refusal : Refusal) (old new : Sight) (p q : Split → Plan Split) → Carries (Err refusal) old new p → Carries (Err refusal) old new (λ v. followed_by (p v) q)
+carries_refused (Crossed crossing) old new p q k = runs_crosses q k
+carries_refused NoMemory old new p q k = tt
+
+-- the first was refused
+pub carries_failed : (result : Result (Unit {0}) Refusal) (refusal : Refusal) (old new : Sight) (p q : Split → Plan Split) → IsErrAnd result (λ e. e ≡ refusal) → Carries (Err refusal) old new p → Carries result old new (λ v. followed_by (p v) q)
+carries_failed (Ok u) refusal old new p q is k = absurd is
+carries_failed (Err e) refusal old new p q is k = let P : Refusal → Type 0 = λ x. Carries (Err x) old new (λ v. followed_by (p v) q) in subst P (sym is) (carries_refused refusal old new p q k)
+
+-- the same plan, told otherwise
+pub carries_as : (result : Result (Unit {0}) Refusal) (old new : Sight) (p q : Split → Plan Split) → p old.split ≡ q old.split → Carries result old new p → Carries result old new q
+carries_as (Ok u) old new p q e run = let P : Plan Split → Type 0 = λ x. Runs old.heard new.heard x (Ok new.split) in subst P e run
+carries_as (Err (Crossed crossing)) old new p q e run = let P : Plan Split → Type 0 = λ x. Runs old.heard new.heard x (Err crossing) in subst P e run
+carries_as (Err NoMemory) old new p q e run = tt

@@ -1,0 +1,54 @@
+-- The turns of an adoption, carried out one after the other.
+use Rattle.std.proofs.Common.{◌≡◌, ℕ, suc, Bool, true, false, List, Option, Some, Result, Ok, Err, sym, subst}
+use Rattle.hp_control.specs.declared.change.Refusal.{Refusal}
+use Rattle.hp_control.specs.declared.change.Refusal.TheVariants.{Crossed, NoMemory}
+use Rattle.hp_control.specs.declared.element.FormattingEntry.{FormattingEntry}
+use Rattle.hp_control.specs.declared.element.FormattingEntry.TheVariants.{Marker}
+use Rattle.hp_control.specs.Faithful.{Split}
+use Rattle.hp_control.specs.Plan.{Plan, Heard, Runs}
+use Rattle.hp_control.specs.Running.{Partway, runs_gives, runs_then, runs_crosses}
+use Rattle.hp_views.specs.View.{Sight, Carries}
+use Rattle.hp_adoption.specs.AdoptPlans.{Turned, entry_turn, turn_plan, turns_on, turns_plan}
+use Rattle.hp_adoption.specs.Turning.{Turns}
+
+pub turn_marker : (now : Heard) (fostering : Bool) (v : Split) (o : Option FormattingEntry) → o ≡ Some Marker → Runs now now (entry_turn fostering v o) (Ok (record { split = v; goes_on = false }))
+turn_marker now fostering v o e =
+    let P : Option FormattingEntry → Type 0 = λ x. Runs now now (entry_turn fostering v x) (Ok (record { split = v; goes_on = false })) in
+    subst P (sym e) (runs_gives now (record { split = v; goes_on = false }))
+
+-- the same plan, told otherwise
+pub turns_as : (result : Result Bool Refusal) (old new : Sight) (p q : Split → Plan Turned) → p old.split ≡ q old.split → Turns result old new p → Turns result old new q
+turns_as (Ok goes_on) old new p q e run =
+    let P : Plan Turned → Type 0 = λ x. Runs old.heard new.heard x (Ok (record { split = new.split; goes_on = goes_on })) in subst P e run
+turns_as (Err (Crossed crossing)) old new p q e run =
+    let P : Plan Turned → Type 0 = λ x. Runs old.heard new.heard x (Err crossing) in subst P e run
+turns_as (Err NoMemory) old new p q e run = tt
+
+-- one more turn
+pub turn_step : (start now next : Heard) (whole : Plan Split) (fostering : Bool) (name : List ℕ) (n m : ℕ) (v w : Split) (goes_on : Bool) → n ≡ suc m → goes_on ≡ true → Partway start now whole (turns_plan n fostering name v) → Runs now next (turn_plan fostering name v) (Ok (record { split = w; goes_on = goes_on })) → Partway start next whole (turns_plan m fostering name w)
+unfolding turns_plan
+turn_step start now next whole fostering name n m v w goes_on e t part run =
+    let P : ℕ → Type 0 = λ x. Partway start now whole (turns_plan x fostering name v) in
+    let Q : Bool → Type 0 = λ b. Runs now next (turn_plan fostering name v) (Ok (record { split = w; goes_on = b })) in
+    λ new end r. (subst P e part) new end (runs_then (λ t. turns_on (turns_plan m fostering name) t.split t.goes_on) (subst Q t run) r)
+
+-- the last one
+pub turn_ends : (start now next : Heard) (whole : Plan Split) (fostering : Bool) (name : List ℕ) (n m : ℕ) (v w : Split) (goes_on : Bool) → n ≡ suc m → goes_on ≡ false → Partway start now whole (turns_plan n fostering name v) → Runs now next (turn_plan fostering name v) (Ok (record { split = w; goes_on = goes_on })) → Runs start next whole (Ok w)
+unfolding turns_plan
+turn_ends start now next whole fostering name n m v w goes_on e t part run =
+    let P : ℕ → Type 0 = λ x. Partway start now whole (turns_plan x fostering name v) in
+    let Q : Bool → Type 0 = λ b. Runs now next (turn_plan fostering name v) (Ok (record { split = w; goes_on = b })) in
+    (subst P e part) next (Ok w) (runs_then (λ t. turns_on (turns_plan m fostering name) t.split t.goes_on) (subst Q t run) (runs_gives next w))
+
+pub turn_refused : (result : Refusal) (old mid new : Sight) (plan : Split → Plan Split) (fostering : Bool) (name : List ℕ) (n m : ℕ) → n ≡ suc m → Partway old.heard mid.heard (plan old.split) (turns_plan n fostering name mid.split) → Turns (Err result) mid new (turn_plan fostering name) → Carries (Err result) old new plan
+unfolding turns_plan
+turn_refused NoMemory old mid new plan fostering name n m e part run = tt
+turn_refused (Crossed crossing) old mid new plan fostering name n m e part run =
+    let P : ℕ → Type 0 = λ x. Partway old.heard mid.heard (plan old.split) (turns_plan x fostering name mid.split) in
+    (subst P e part) new.heard (Err crossing) (runs_crosses (λ t. turns_on (turns_plan m fostering name) t.split t.goes_on) run)
+
+pub turns_done : (start now : Heard) (whole : Plan Split) (fostering : Bool) (name : List ℕ) (n : ℕ) (v : Split) → n ≡ 0 → Partway start now whole (turns_plan n fostering name v) → Runs start now whole (Ok v)
+unfolding turns_plan
+turns_done start now whole fostering name n v e part =
+    let P : ℕ → Type 0 = λ x. Partway start now whole (turns_plan x fostering name v) in
+    (subst P e part) now (Ok v) (runs_gives now v)
