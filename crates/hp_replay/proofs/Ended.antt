@@ -1,11 +1,13 @@
 -- What the tokens of the end of input do is the end of input.
-use Rattle.std.proofs.Common.{◌≡◌, ℕ, List, [], ◌∷◌, ◌++◌, refl, ap, ◌∙◌, sym, subst, append-nil, map}
+use Rattle.std.proofs.Common.{◌≡◌, ℕ, List, [], ◌∷◌, ◌++◌, ◌^◌, refl, ap, ◌∙◌, sym, subst, append-nil, map}
 use Rattle.std.specs.Prelude.{All}
 use Rattle.std.proofs.lemmas.List.Elements.{All-cons, All-nil}
 use Rattle.hp_elements.specs.declared.token.Token.{Token}
 use Rattle.hp_names.specs.BuiltIn.{built_in}
+use Rattle.hp_names.specs.References.{Reference}
 use Rattle.hp_tokens.specs.Advancing.{AreRuns, Ends as EndsText, end_of_text, lexing, singles, tokens_of}
 use Rattle.hp_tokens.specs.Moves.{Lexing}
+use Rattle.hp_tokens.specs.declared.lexing.LexState.{LexState}
 use Rattle.hp_control.specs.Apply.{named, named_child, named_edit, named_place}
 use Rattle.hp_control.specs.Edits.{IsFixed, IsFixedChild, IsFixedEdit, IsFixedPlace}
 use Rattle.hp_control.specs.Faithful.{Split}
@@ -20,6 +22,8 @@ use Rattle.hp_control.specs.declared.edit.Place.{Place}
 use Rattle.hp_control.specs.declared.edit.Place.TheVariants.{Into, Foster}
 use Rattle.hp_control.specs.declared.edit.Ref.{Ref}
 use Rattle.hp_control.specs.declared.edit.Ref.TheVariants.{Fixed, Older, Own}
+use Rattle.hp_lexer.specs.declared.lexer.Asked.TheVariants as asked
+use Rattle.hp_lexer.specs.declared.lexer.Lexer.{Lexer}
 use Rattle.hp_lexer.specs.Table.{table}
 use Rattle.hp_model.specs.AtOnce.{MakeSame, RunsAtOnce, handle_at_once}
 use Rattle.hp_model.specs.Handling.{handle}
@@ -92,5 +96,13 @@ ending_is law s v w tokens edits valid is none ends handled told = record {
     comes : Comes c tokens
     comes = together law tokens c handled.read (subst AreRuns (sym (ends 0).appends.appended) (ends 0).appends.runs) valid (subst (λ (d : ControlState). AreQuiet handle_at_once d tokens) is handled.quiet)
 
-pub end-runs : (s : ControlState) (tokens : List Token) → ((rested : ℕ) → EndsText (table built_in) (lexing s.lex end_of_text rested) [] tokens) → AreRuns tokens
-end-runs s tokens ends = subst AreRuns (sym (ends 0).appends.appended) (ends 0).appends.runs
+pub end-runs : (names : List Reference) (l : Lexing) (tokens : List Token) → EndsText (table names) l [] tokens → AreRuns tokens
+end-runs names l tokens end = subst AreRuns (sym end.appends.appended) end.appends.runs
+
+-- the lexer over the built-in names, from a state
+pub named-ends : (lexer : Lexer) (lex own : LexState) (tokens : List Token) → lexer ≡ record { lex = lex; names = built_in; asked = asked.Nothing; rested = 2 ^ 32 } → lex ≡ own
+    → ((rested : ℕ) → EndsText (table lexer.names) (lexing lexer.lex end_of_text rested) [] tokens) → (rested : ℕ) → EndsText (table built_in) (lexing own end_of_text rested) [] tokens
+named-ends lexer lex own tokens is same ends =
+    let P : Lexer → Type 0 = λ l. (rested : ℕ) → EndsText (table l.names) (lexing l.lex end_of_text rested) [] tokens in
+    let Q : LexState → Type 0 = λ l. (rested : ℕ) → EndsText (table built_in) (lexing l end_of_text rested) [] tokens in
+    subst Q same (subst P is ends)

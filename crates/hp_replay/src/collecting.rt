@@ -8,6 +8,7 @@ ghost use Rattle.hp_replay.specs.Collecting.{Collects, CollectsAll, IsKnown};
 
 use crate::NoMemory;
 use crate::tokens::{is_start, of_page};
+use hp_acts::handle;
 use hp_control::{Control, Nothing};
 use hp_elements::{Rest, Token, Tokens};
 use hp_tokens::LexState;
@@ -63,9 +64,10 @@ pub(crate) fn collect<'p>(
     requires read { IsRead token }
     ensures { IfOk result (λ switch. Collects (split_of view.old) (split_of view.new) token.entry switch) }
 {
-    let _ = token;
-    let _ = alloc;
-    Err(NoMemory)
+    match handle(alloc, view, token) {
+        Ok(handled) => Ok(handled.switch),
+        Err(_) => Err(NoMemory),
+    }
 }
 
 /// Handles the tokens of the end of input, of which none is a start tag.

@@ -3,8 +3,10 @@
 
 mod at_end;
 mod collecting;
-mod told;
 mod tokens;
+#[cfg(test)]
+mod tests;
+mod told;
 
 pub use at_end::ending;
 pub use hp_elements::NoMemory;

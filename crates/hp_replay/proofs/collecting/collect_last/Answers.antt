@@ -22,9 +22,8 @@ collect-requires-clause-read c = subst IsRead (sym c.in_ok-token.ensures) (other
 
 pub loop-token-preserved : goal.loop-token-preserved
 loop-token-preserved c =
-    let P : Option Rest → Type 0 = λ o. Collects (split_of c.loop-token.view) (split_of c.collect.new.view) c.in_ok-token.field-0 o in
-    let Q : Token → Type 0 = λ t. Collects (split_of c.loop-token.view) (split_of c.collect.new.view) t None in
-    (
+    let P : Option Rest → Type 0 = λ o. Collects (split_of c.loop-token.view) (split_of c.collect.new.view) c.in_ok-token.token o in
+    let Q : Token → Type 0 = λ t. Collects (split_of c.loop-token.view) (split_of c.collect.new.view) t None in (
       tt,
       tt,
       toward_on c.at_once.ensures.token (split_of c.args.view.now) (split_of c.loop-token.view) (split_of c.collect.new.view) c.args.tokens c.loop-token.token-iterator c.next.new.self c.in-Some.token c.loop-token.invariant.2
