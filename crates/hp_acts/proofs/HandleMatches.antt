@@ -1,5 +1,5 @@
 -- The handling of a token over an older state comes to what the definition says.
-use Rattle.std.proofs.Common.{◌≡◌, ℕ, zero, suc, ◌+◌, ◌*◌, ◌≤◌, ◌⊎◌, inl, inr, List, [], ◌∷◌, ◌++◌, length, Bool, true, false, ◌==◌, ◌&&◌, Option, None, Some, refl, sym, subst, ap, ◌∙◌, arith, length-append, append-nil}
+use Rattle.std.proofs.Common.{◌≡◌, ℕ, ◌+◌, ◌≤◌, [], ◌∷◌, ◌++◌, length, Bool, true, false, ◌==◌, ◌&&◌, Option, None, Some, refl, sym, subst, ap, ◌∙◌, arith, length-append, append-nil}
 use Rattle.std.specs.Prelude.{if◌then◌else◌, Result, Ok, Err, drop, map, IsSome}
 use Rattle.std.specs.Option.{unwrap_or}
 use Rattle.std.proofs.lemmas.Bool.{true≢false}
@@ -15,7 +15,7 @@ use Rattle.hp_elements.specs.declared.token.Token.TheVariants as token
 use Rattle.hp_control.specs.declared.question.Crossing.{Crossing}
 use Rattle.hp_control.specs.Apply.{applied, named_edit, shifted}
 use Rattle.hp_control.specs.Faithful.{Split, StandsOn, state_over}
-use Rattle.hp_control.specs.Plan.{Plan, end_by}
+use Rattle.hp_control.specs.Plan.{end_by}
 use Rattle.hp_control.specs.States.{ControlState, IsValid, StackFits}
 use Rattle.hp_control.specs.Tree.{applied_all}
 use Rattle.hp_control.specs.Truth.{answer_of}
@@ -27,11 +27,11 @@ use Rattle.hp_model.specs.Handling.{all_turns, bound, settled}
 use Rattle.hp_model.specs.Rows.{turn}
 use Rattle.hp_model.specs.Steps.{holds, step}
 use Rattle.hp_model.specs.Tokens.{is_line_feed}
-use Rattle.hp_model.specs.Turns.{Handled as Meant, later, left_by, turns, unchanged}
+use Rattle.hp_model.specs.Turns.{Handled as Meant, later, turns, unchanged}
 use Rattle.hp_model.specs.Whole.{IsRead}
 use Rattle.hp_model.proofs.Course.{Course, Along, fits}
 use Rattle.hp_model.proofs.Handled.{turns-end}
-use Rattle.hp_acts.specs.HandlePlans.{all_turns_plan, handle_plan, handle_rest, most_turns, turns_plan, without_line_feed}
+use Rattle.hp_acts.specs.HandlePlans.{all_turns_plan, handle_plan, handle_rest, most_turns, without_line_feed}
 use Rattle.hp_acts.specs.Handling.{nothing_asked, unskipped}
 use Rattle.hp_acts.specs.Older.{EndsOver, few_at_once, few_of_rest, few_turns}
 use Rattle.hp_acts.specs.Plans.{act_plan, by_plan, test_plan}

@@ -4,10 +4,6 @@ use Rattle.std.specs.List.{list_all}
 use Rattle.std.proofs.lemmas.Bool.{and_parts}
 use Rattle.hp_elements.specs.Rules.{acts_of}
 use Rattle.hp_elements.specs.declared.act.Act.{Act}
-use Rattle.hp_rules_page.specs.Table as page
-use Rattle.hp_rules_body.specs.Table as body
-use Rattle.hp_rules_table.specs.Table as table
-use Rattle.hp_rules_rest.specs.Table as rest
 use Rattle.hp_acts.specs.declared.rows.Part.{Part}
 use Rattle.hp_acts.specs.declared.rows.Part.TheVariants as part
 use Rattle.hp_acts.specs.declared.rows.Row.{Row}

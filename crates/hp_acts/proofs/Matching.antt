@@ -1,14 +1,13 @@
 -- What it means that the handling of a token over an older state has got as far as the definition says, step after step.
-use Rattle.std.proofs.Common.{◌≡◌, ℕ, ◌+◌, List, [], ◌∷◌, ◌++◌, Bool, true, false, ◌||◌, Option, None, Some, refl, sym, subst, ap, ◌∙◌, append_assoc, append-nil}
+use Rattle.std.proofs.Common.{◌≡◌, List, [], ◌∷◌, ◌++◌, Bool, true, false, ◌||◌, Option, None, Some, refl, sym, ap, ◌∙◌, append_assoc, append-nil}
 use Rattle.std.specs.Prelude.{Result, Ok, Err, map}
 use Rattle.std.proofs.Math.Bool.{or-true}
 use Rattle.hp_elements.specs.declared.token.Rest.{Rest}
-use Rattle.hp_elements.specs.declared.token.Token.{Token}
 use Rattle.hp_control.specs.declared.edit.Edit.{Edit}
 use Rattle.hp_control.specs.declared.question.Crossing.{Crossing}
 use Rattle.hp_control.specs.Apply.{named_edit}
 use Rattle.hp_control.specs.Faithful.{Split, IsDone, Matches, StandsOn, any_after, state_over, touches_after}
-use Rattle.hp_control.specs.Outcome.{Outcome, after, becomes, touches, touches_any}
+use Rattle.hp_control.specs.Outcome.{Outcome, after, touches, touches_any}
 use Rattle.hp_control.specs.States.{ControlState}
 use Rattle.hp_control.specs.Tree.{Tree, applied, applied_all}
 use Rattle.hp_model.specs.AtOnce.{MakeSame}

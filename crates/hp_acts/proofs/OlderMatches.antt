@@ -1,6 +1,6 @@
 -- Over any older state a token is handled as the definition says, or it crosses where something older is touched.
-use Rattle.std.proofs.Common.{◌≡◌, ℕ, zero, suc, ◌+◌, ◌<◌, List, [], ◌∷◌, ◌++◌, length, Bool, true, false, ◌==◌, ◌||◌, ◌&&◌, not, Option, None, Some, refl, sym, subst, ap, ◌∙◌, arith, length-append}
-use Rattle.std.specs.Prelude.{Result, Ok, Err, drop, map, nat_lt, nat_le, if◌then◌else◌}
+use Rattle.std.proofs.Common.{◌≡◌, ℕ, suc, ◌+◌, List, [], ◌∷◌, ◌++◌, length, Bool, true, false, ◌||◌, ◌&&◌, not, Option, None, Some, refl, sym, subst, ap, ◌∙◌, arith, length-append}
+use Rattle.std.specs.Prelude.{Ok, drop, map, nat_lt, if◌then◌else◌}
 use Rattle.std.specs.List.{list_any}
 use Rattle.std.specs.Option.{is_some}
 use Rattle.std.proofs.lemmas.Bool.{and_parts, lt-ltb, le-ltb, le-leb, lt-leb, ne_eqb, true≢false}
@@ -13,10 +13,9 @@ use Rattle.hp_elements.specs.declared.known.Known.TheVariants as known
 use Rattle.hp_elements.specs.declared.token.Mode.{Mode}
 use Rattle.hp_elements.specs.declared.token.Token.{Token}
 use Rattle.hp_control.specs.declared.element.OpenElement.{OpenElement}
-use Rattle.hp_control.specs.declared.question.Crossing.{Crossing}
 use Rattle.hp_control.specs.Agree.{ends_alike, true_alike}
 use Rattle.hp_control.specs.Apply.{applied, shifted}
-use Rattle.hp_control.specs.Faithful.{IsBase, IsSaid, Page, Split, StandsOn, state_over}
+use Rattle.hp_control.specs.Faithful.{IsSaid, Page, Split, StandsOn, state_over}
 use Rattle.hp_control.specs.Outcome.{Outcome}
 use Rattle.hp_control.specs.Plan.{end_by}
 use Rattle.hp_control.specs.States.{AreIds, ControlState, is_named, is_template}

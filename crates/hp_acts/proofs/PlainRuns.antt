@@ -1,8 +1,6 @@
 -- The short way of a run of text comes to the same as the rows.
-use Rattle.std.proofs.Common.{◌≡◌, ℕ, suc, ◌+◌, ◌-◌, ◌*◌, ◌<◌, Bool, true, false, List, [], ◌∷◌, length, Option, Some, None, Result, Ok, Err, refl, ap, sym, subst, ◌∙◌, arith}
+use Rattle.std.proofs.Common.{◌≡◌, ℕ, suc, ◌-◌, ◌<◌, true, false, List, [], ◌∷◌, Option, Some, None, Result, Ok, Err, refl, ap, sym, subst, ◌∙◌, arith}
 use Rattle.std.specs.Prelude.{not, ◌||◌, ◌&&◌}
-use Rattle.hp_elements.specs.Tokens.{kind_of}
-use Rattle.hp_elements.specs.declared.sets.Namespace.{Namespace}
 use Rattle.hp_elements.specs.declared.token.CharClass.{CharClass}
 use Rattle.hp_elements.specs.declared.token.CharClass.TheVariants.{White, Nul, Other}
 use Rattle.hp_elements.specs.declared.token.Kind.TheVariants as kind
@@ -20,17 +18,15 @@ use Rattle.hp_control.specs.declared.question.Crossing.{Crossing}
 use Rattle.hp_adoption.specs.ReconPlans.{reconstruct_plan}
 use Rattle.hp_control.specs.declared.edit.Child.TheVariants as child
 use Rattle.hp_control.specs.Running.{runs_crosses, runs_gives, runs_then}
-use Rattle.hp_control.specs.States.{is_html}
-use Rattle.hp_foreign.specs.Plans.{goes_on, goes_plan}
+use Rattle.hp_foreign.specs.Plans.{goes_on}
 use Rattle.hp_rules_rest.specs.Whole.{every_mode_rows}
 use Rattle.hp_views.specs.FieldPlans.{frameset_plan}
 use Rattle.hp_views.specs.PlacePlans.{put_plan}
 use Rattle.hp_views.specs.View.{Sight, Carries}
-use Rattle.hp_acts.specs.declared.turns.Handled.{Handled}
 use Rattle.hp_acts.specs.HandlePlans.{all_turns_plan, most_turns, turns_plan, where_again}
 use Rattle.hp_acts.specs.Handling.{Handles, nothing_asked}
 use Rattle.hp_acts.specs.Plain.{IsPlain, body_text_plan, has_html_top, is_run, is_text_mode, put_text_plan, run_plan, text_plan}
-use Rattle.hp_acts.specs.RowPlans.{Reached, Came, left, again, changed, dispatched, is_early, mode_plan, rules_plan, turn_plan, where_left}
+use Rattle.hp_acts.specs.RowPlans.{Reached, Came, left, changed, dispatched, is_early, mode_plan, rules_plan, turn_plan, where_left}
 use Rattle.hp_acts.proofs.TurnRuns.{turn_on, turns_next}
 
 pub follow_assoc : {X Y Z : Type 0} (p : Plan X) (f : X → Plan Y) (g : Y → Plan Z) → followed_by (followed_by p f) g ≡ followed_by p (λ x. followed_by (f x) g)

@@ -1,5 +1,5 @@
 -- The act at a place of a row, carried out.
-use Rattle.std.proofs.Common.{◌≡◌, ℕ, ◌+◌, Bool, true, false, Option, Some, None, Result, Ok, Err, refl, ap, sym, subst, ◌∙◌}
+use Rattle.std.proofs.Common.{◌≡◌, ℕ, ◌+◌, Bool, true, false, Result, Ok, Err, refl, ap, sym, subst, ◌∙◌}
 use Rattle.std.specs.Prelude.{not, if◌then◌else◌}
 use Rattle.hp_elements.specs.declared.act.Act.{Act}
 use Rattle.hp_elements.specs.declared.act.Act.TheVariants as act
@@ -12,7 +12,7 @@ use Rattle.hp_control.specs.declared.change.Refusal.{Refusal}
 use Rattle.hp_control.specs.declared.change.Refusal.TheVariants.{Crossed, NoMemory}
 use Rattle.hp_control.specs.declared.question.Crossing.{Crossing}
 use Rattle.hp_control.specs.Faithful.{Split}
-use Rattle.hp_control.specs.Plan.{Plan, followed_by, Heard, Runs}
+use Rattle.hp_control.specs.Plan.{Plan, followed_by, Runs}
 use Rattle.hp_control.specs.Running.{Partway, runs_crosses, runs_then}
 use Rattle.hp_views.specs.View.{Sight, Finds}
 use Rattle.hp_acts.specs.declared.turns.Handled.{Handled}

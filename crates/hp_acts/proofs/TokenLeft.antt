@@ -1,7 +1,7 @@
 -- An act that reads neither text nor attributes does the same for the token that is left.
-use Rattle.std.proofs.Common.{◌≡◌, ℕ, ◌+◌, Bool, true, false, Option, Some, None, refl, ap, sym, ◌∙◌}
+use Rattle.std.proofs.Common.{◌≡◌, ℕ, ◌+◌, Bool, true, false, refl, ap}
 use Rattle.std.specs.Prelude.{not, ◌||◌, if◌then◌else◌}
-use Rattle.hp_elements.specs.Names.{known_of, text_of}
+use Rattle.hp_elements.specs.Names.{known_of}
 use Rattle.hp_elements.specs.declared.act.Act.{Act}
 use Rattle.hp_elements.specs.declared.act.Act.TheVariants as act
 use Rattle.hp_elements.specs.declared.act.Test.{Test}
@@ -12,12 +12,12 @@ use Rattle.hp_elements.specs.declared.kinds.Kinds.TheVariants as kinds
 use Rattle.hp_elements.specs.declared.token.Mode.{Mode}
 use Rattle.hp_elements.specs.declared.token.Token.{Token}
 use Rattle.hp_control.specs.Faithful.{Split}
-use Rattle.hp_control.specs.Plan.{Plan, gives, followed_by}
+use Rattle.hp_control.specs.Plan.{Plan, followed_by}
 use Rattle.hp_adoption.specs.AdoptPlans.{adopt_plan}
 use Rattle.hp_views.specs.ClosingPlans.{walk_plan}
 use Rattle.hp_views.specs.StackPlans.{in_scope_plan, through_plan}
 use Rattle.hp_foreign.specs.Plans.{names_plan, through_foreign_plan}
-use Rattle.hp_model.specs.Tokens.{name_for, name_of}
+use Rattle.hp_model.specs.Tokens.{name_for}
 use Rattle.hp_acts.specs.Plans.{act_plan, by_plan, implied_but_plan, test_plan}
 use Rattle.hp_acts.specs.RowPlans.{Reached, Came, act_then, changed}
 use Rattle.hp_acts.specs.Spending.{IsLeftOf, is_of_attributes, wants_whole}

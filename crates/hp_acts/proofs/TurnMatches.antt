@@ -1,6 +1,6 @@
 -- A turn over an older state comes to what the definition's turn does, and the turns of a token to what the definition's do.
-use Rattle.std.proofs.Common.{◌≡◌, ℕ, zero, suc, ◌≤◌, ◌⊎◌, inl, inr, arith, Bool, true, false, ◌||◌, not, Option, None, Some, refl, sym, subst, ap, ◌∙◌, append-nil}
-use Rattle.std.specs.Prelude.{if◌then◌else◌, Result, Ok, Err, nat_lt, map}
+use Rattle.std.proofs.Common.{◌≡◌, ℕ, zero, suc, ◌≤◌, ◌⊎◌, inl, inr, arith, Bool, true, false, ◌||◌, Option, None, Some, refl, sym, subst, ap, ◌∙◌}
+use Rattle.std.specs.Prelude.{if◌then◌else◌, Result, Ok, Err}
 use Rattle.std.proofs.lemmas.Bool.{and_parts}
 use Rattle.hp_elements.specs.Rules.{plan_for}
 use Rattle.hp_elements.specs.Tokens.{kind_of}
@@ -12,11 +12,11 @@ use Rattle.hp_control.specs.declared.change.Change.{Change}
 use Rattle.hp_control.specs.declared.question.Crossing.{Crossing}
 use Rattle.hp_control.specs.declared.question.Crossing.TheVariants.{X3, X4}
 use Rattle.hp_control.specs.Acts.{headed, touching}
-use Rattle.hp_control.specs.Apply.{applied, named_edit}
+use Rattle.hp_control.specs.Apply.{applied}
 use Rattle.hp_control.specs.Faithful.{Page, Split, IsBase, StandsOn, state_over}
 use Rattle.hp_control.specs.Foreign.{is_foreign}
 use Rattle.hp_control.specs.Outcome.{Outcome, becomes, touches, touches_any}
-use Rattle.hp_control.specs.Plan.{Plan, crosses, end_by, followed_by}
+use Rattle.hp_control.specs.Plan.{crosses, end_by, followed_by}
 use Rattle.hp_control.specs.Running.{on_end, end_then}
 use Rattle.hp_control.specs.States.{ControlState, IsValid}
 use Rattle.hp_control.specs.Truth.{answer_of}
@@ -27,7 +27,7 @@ use Rattle.hp_rules_rest.specs.Foreign.{foreign}
 use Rattle.hp_model.specs.Finding.{nothing_missing}
 use Rattle.hp_model.specs.Rows.{entering, foreign_turn, is_head_mode, mode_turn, rules, turn}
 use Rattle.hp_model.specs.Steps.{holds, step}
-use Rattle.hp_model.specs.Turns.{Handled, Turn, goes_on, done, again, after_turn, before, before_all, joined, left_by, turns, unchanged}
+use Rattle.hp_model.specs.Turns.{Handled, Turn, goes_on, done, again, after_turn, before, before_all, left_by, turns}
 use Rattle.hp_model.specs.Whole.{IsRead}
 use Rattle.hp_model.proofs.Course.{Course, Along, alien, fits}
 use Rattle.hp_model.proofs.Handled.{Leaves, along-foreign, along-start, foreign-base, foreign-standing, foreign-top, or_second, turn-leaves, weigh}
@@ -42,7 +42,7 @@ use Rattle.hp_acts.specs.RowPlans.{Reached, Came, dispatched, is_early, mode_pla
 use Rattle.hp_acts.specs.RowPlans.{left as came_left, again as came_again}
 use Rattle.hp_acts.specs.Suiting.{plan_suits, rules_suit, turn_suits, turns_suit}
 use Rattle.hp_acts.specs.Suiting.{where_again as where_again_suits}
-use Rattle.hp_acts.proofs.Matching.{IsHandled, MatchesAlike, MatchesTurn, made_by, handled_after, matches_before, nothing_handled, touched_before, touched_first, touched_second}
+use Rattle.hp_acts.proofs.Matching.{IsHandled, MatchesAlike, MatchesTurn, handled_after, matches_before, nothing_handled, touched_before, touched_first, touched_second}
 use Rattle.hp_acts.proofs.RowMatches.{foreign_rows, is_row_act, row_matches, rules_match}
 
 -- the mode of the whole state

@@ -1,27 +1,21 @@
 -- Each act of a row does to a view, by its plan, what it does to the whole state; and each test tells of a view what holds of it.
-use Rattle.std.specs.Prelude.{◌≡◌, ℕ, Bool, true, false, if◌then◌else◌, List, Option, Some, None, Ok, refl}
-use Rattle.std.proofs.Common.{sym, subst, ap, ◌∙◌}
+use Rattle.std.specs.Prelude.{◌≡◌, Bool, true, false, if◌then◌else◌, Option, Some, None}
+use Rattle.std.proofs.Common.{subst}
 use Rattle.hp_elements.specs.Names.{text_of, known_of}
 use Rattle.hp_elements.specs.Quirks.{gives_quirks}
 use Rattle.hp_elements.specs.declared.act.Act.{Act}
 use Rattle.hp_elements.specs.declared.act.Act.TheVariants as act
-use Rattle.hp_elements.specs.declared.act.Test.{Test}
-use Rattle.hp_elements.specs.declared.act.Test.TheVariants as test
 use Rattle.hp_elements.specs.declared.kinds.Kinds.TheVariants as kinds
 use Rattle.hp_elements.specs.declared.known.Known.{Known}
 use Rattle.hp_elements.specs.declared.known.Known.TheVariants as known
 use Rattle.hp_elements.specs.declared.tag.Tag.{Tag}
-use Rattle.hp_elements.specs.declared.token.DoctypeParts.{DoctypeParts}
 use Rattle.hp_elements.specs.declared.token.Token.{Token}
 use Rattle.hp_control.specs.declared.edit.Child.TheVariants as child
 use Rattle.hp_control.specs.Acts.{append_to_list, insert, insert_into_document, set_quirks}
-use Rattle.hp_control.specs.Composed.{implied, implied_except}
-use Rattle.hp_control.specs.Faithful.{Split, FaithfulWhere, Faithful, FaithfulTest, any_view, faithful_nothing, StandsOn, state_over}
+use Rattle.hp_control.specs.Faithful.{Split, FaithfulWhere, Faithful, any_view, faithful_nothing}
 use Rattle.hp_control.specs.Foreign.{insert_foreign, insert_as_current}
 use Rattle.hp_control.specs.Outcome.{Act as StateAct, nothing_done}
-use Rattle.hp_control.specs.Plan.{Plan, end_by}
-use Rattle.hp_control.specs.Truth.{answer_of}
-use Rattle.hp_control.specs.States.{ControlState}
+use Rattle.hp_control.specs.Plan.{Plan}
 use Rattle.hp_views.specs.ClosingLaws.{implied_faithful, implied_except_faithful, implied_thoroughly_faithful, walk_faithful, close_paragraph_faithful, close_item_faithful, close_description_faithful}
 use Rattle.hp_views.specs.ClosingPlans.{leaves_it}
 use Rattle.hp_views.specs.FieldLaws.{has_own, frameset_faithful, skip_faithful, switch_faithful, keep_faithful, original_faithful, push_mode_faithful, pop_mode_faithful, replace_mode_faithful, point_form_faithful, quirks_faithful, head_faithful, empty_pending_faithful, append_pending_faithful}
@@ -29,7 +23,7 @@ use Rattle.hp_views.specs.FieldPlans.{quirks_plan}
 use Rattle.hp_views.specs.FormLaws.{end_form_faithful}
 use Rattle.hp_views.specs.HeadLaws.{push_head_faithful, take_head_off_faithful}
 use Rattle.hp_views.specs.InsertLaws.{put_faithful, put_document_faithful, put_first_faithful, insert_faithful, insert_document_faithful, add_first_faithful, add_body_faithful, detach_faithful}
-use Rattle.hp_views.specs.ListLaws.{marker_faithful, clear_faithful, listed_faithful}
+use Rattle.hp_views.specs.ListLaws.{marker_faithful, clear_faithful}
 use Rattle.hp_views.specs.PlacePlans.{insert_plan, insert_document_plan}
 use Rattle.hp_views.specs.PopLaws.{pop_faithful, pop_to_faithful, through_faithful, pop_to_first_faithful}
 use Rattle.hp_views.specs.ResetLaws.{keeps_modes, reset_faithful}
@@ -42,9 +36,9 @@ use Rattle.hp_adoption.specs.LinkLaws.{close_link_faithful}
 use Rattle.hp_adoption.specs.ReconLaws.{reconstruct_faithful}
 use Rattle.hp_foreign.specs.Laws.{insert_foreign_faithful, insert_as_current_faithful, pop_to_point_faithful, through_foreign_faithful, put_replacements_faithful}
 use Rattle.hp_foreign.specs.Plans.{insert_foreign_plan, insert_as_current_plan}
-use Rattle.hp_model.specs.Steps.{step, implied_but_for, quirks_of}
+use Rattle.hp_model.specs.Steps.{step, implied_but_for}
 use Rattle.hp_model.specs.Tokens.{bare, characters, comment, doctype_of, is_self_closing, name_for, name_of, parts_of, tag_of}
-use Rattle.hp_acts.specs.Plans.{act_plan, implied_but_plan, quirks_of_plan}
+use Rattle.hp_acts.specs.Plans.{act_plan, implied_but_plan}
 use Rattle.hp_acts.specs.Spending.{html_tag}
 
 -- the views that have what the act reads

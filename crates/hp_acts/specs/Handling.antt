@@ -1,5 +1,5 @@
 -- How a row goes on after an act, and that a token was handled.
-use Rattle.std.specs.Prelude.{◌≡◌, ℕ, ◌<◌, Bool, false, None, Result, Ok, Err}
+use Rattle.std.specs.Prelude.{ℕ, ◌<◌, false, None, Result, Ok, Err}
 use Rattle.hp_control.specs.declared.change.Refusal.{Refusal}
 use Rattle.hp_control.specs.declared.change.Refusal.TheVariants.{Crossed, NoMemory}
 use Rattle.hp_control.specs.Faithful.{Split}

@@ -1,7 +1,7 @@
 -- Runs of text where the rules do nothing but put them into the current node, an own HTML element (13.2.6.4.7, 13.2.6.4.8).
 use Rattle.std.specs.Prelude.{◌≡◌, ℕ, Bool, true, false, if◌then◌else◌, List, [], ◌∷◌}
 use Rattle.hp_elements.specs.declared.token.CharClass.{CharClass}
-use Rattle.hp_elements.specs.declared.token.CharClass.TheVariants.{White, Nul, Other}
+use Rattle.hp_elements.specs.declared.token.CharClass.TheVariants.{White, Other}
 use Rattle.hp_elements.specs.declared.token.Mode.{Mode}
 use Rattle.hp_elements.specs.declared.token.Mode.TheVariants as mode
 use Rattle.hp_elements.specs.declared.token.Token.{Token}

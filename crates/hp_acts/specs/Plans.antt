@@ -1,6 +1,6 @@
 -- What each act and each test of a row asks of the older state and changes of a view, given the token (13.2.6). TakeOff, which
 -- stands in no row, has none; for those that only steer the row it is the plan that changes nothing.
-use Rattle.std.specs.Prelude.{ℕ, Bool, if◌then◌else◌, List, Option, Some, None}
+use Rattle.std.specs.Prelude.{Bool, if◌then◌else◌, Option, Some, None}
 use Rattle.hp_elements.specs.Names.{text_of, known_of}
 use Rattle.hp_elements.specs.Quirks.{gives_quirks}
 use Rattle.hp_elements.specs.declared.act.Act.{Act}

@@ -1,9 +1,8 @@
 -- The row that a token has: the crate that has it, and its number there.
-use Rattle.std.specs.Prelude.{ℕ, Bool, true, false, List, map, Option, None, Some, slice_get}
+use Rattle.std.specs.Prelude.{Bool, true, false, List, map, Option}
 use Rattle.std.specs.List.{list_all}
 use Rattle.hp_elements.specs.declared.act.Act.{Act}
 use Rattle.hp_elements.specs.declared.act.Act.TheVariants as act
-use Rattle.hp_elements.specs.declared.token.Kind.{Kind}
 use Rattle.hp_elements.specs.declared.token.Mode.{Mode}
 use Rattle.hp_elements.specs.declared.token.Mode.TheVariants as mode
 use Rattle.hp_elements.specs.Rules.{Row as RuleRow, acts_numbered, acts_of}

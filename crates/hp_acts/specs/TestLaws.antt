@@ -1,5 +1,5 @@
 -- What each test of a row tells of a view is what holds of the whole state.
-use Rattle.std.specs.Prelude.{◌≡◌, ℕ, Bool, true, List, Ok, refl}
+use Rattle.std.specs.Prelude.{◌≡◌, Bool, true, Ok, refl}
 use Rattle.std.proofs.Common.{sym, ap, ◌∙◌}
 use Rattle.hp_elements.specs.Names.{text_of}
 use Rattle.hp_elements.specs.declared.act.Test.{Test}
@@ -10,7 +10,7 @@ use Rattle.hp_elements.specs.declared.token.Mode.TheVariants as mode
 use Rattle.hp_elements.specs.declared.token.Token.{Token}
 use Rattle.hp_control.specs.Apply.{applied}
 use Rattle.hp_control.specs.Faithful.{Split, StandsOn, state_over}
-use Rattle.hp_control.specs.Plan.{Plan, end_by}
+use Rattle.hp_control.specs.Plan.{end_by}
 use Rattle.hp_control.specs.States.{ControlState}
 use Rattle.hp_control.specs.Truth.{answer_of}
 use Rattle.hp_views.specs.ListLaws.{listed_faithful}

@@ -1,1 +1,11 @@
 pub mod Growth
+pub mod Toward
+pub mod Cutting
+pub mod Steps
+pub mod Numbers
+pub mod NextPiece
+pub mod Ended
+pub mod Took
+pub mod Going
+pub mod Started
+pub mod HandledOnce

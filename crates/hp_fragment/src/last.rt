@@ -1,9 +1,24 @@
-// The tokens of the end of input as tokens of the page.
+// What a run asks of a token, and the tokens of the end of input as tokens of the page.
 ghost use Rattle.std.specs.Prelude.{◌≡◌, IfOk};
+ghost use Rattle.hp_fragment.specs.Building.{is_character, is_start};
 
 use crate::NoMemory;
 use hp_elements::{Doctype, DoctypeParts, Text, Token};
 use std::alloc::Global;
+
+/// Whether the token is a run of characters.
+pub(crate) fn is_character(token: &Token<'_>) -> bool
+    ensures { result ≡ is_character token.now }
+{
+    matches!(token, Token::Characters { .. })
+}
+
+/// Whether the token is a start tag.
+pub(crate) fn is_start(token: &Token<'_>) -> bool
+    ensures { result ≡ is_start token.now }
+{
+    matches!(token, Token::Start { .. })
+}
 
 /// The same token for a page of any life. Its texts are copied, which is done once a page, at its end.
 pub(crate) fn of_page<'p>(alloc: Global, token: Token<'static>) -> Result<Token<'p>, NoMemory>

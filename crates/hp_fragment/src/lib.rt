@@ -1,8 +1,10 @@
 //! The sequential parser: the lexer and tree construction over a page, one token behind the other.
 #![tactic(auto)]
 
+mod builder;
 mod last;
 mod parsing;
+mod pieces;
 #[cfg(test)]
 mod tests;
 mod whole;

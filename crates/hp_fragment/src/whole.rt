@@ -1,4 +1,9 @@
 //! The sequential parser in one piece.
+ghost use Rattle.std.specs.Prelude.{IfOk};
+ghost use Rattle.std.specs.Str.{chars};
+ghost use Rattle.hp_names.specs.BuiltIn.{built_in};
+ghost use Rattle.hp_run.specs.Pages.{IsTreeOf};
+ghost use Rattle.hp_text.specs.Page.{text_of};
 
 use crate::NoMemory;
 use crate::parsing::Parsing;
@@ -6,8 +11,10 @@ use hp_arena::Tree;
 use hp_text::Page;
 use std::alloc::Global;
 
-/// The tree that the sequential parser builds of the page (13.2, scripting disabled).
-pub fn parse_whole<'p>(alloc: Global, page: Page<'p>) -> Result<Tree<'p>, NoMemory> {
+/// The tree of the page: the one that the standard's sequential parser builds (13.2, scripting disabled).
+pub fn parse_whole<'p>(alloc: Global, page: Page<'p>) -> Result<Tree<'p>, NoMemory>
+    ensures { IfOk result (λ tree. IsTreeOf built_in (chars (text_of page.entry)) tree.branches) }
+{
     let mut parsing = Parsing::of_page(alloc, page)?;
     parsing.run(alloc)?;
     parsing.end(alloc)

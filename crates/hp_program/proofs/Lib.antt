@@ -1,4 +1,1 @@
-pub mod Growth
-pub mod PageText
-pub mod PlainTree
 pub mod Written

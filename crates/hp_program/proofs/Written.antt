@@ -1,52 +1,39 @@
 -- What was written of a page.
-use Rattle.std.proofs.Common.{◌≡◌, ℕ, ◌<◌, List, length, take, ap, ◌∙◌, sym, subst, Bool, true, false}
-use Rattle.std.specs.Prelude.{Option, None, Some, IfSome, IsUtf8}
+use Rattle.std.proofs.Common.{◌≡◌, ℕ, ◌<◌, List, [], length, take, ap, ◌∙◌, sym, subst}
+use Rattle.std.specs.Prelude.{Option, None, Some, IfSome}
 use Rattle.std.specs.Str.{chars}
 use Rattle.std.specs.Io.KnownBytes.{append_known}
 use Rattle.hp_print.specs.Print.{print}
-use Rattle.hp_program.specs.Answers.{IsTreeText, TakesPart, TakesTree, TakesTreePart}
-use Rattle.hp_program.specs.Page.{page_text, has_markup}
-use Rattle.hp_program.specs.Plain.{plain, printed_page}
 use Rattle.hp_text.specs.Text.{without_mark}
-use Rattle.hp_program.proofs.PageText.{has_markup-chars}
-
--- where the search found markup, there is some
-pub is_found : (page text : List ℕ) (found : Bool) → text ≡ page → IsUtf8 text → found ≡ has_markup text → found ≡ true
-    → has_markup (chars page) ≡ false → ⊥
-is_found page text found is utf8 said there none =
-    let same : has_markup (chars page) ≡ found = ap (λ t. has_markup (chars t)) (sym is) ∙ has_markup-chars text utf8 ∙ sym said in cc
+use Rattle.hp_program.specs.Answers.{ComesExactly, IsPageText, IsPrinted, TakesPage, TakesPagePart, TakesPart, TakesTree, TakesTreePart}
+use Rattle.hp_program.specs.declared.status.Status.{Status}
 
 -- the text of the page is that of the bytes
-pub printed_of_bytes : (bytes page text : List ℕ) → page ≡ without_mark bytes
-    → (has_markup (chars page) ≡ false → text ≡ print (plain (chars page))) → has_markup (page_text bytes) ≡ false → text ≡ printed_page bytes
-printed_of_bytes bytes page text is told =
-    let P : List ℕ → Type 0 = λ p. has_markup (chars p) ≡ false → text ≡ print (plain (chars p)) in subst P is told
+pub printed_of_bytes : (bytes page text : List ℕ) → page ≡ without_mark bytes → IsPrinted (chars page) text → IsPageText bytes text
+printed_of_bytes bytes page text is printed = subst (λ (p : List ℕ). IsPrinted (chars p) text) is printed
 
--- a part of the text of a page without markup was taken, where the bytes that were read are the page's
-pub takes_part : (left : Option (List ℕ)) (read text : List ℕ) (old new : Option (List ℕ)) (n : ℕ)
-    → IfSome left (λ bytes. read ≡ bytes) → (has_markup (page_text read) ≡ false → text ≡ printed_page read) → n < length text
-    → new ≡ append_known old (take n text)
-    → IfSome left (λ bytes. has_markup (page_text bytes) ≡ false → TakesPart (printed_page bytes) old new)
-takes_part None read text old new n told is within took = tt
-takes_part (Some bytes) read text old new n told is within took = λ plain.
-    let P : List ℕ → Type 0 = λ b. has_markup (page_text b) ≡ false → text ≡ printed_page b in
-    let same : text ≡ printed_page bytes = (subst P told is) plain in
-    subst (λ t. TakesPart t old new) same (n, within, took)
+-- the text of the page's tree was taken, or a part of it
+pub takes_page : (bytes text : List ℕ) (old new : Option (List ℕ)) → IsPageText bytes text → new ≡ append_known old text → TakesPage bytes old new
+takes_page bytes text old new tree took = (tree.0, tree.1, took ∙ ap (append_known old) tree.2)
 
--- the whole text of a page without markup was taken
-pub takes_page : (left : Option (List ℕ)) (read text : List ℕ) (old new : Option (List ℕ))
-    → IfSome left (λ bytes. read ≡ bytes) → (has_markup (page_text read) ≡ false → text ≡ printed_page read)
-    → new ≡ append_known old text
-    → IfSome left (λ bytes. has_markup (page_text bytes) ≡ false → new ≡ append_known old (printed_page bytes))
-takes_page None read text old new told is took = tt
-takes_page (Some bytes) read text old new told is took = λ plain.
-    let P : List ℕ → Type 0 = λ b. has_markup (page_text b) ≡ false → text ≡ printed_page b in
-    took ∙ ap (append_known old) ((subst P told is) plain)
+pub takes_page_part : (bytes text : List ℕ) (old new : Option (List ℕ)) (n : ℕ) → IsPageText bytes text → n < length text
+    → new ≡ append_known old (take n text) → TakesPagePart bytes old new
+takes_page_part bytes text old new n tree within took = (tree.0, tree.1, subst (λ t. TakesPart t old new) tree.2 (n, within, took))
 
--- the text of a tree was taken, or a part of it
-pub takes_tree : (text : List ℕ) (old new : Option (List ℕ)) → IsTreeText text → new ≡ append_known old text → TakesTree old new
-takes_tree text old new tree took = (tree.0, took ∙ ap (append_known old) tree.1)
+-- it is the text of a tree
+pub takes_tree : (bytes : List ℕ) (old new : Option (List ℕ)) → TakesPage bytes old new → TakesTree old new
+takes_tree bytes old new taken = (taken.0, taken.2)
 
-pub takes_tree_part : (text : List ℕ) (old new : Option (List ℕ)) (n : ℕ) → IsTreeText text → n < length text
-    → new ≡ append_known old (take n text) → TakesTreePart old new
-takes_tree_part text old new n tree within took = (tree.0, subst (λ t. TakesPart t old new) tree.1 (n, within, took))
+pub takes_tree_part : (bytes : List ℕ) (old new : Option (List ℕ)) → TakesPagePart bytes old new → TakesTreePart old new
+takes_tree_part bytes old new taken = (taken.0, taken.2)
+
+-- what holds of the bytes that were read holds of the page's, where these are told
+pub of_page : (left : Option (List ℕ)) (read : List ℕ) (P : List ℕ → Type 0) → IfSome left (λ bytes. read ≡ bytes) → P read → IfSome left P
+of_page None read P is h = tt
+of_page (Some bytes) read P is h = subst P is h
+
+-- a cause with no words against it
+pub without_words : (left : Option (List ℕ)) (answer : Status) (cause : List ℕ → Type 0) (words : List (List ℕ)) (result : Status) (rose : Type 0) → words ≡ []
+    → IfSome left (λ bytes. ComesExactly answer (cause bytes) result rose) → IfSome left (λ bytes. ComesExactly answer ((words ≡ []) × cause bytes) result rose)
+without_words None answer cause words result rose none h = tt
+without_words (Some bytes) answer cause words result rose none h = record { only = λ e. (none, h.only e); always = λ k. h.always k.1 }

@@ -4,6 +4,9 @@ use Rattle.std.specs.Io.KnownBytes.{append_known}
 use Rattle.hp_text.specs.declared.reading.TheConstants.{PAGE_LIMIT}
 use Rattle.hp_control.specs.Tree.{Tree}
 use Rattle.hp_print.specs.Print.{print}
+use Rattle.hp_names.specs.BuiltIn.{built_in}
+use Rattle.hp_run.specs.Pages.{IsTreeOf}
+use Rattle.hp_program.specs.Page.{page_text}
 use Rattle.hp_program.specs.declared.status.Status.{Status}
 use Rattle.hp_program.specs.declared.status.Status.TheVariants.{ReadFault, NoMemory}
 
@@ -42,3 +45,23 @@ TakesTree old new = (tree : Tree) × (new ≡ append_known old (print tree))
 -- the first bytes of the printed text of a tree were taken, and not all of them
 abbrev pub TakesTreePart : Option (List ℕ) → Option (List ℕ) → Type 0
 TakesTreePart old new = (tree : Tree) × TakesPart (print tree) old new
+
+-- the tree of the page: the one that the standard's sequential parser builds (13.2)
+abbrev pub IsPageTree : List ℕ → Tree → Type 0
+IsPageTree bytes tree = IsTreeOf built_in (page_text bytes) tree
+
+-- the printed text of the tree of a text
+abbrev pub IsPrinted : List ℕ → List ℕ → Type 0
+IsPrinted page text = (tree : Tree) × IsTreeOf built_in page tree × (text ≡ print tree)
+
+-- the printed text of the page's tree
+abbrev pub IsPageText : List ℕ → List ℕ → Type 0
+IsPageText bytes text = IsPrinted (page_text bytes) text
+
+-- the printed text of the page's tree was taken, and nothing else
+abbrev pub TakesPage : List ℕ → Option (List ℕ) → Option (List ℕ) → Type 0
+TakesPage bytes old new = (tree : Tree) × IsPageTree bytes tree × (new ≡ append_known old (print tree))
+
+-- the first bytes of it were taken, and not all of them
+abbrev pub TakesPagePart : List ℕ → Option (List ℕ) → Option (List ℕ) → Type 0
+TakesPagePart bytes old new = (tree : Tree) × IsPageTree bytes tree × TakesPart (print tree) old new

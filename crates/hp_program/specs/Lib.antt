@@ -1,5 +1,4 @@
 pub mod Page
-pub mod Plain
 pub mod Answers
 pub mod Status
 pub mod Words

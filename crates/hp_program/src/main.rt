@@ -2,8 +2,6 @@
 #![tactic(auto)]
 
 mod gate;
-mod page_text;
-mod plain;
 mod status;
 #[cfg(test)]
 mod tests;

@@ -1,17 +1,11 @@
 //! The top call.
 ghost use Rattle.std.specs.Prelude.{◌≡◌, ◌≢◌, ◌⊎◌, ◌↔◌, ◌+◌, ◌≤◌, Some, Ok, Err, [], false, length, IfOk, OnOk, IfErr, IfSome, IsUtf8};
-ghost use Rattle.std.specs.Io.KnownBytes.{append_known};
 ghost use Rattle.hp_text.specs.Device.{Rose, Gives};
-ghost use Rattle.hp_program.specs.Answers.{IsTooLarge, IsNotText, IsText, IsTreeText, ComesExactly, TakesPart, TakesTree, TakesTreePart};
-ghost use Rattle.hp_program.specs.Page.{page_text, has_markup as is_marked};
+ghost use Rattle.hp_program.specs.Answers.{IsTooLarge, IsNotText, IsText, IsPageText, IsPrinted, ComesExactly, TakesTree, TakesTreePart, TakesPage, TakesPagePart};
 ghost use Rattle.hp_text.specs.Page.{text_of};
-ghost use Rattle.hp_print.specs.Print.{print};
 ghost use Rattle.std.specs.Str.{chars};
-ghost use Rattle.hp_program.specs.Plain.{plain, printed_page};
 
 use crate::gate::Gate;
-use crate::page_text::has_markup;
-use crate::plain::print_plain;
 use crate::status::Status;
 use crate::words::Words;
 use hp_fragment::parse_whole;
@@ -36,32 +30,19 @@ fn refused(refusal: ReadRefusal) -> Status
     }
 }
 
-/// The printed tree of a page that has markup.
-fn print_parsed(alloc: Global, page: Page<'_>) -> Result<Vec<u8>, NoMemory>
-    ensures { IfOk result (λ text. IsTreeText text.items) }
+/// The printed tree of a page.
+fn print_page(alloc: Global, page: Page<'_>) -> Result<Vec<u8>, NoMemory>
+    ensures { IfOk result (λ text. IsPrinted (chars (text_of page.entry)) text.items) }
 {
     let tree = parse_whole(alloc, page)?;
-    print_tree(alloc, &tree)
-}
-
-/// The printed tree of a page. Of one without markup it is told which tree that is.
-fn print_page(alloc: Global, page: Page<'_>) -> Result<Vec<u8>, NoMemory>
-    ensures tree { IfOk result (λ text. IsTreeText text.items) }
-    ensures plain { IfOk result (λ text. is_marked (chars (text_of page.entry)) ≡ false → text.items ≡ print (plain (chars (text_of page.entry)))) }
-{
-    if has_markup(page.text()) {
-        let text = print_parsed(alloc, page)?;
-        return Ok(text);
-    }
-    let text = print_plain(alloc, page)?;
+    let text = print_tree(alloc, &tree)?;
     Ok(text)
 }
 
 /// What is written for the bytes of a page.
 fn answer(alloc: Global, bytes: &[u8]) -> Result<Vec<u8>, Status>
     requires { length bytes.now ≤ PAGE_LIMIT }
-    ensures plain { IfOk result (λ text. is_marked (page_text bytes.now) ≡ false → text.items ≡ printed_page bytes.now) }
-    ensures tree { IfOk result (λ text. IsTreeText text.items) }
+    ensures tree { IfOk result (λ text. IsPageText bytes.now text.items) }
     ensures text { OnOk result (IsText bytes.now) }
     ensures not_utf8 { result ≡ Err Status.NotUtf8 → IsNotText bytes.now }
     ensures refusals { IfErr result (λ status. (status ≡ Status.NotUtf8) ⊎ (status ≡ Status.NoMemory)) }
@@ -73,6 +54,59 @@ fn answer(alloc: Global, bytes: &[u8]) -> Result<Vec<u8>, Status>
         Ok(text) => Ok(text),
         Err(_) => Err(Status::NoMemory),
     }
+}
+
+/// Writes the printed tree of the page of these bytes to `out`.
+#[tactic(auto, using(crate::proofs::Written::takes_page, crate::proofs::Written::takes_page_part))]
+fn put_tree<K: Sink>(alloc: Global, bytes: &[u8], out: &mut K) -> Status
+    requires { length bytes.now ≤ PAGE_LIMIT }
+    ensures answers { (result ≡ Status.Done) ⊎ (result ≡ Status.WriteFault) ⊎ (result ≡ Status.NotUtf8) ⊎ (result ≡ Status.NoMemory) }
+    ensures not_utf8 { result ≡ Status.NotUtf8 → IsNotText bytes.now }
+    ensures done_text { result ≡ Status.Done → IsText bytes.now }
+    ensures part_text { result ≡ Status.WriteFault → IsText bytes.now }
+    ensures write_fault { result ≡ Status.WriteFault → Rose (K.faults out.old) (K.faults out.new) }
+    ensures done { result ≡ Status.Done → TakesPage bytes.now (K.taken out.old) (K.taken out.new) }
+    ensures part { result ≡ Status.WriteFault → TakesPagePart bytes.now (K.taken out.old) (K.taken out.new) }
+    ensures nothing { result ≢ Status.Done → result ≢ Status.WriteFault → out.new ≡ out.old }
+{
+    let text = match answer(alloc, bytes) {
+        Ok(text) => text,
+        Err(status) => return status,
+    };
+    match write_whole(out, &text) {
+        Ok(()) => Status::Done,
+        Err(_) => Status::WriteFault,
+    }
+}
+
+/// Reads the page, and writes its printed tree to `out`. The first refusal decides, in the order reading, UTF-8, writing.
+#[tactic(auto, using(crate::proofs::Written::takes_tree, crate::proofs::Written::takes_tree_part, crate::proofs::Written::of_page))]
+fn answer_page<S: Source, K: Sink>(alloc: Global, page: &mut S, out: &mut K) -> Status
+    ensures no_usage { result ≢ Status.Usage }
+    ensures too_large { IfSome (S.left page.old) (λ bytes. ComesExactly Status.TooLarge
+        (IsTooLarge bytes) result (Rose (S.faults page.old) (S.faults page.new))) }
+    ensures too_large_gives { result ≡ Status.TooLarge → Gives (λ n. n ≡ PAGE_LIMIT + 1) (S.left page.old) (S.left page.new) }
+    ensures not_utf8 { IfSome (S.left page.old) (λ bytes. ComesExactly Status.NotUtf8
+        (IsNotText bytes) result (Rose (S.faults page.old) (S.faults page.new))) }
+    ensures read_fault { result ≡ Status.ReadFault → Rose (S.faults page.old) (S.faults page.new) }
+    ensures write_fault { result ≡ Status.WriteFault → Rose (K.faults out.old) (K.faults out.new) }
+    ensures done_read { result ≡ Status.Done → IfSome (S.left page.old) (λ _. S.left page.new ≡ Some []) }
+    ensures done_tree { result ≡ Status.Done → TakesTree (K.taken out.old) (K.taken out.new) }
+    ensures done { result ≡ Status.Done → IfSome (S.left page.old) (λ bytes.
+        TakesPage bytes (K.taken out.old) (K.taken out.new)) }
+    ensures part_tree { result ≡ Status.WriteFault → TakesTreePart (K.taken out.old) (K.taken out.new) }
+    ensures part { result ≡ Status.WriteFault → IfSome (S.left page.old) (λ bytes.
+        TakesPagePart bytes (K.taken out.old) (K.taken out.new)) }
+    ensures nothing { result ≢ Status.Done → result ≢ Status.WriteFault → out.new ≡ out.old }
+    ensures complete { ¬ (Rose (S.faults page.old) (S.faults page.new)) →
+        ¬ (Rose (K.faults out.old) (K.faults out.new)) → IfSome (S.left page.old) (λ bytes.
+        IsText bytes → (result ≡ Status.Done) ⊎ (result ≡ Status.NoMemory)) }
+{
+    let bytes = match read_page(alloc, page) {
+        Ok(bytes) => bytes,
+        Err(refusal) => return refused(refusal),
+    };
+    put_tree(alloc, &bytes, out)
 }
 
 /// Reads the page, and writes its printed tree to `out`. The first refusal decides, in the order words, reading,
@@ -102,15 +136,15 @@ pub fn hpar<R: Threads + Wait + Sync, S: Source, K: Sink, N: Sink, G: Gate + Syn
     ensures read_fault { result ≡ Status.ReadFault → Rose (S.faults page.old) (S.faults page.new) }
     ensures write_fault { result ≡ Status.WriteFault → Rose (K.faults out.old) (K.faults out.new) }
 
-    // What was read, and what was written: the printed text of a tree, or its first part. Of a page without markup it is
-    // told which tree that is.
+    // What was read, and what was written: the printed text of a tree, or its first part. Where the page is told, that tree is
+    // the one that the standard's sequential parser builds of it.
     ensures done_read { result ≡ Status.Done → IfSome (S.left page.old) (λ _. S.left page.new ≡ Some []) }
     ensures done_tree { result ≡ Status.Done → TakesTree (K.taken out.old) (K.taken out.new) }
-    ensures done { result ≡ Status.Done → IfSome (S.left page.old) (λ bytes. is_marked (page_text bytes) ≡ false →
-        K.taken out.new ≡ append_known (K.taken out.old) (printed_page bytes)) }
+    ensures done { result ≡ Status.Done → IfSome (S.left page.old) (λ bytes.
+        TakesPage bytes (K.taken out.old) (K.taken out.new)) }
     ensures part_tree { result ≡ Status.WriteFault → TakesTreePart (K.taken out.old) (K.taken out.new) }
-    ensures part { result ≡ Status.WriteFault → IfSome (S.left page.old) (λ bytes. is_marked (page_text bytes) ≡ false →
-        TakesPart (printed_page bytes) (K.taken out.old) (K.taken out.new)) }
+    ensures part { result ≡ Status.WriteFault → IfSome (S.left page.old) (λ bytes.
+        TakesPagePart bytes (K.taken out.old) (K.taken out.new)) }
     ensures nothing { result ≢ Status.Done → result ≢ Status.WriteFault → out.new ≡ out.old }
     ensures silent { notes.new ≡ notes.old }
 
@@ -122,16 +156,5 @@ pub fn hpar<R: Threads + Wait + Sync, S: Source, K: Sink, N: Sink, G: Gate + Syn
     if !words.is_empty() {
         return Status::Usage;
     }
-    let bytes = match read_page(alloc, page) {
-        Ok(bytes) => bytes,
-        Err(refusal) => return refused(refusal),
-    };
-    let text = match answer(alloc, &bytes) {
-        Ok(text) => text,
-        Err(status) => return status,
-    };
-    match write_whole(out, &text) {
-        Ok(()) => Status::Done,
-        Err(_) => Status::WriteFault,
-    }
+    answer_page(alloc, page, out)
 }

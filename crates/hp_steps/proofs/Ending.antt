@@ -21,7 +21,7 @@ use Rattle.hp_steps.proofs.Shifting.{end_move-same, move-same}
 use Rattle.hp_steps.proofs.Standing.{LeadsSame, leads-same}
 
 -- the moves of the end, of whose tokens none switches the lexer
-pub end-goes : (rules : Rules) {l k : Lexing} {es : List Emitted} (c : ControlState) (rest : List Emitted) → Leads (end_move rules) l es k → end_move rules k ≡ ends rest
+end-goes : (rules : Rules) {l k : Lexing} {es : List Emitted} (c : ControlState) (rest : List Emitted) → Leads (end_move rules) l es k → end_move rules k ≡ ends rest
     → AreQuiet handle c (tokens_of es ++ tokens_of rest) → EndsWith rules (at l c) (made_after handle c (tokens_of es ++ tokens_of rest))
 end-goes rules {l} c rest here ended q = subst (EndsWith rules (at l c)) (built-made rest (at l c)) (last ended)
 end-goes rules {l} c rest (onward {m = m} {es = es} {fs = fs} made more) ended q =

@@ -2,3 +2,4 @@ pub mod Alike
 pub mod Closing
 pub mod Handling
 pub mod Standing
+pub mod Laws

@@ -1,5 +1,18 @@
 //! What the lexer's calls are as steps of the run of the sequential parser: laws on contracts whose bodies do nothing.
 #![tactic(auto)]
 
-/// Nothing.
-pub fn nothing() {}
+ghost use Rattle.hp_steps.specs.Laws.{EndMovesSame, LoudStep, MovesSame, QuietSteps, TagsClose};
+
+/// Places are only counted: lexers that have the same machine and the same unread text make the same moves.
+pub fn places_count()
+    ensures moves { MovesSame }
+    ensures ends { EndMovesSame }
+{}
+
+/// In a text in which nothing stands behind a `>`, a token that is no character is the last that is emitted. Tokens that switch
+/// the lexer nowhere, and one that may and was emitted last, are steps of the run, with the edits of their handling.
+pub fn tokens_step()
+    ensures close { TagsClose }
+    ensures quiet { QuietSteps }
+    ensures loud { LoudStep }
+{}

@@ -1,4 +1,4 @@
-use Rattle.std.proofs.Common.{◌≡◌, None, Some, lit<, sym, ◌∙◌}
+use Rattle.std.proofs.Common.{None, Some, lit<, sym, ◌∙◌}
 use Rattle.std.proofs.lemmas.Str.Pattern.{strip_prefix_char}
 use Rattle.hp_acts.proofs.LineFeeds.{text_ends, text_goes_on, text_stays}
 use Rattle.hp_acts.proofs.token_parts.after_first.Goals as goal

@@ -1,9 +1,9 @@
-use Rattle.std.proofs.Common.{◌≡◌, ◌+◌, ◌-◌, ◌∙◌, Err, Ok, None, Some, refl, slice_get, sym, suc, arith}
+use Rattle.std.proofs.Common.{◌≡◌, ◌-◌, ◌∙◌, Err, Ok, sym, suc, arith}
 use Rattle.hp_acts.specs.Carrying.{going, present_plan, reached}
 use Rattle.hp_acts.specs.RowPlans.{rules_plan}
 use Rattle.hp_acts.specs.Rows.{acts_in}
 use Rattle.hp_acts.proofs.Keeping.{each_keeps}
-use Rattle.hp_acts.proofs.RowRuns.{Stepped, Using, again_at, begins, came_again, came_left, done_at, ends_past, is_error, left_whole, moved_to, refused_at, refused_in, rest_behind, so_left, used_again, used_to, using_at}
+use Rattle.hp_acts.proofs.RowRuns.{again_at, begins, came_again, came_left, done_at, ends_past, is_error, left_whole, moved_to, refused_at, refused_in, rest_behind, so_left, used_again, used_to, using_at}
 use Rattle.hp_acts.proofs.TurnRuns.{nested_comes, nested_none}
 use Rattle.hp_acts.proofs.turns.+carry_row.Goals as goal
 

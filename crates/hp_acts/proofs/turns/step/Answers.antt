@@ -1,4 +1,4 @@
-use Rattle.std.proofs.Common.{◌≡◌, ◌+◌, Bool, false, drop, Err, refl, sym, ap, ◌∙◌, arith}
+use Rattle.std.proofs.Common.{◌≡◌, ◌+◌, false, drop, Err, refl, arith}
 use Rattle.hp_views.specs.View.{sight}
 use Rattle.hp_acts.specs.Carrying.{going, present_plan, reached}
 use Rattle.hp_acts.specs.Rows.{acts_in}

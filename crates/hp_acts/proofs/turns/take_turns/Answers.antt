@@ -1,7 +1,6 @@
-use Rattle.std.proofs.Common.{◌-◌}
 use Rattle.hp_views.specs.View.{sight, split_of}
 use Rattle.hp_acts.specs.Carrying.{reached}
-use Rattle.hp_acts.specs.HandlePlans.{all_turns_plan, turns_plan}
+use Rattle.hp_acts.specs.HandlePlans.{all_turns_plan}
 use Rattle.hp_acts.specs.RowPlans.{turn_plan}
 use Rattle.hp_acts.proofs.RowRuns.{came_again, came_left, is_error}
 use Rattle.hp_acts.proofs.TurnRuns.{turn_again, turn_done, turn_refused, turns_run_out}

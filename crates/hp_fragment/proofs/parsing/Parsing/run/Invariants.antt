@@ -1,11 +1,10 @@
-use Rattle.std.proofs.Common.{◌≤◌}
-use Rattle.std.specs.Prelude.{IsTrue}
-use Rattle.hp_tokens.specs.Advancing.{held}
-use Rattle.hp_lexer.specs.Standing.{is_answered, load}
+use Rattle.std.proofs.Common.{ℕ, List, length}
+use Rattle.hp_names.specs.References.{Reference}
+use Rattle.hp_fragment.specs.Reading.{IsReady, Reads}
 use Rattle.hp_fragment.proofs.parsing.Parsing.run.Given as goal
 
-abbrev pub invariant-steps : goal.invariant-steps
-invariant-steps l = IsTrue (is_answered l.self.lexer.asked) × (held l.self.lexer.lex ≤ l.self.input.place)
+abbrev pub invariant-pieces : goal.invariant-pieces
+invariant-pieces l = IsReady l.self × ((refs : List Reference) (page : List ℕ) → Reads refs page l.fn.self → Reads refs page l.self)
 
-abbrev pub decreases-steps : goal.decreases-steps
-decreases-steps l = load l.self.lexer l.self.input
+abbrev pub decreases-pieces : goal.decreases-pieces
+decreases-pieces l = length l.self.later.now

@@ -1,0 +1,47 @@
+-- The next piece of a page.
+use Rattle.std.proofs.Common.{◌≡◌, ℕ, ◌^◌, List, [], ◌++◌, refl, ap, ◌∙◌, sym, subst}
+use Rattle.std.specs.Str.{chars}
+use Rattle.hp_names.specs.References.{Reference}
+use Rattle.hp_tokens.specs.Advancing.{held}
+use Rattle.hp_tokens.specs.Runs.{followed_by as more_unread}
+use Rattle.hp_control.specs.States.{ControlState}
+use Rattle.hp_lexer.specs.declared.lexer.Lexer.{Lexer}
+use Rattle.hp_lexer.specs.Standing.{is_answered, opened, stands}
+use Rattle.hp_steps.specs.Closing.{EndsAtTag}
+use Rattle.hp_steps.specs.Standing.{HasRead}
+use Rattle.hp_steps.proofs.Standing.{like-on, piece-on}
+use Rattle.hp_fragment.specs.Building.{control_of, grown, IsBuilder}
+use Rattle.hp_fragment.specs.Reading.{IsAtEnd, IsReady, Reads, HasEnded}
+use Rattle.hp_fragment.proofs.Numbers.{fits-on}
+use Rattle.hp_fragment.specs.declared.parsing.Parsing.{Parsing}
+
+-- the lexer may be called over it
+pub piece-ready : (old new : Parsing) → IsAtEnd old → new.lexer ≡ old.lexer → new.input.place ≡ 2 ^ 32 → new.builder ≡ old.builder → IsReady new
+piece-ready old new at_end lexer place builder = record {
+  answered = ap (λ (l : Lexer). is_answered l.asked) lexer ∙ ap is_answered at_end.asked;
+  held = fits-on (held new.lexer.lex) (held old.lexer.lex) new.input.place (2 ^ 32) at_end.held place (ap (λ (l : Lexer). held l.lex) lexer);
+  builder = subst IsBuilder (sym builder) at_end.builder;
+}
+
+-- the next piece of the page
+pub piece-taken : (refs : List Reference) (page : List ℕ) (old new : Parsing) (piece : List ℕ) → HasEnded refs page old → old.input.text ≡ [] → old.lexer.lex.ahead ≡ [] → chars old.later.now ≡ piece ++ chars new.later.now
+    → EndsAtTag piece → new.lexer ≡ old.lexer → new.input.text ≡ piece → new.builder ≡ old.builder → Reads refs page new
+piece-taken refs page old new piece ended used ahead cut closed lexer input builder = record {
+  edits = ended.reads.edits;
+  read = subst (λ (c : ControlState). HasRead refs page (stands new.lexer new.input) (chars new.later.now) c ended.reads.edits) (ap control_of (sym builder))
+      (like-on refs page (more_unread (stands old.lexer old.input) piece) (stands new.lexer new.input) (chars new.later.now) (control_of old.builder) ended.reads.edits
+      (piece-on refs page (stands old.lexer old.input) piece (chars new.later.now) (control_of old.builder) ended.reads.edits
+      (subst (λ (t : List ℕ). HasRead refs page (stands old.lexer old.input) t (control_of old.builder) ended.reads.edits) cut ended.reads.read))
+      (record { machine = ap (λ (l : Lexer). opened l.asked l.lex.machine) lexer; unread = unread ∙ sym front }));
+  grown = ap grown builder ∙ ended.reads.grown;
+  closed = subst EndsAtTag (sym unread) closed;
+  names = ap (λ (l : Lexer). l.names) lexer ∙ ended.reads.names;
+}
+  where
+    unread : new.lexer.lex.ahead ++ new.input.text ≡ piece
+    unread =
+        ap (λ (l : Lexer). l.lex.ahead ++ new.input.text) lexer
+        ∙ (ap (λ (a : List ℕ). a ++ new.input.text) ahead ∙ input)
+
+    front : (old.lexer.lex.ahead ++ old.input.text) ++ piece ≡ piece
+    front = ap (λ (a : List ℕ). (a ++ old.input.text) ++ piece) ahead ∙ ap (λ (t : List ℕ). t ++ piece) used

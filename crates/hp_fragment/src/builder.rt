@@ -1,0 +1,178 @@
+// Tree construction over the tokens of a page: the control state, and the tree so far.
+ghost use Rattle.std.specs.Prelude.{◌≡◌, [], map, IfOk, OnOk};
+ghost use Rattle.hp_tokens.specs.Advancing.{AreRuns, IsRun};
+ghost use Rattle.hp_control.specs.Apply.{named, named_child, named_edit, named_place};
+ghost use Rattle.hp_control.specs.Nothing.{nothing};
+ghost use Rattle.hp_control.specs.States.{start};
+ghost use Rattle.hp_control.specs.Composed.{is_foreign_now};
+ghost use Rattle.hp_control.specs.Tree.{applied_all, document};
+ghost use Rattle.hp_model.specs.Whole.{IsRead};
+ghost use Rattle.hp_steps.specs.Handling.{AllRead};
+ghost use Rattle.hp_fragment.specs.Building.{control_of, grown, IsBuilder, HandledOne, HandledAll, HasGrown};
+
+use crate::NoMemory;
+use hp_acts::handle;
+use hp_arena::Tree;
+use hp_control::{Child, Control, Edit, Edits, Nothing, Place, Ref};
+use hp_elements::{Rest, Token, Tokens};
+use hp_views::View;
+use std::alloc::Global;
+
+/// How many edits are made before they are applied to the tree. So many stay in the processor's nearest memory.
+const BATCH: usize = 128;
+
+/// The control state of a page, and the tree so far with the edits that are still to be applied to it.
+#[derive(Drop)]
+pub(crate) struct Builder<'p> {
+    view: View<'p, Nothing>,
+    tree: Tree<'p>,
+}
+
+impl<'p> Builder<'p> {
+    /// Before the first token: the document alone.
+    pub fn of_page(alloc: Global, control: Control) -> Result<Builder<'p>, NoMemory>
+        ensures builder { IfOk result IsBuilder }
+        ensures control { IfOk result (λ builder. control_of builder ≡ control) }
+        ensures tree { IfOk result (λ builder. grown builder ≡ document) }
+    {
+        control.is_kept();
+        Ok(Builder {
+            view: View::whole(control),
+            tree: Tree::start(alloc)?,
+        })
+    }
+
+    /// Whether there is an adjusted current node outside the HTML namespace.
+    pub fn is_foreign(&mut self, alloc: Global) -> Result<bool, NoMemory>
+        requires builder { IsBuilder self.old }
+        ensures foreign { IfOk result (λ foreign. foreign ≡ is_foreign_now (control_of self.old)) }
+        ensures builder { OnOk result (IsBuilder self.new) }
+        ensures control { OnOk result (control_of self.new ≡ control_of self.old) }
+        ensures grown { OnOk result (grown self.new ≡ grown self.old) }
+    {
+        self.view.foreign_now(alloc)
+    }
+
+    /// Handles a token. Answers the state in which the lexer goes on, where the token calls for another than its own.
+    pub fn handle_one(&mut self, alloc: Global, token: Token<'p>) -> Result<Option<Rest>, NoMemory>
+        requires builder { IsBuilder self.old }
+        requires read { IsRead token }
+        ensures { IfOk result (λ switch. HandledOne self.old self.new token.entry switch) }
+    {
+        match handle(alloc, &mut self.view, token) {
+            Ok(handled) => Ok(handled.switch),
+            Err(_) => Err(NoMemory),
+        }
+    }
+
+    /// Handles tokens one behind the other, of which none is to call for another state of the lexer.
+    pub fn handle_all(&mut self, alloc: Global, tokens: Tokens<'p>) -> Result<(), NoMemory>
+        requires builder { IsBuilder self.old }
+        requires read { AllRead tokens }
+        requires runs { AreRuns tokens }
+        ensures { OnOk result (HandledAll self.old self.new tokens.entry) }
+    {
+        hp_model::at_once();
+        for token in tokens {
+            if self.handle_one(alloc, token)?.is_some() {
+                return Err(NoMemory);
+            }
+        }
+        Ok(())
+    }
+
+    /// Applies the edits made so far to the tree, where they are many.
+    pub fn grow_by_batch(&mut self, alloc: Global) -> Result<(), NoMemory>
+        ensures { OnOk result (HasGrown self.old self.new) }
+    {
+        if self.view.edits.len() < BATCH {
+            return Ok(());
+        }
+        self.grow(alloc)
+    }
+
+    /// Applies the edits made so far to the tree.
+    fn grow(&mut self, alloc: Global) -> Result<(), NoMemory>
+        ensures grown { OnOk result (HasGrown self.old self.new) }
+        ensures all { OnOk result (self.new.view.edits ≡ []) }
+    {
+        apply_all(alloc, &mut self.tree, &mut self.view.edits)
+    }
+
+    /// The tree, with all edits.
+    pub fn into_tree(mut self, alloc: Global) -> Result<Tree<'p>, NoMemory>
+        ensures { IfOk result (λ tree. tree.branches ≡ grown self.entry) }
+    {
+        self.grow(alloc)?;
+        Ok(self.tree)
+    }
+}
+
+/// Applies the edits to the tree, in order, and leaves room for as many again.
+fn apply_all<'p>(alloc: Global, tree: &mut Tree<'p>, edits: &mut Edits<'p>) -> Result<(), NoMemory>
+    ensures tree { OnOk result (tree.new.branches ≡ applied_all tree.old.branches (map (named_edit nothing) edits.old)) }
+    ensures edits { OnOk result (edits.new ≡ []) }
+{
+    tree.reserve(alloc, edits)?;
+    let mut batch = Vec::with_capacity(alloc, BATCH)?;
+    edits.take_into(&mut batch);
+    for edit in batch {
+        tree.apply(told(edit));
+    }
+    Ok(())
+}
+
+/// The edit, with each element told by its id. Where no older state is below, an own element's number is its id.
+fn told<'p>(edit: Edit<'p>) -> Edit<'p>
+    ensures { result ≡ named_edit nothing edit.entry }
+{
+    match edit {
+        Edit::NewElement { tag } => Edit::NewElement { tag },
+        Edit::Put { child, place } => Edit::Put {
+            child: told_child(child),
+            place: told_place(place),
+        },
+        Edit::Detach { node } => Edit::Detach {
+            node: told_node(node),
+        },
+        Edit::MoveChildren { from, to } => Edit::MoveChildren {
+            from: told_node(from),
+            to: told_node(to),
+        },
+        Edit::AddMissing { node, attributes } => Edit::AddMissing {
+            node: told_node(node),
+            attributes,
+        },
+    }
+}
+
+fn told_child<'p>(child: Child<'p>) -> Child<'p>
+    ensures { result ≡ named_child nothing child.entry }
+{
+    match child {
+        Child::Element(node) => Child::Element(told_node(node)),
+        other => other,
+    }
+}
+
+fn told_place(place: Place) -> Place
+    ensures { result ≡ named_place nothing place }
+{
+    match place {
+        Place::Into(parent) => Place::Into(told_node(parent)),
+        Place::Foster { table, above } => Place::Foster {
+            table: told_node(table),
+            above: told_node(above),
+        },
+    }
+}
+
+fn told_node(node: Ref) -> Ref
+    ensures { result ≡ named nothing node }
+{
+    match node {
+        Ref::Fixed(id) => Ref::Fixed(id),
+        Ref::Own(number) => Ref::Fixed(number),
+        Ref::Older(_) => Ref::Fixed(0),
+    }
+}
