@@ -1,12 +1,13 @@
 -- What the tokens of the end of input do is the end of input.
-use Rattle.std.proofs.Common.{◌≡◌, ℕ, List, [], ◌∷◌, ◌++◌, ◌^◌, refl, ap, ◌∙◌, sym, subst, append-nil, map}
+use Rattle.std.proofs.Common.{◌≡◌, ℕ, List, [], ◌∷◌, ◌++◌, ◌^◌, refl, ap, ◌∙◌, sym, subst, append-nil, append_assoc, map}
 use Rattle.std.specs.Prelude.{All}
 use Rattle.std.proofs.lemmas.List.Elements.{All-cons, All-nil}
 use Rattle.hp_elements.specs.declared.token.Token.{Token}
 use Rattle.hp_names.specs.BuiltIn.{built_in}
 use Rattle.hp_names.specs.References.{Reference}
 use Rattle.hp_tokens.specs.Advancing.{AreRuns, Ends as EndsText, end_of_text, lexing, singles, tokens_of}
-use Rattle.hp_tokens.specs.Moves.{Lexing}
+use Rattle.hp_tokens.specs.Moves.{Emitted, Lexing, Rules, end_move, ends}
+use Rattle.hp_tokens.specs.Runs.{Leads, here, onward}
 use Rattle.hp_tokens.specs.declared.lexing.LexState.{LexState}
 use Rattle.hp_control.specs.Apply.{named, named_child, named_edit, named_place}
 use Rattle.hp_control.specs.Edits.{IsFixed, IsFixedChild, IsFixedEdit, IsFixedPlace}
@@ -27,8 +28,8 @@ use Rattle.hp_lexer.specs.declared.lexer.Lexer.{Lexer}
 use Rattle.hp_lexer.specs.Table.{table}
 use Rattle.hp_model.specs.AtOnce.{MakeSame, RunsAtOnce, handle_at_once}
 use Rattle.hp_model.specs.Handling.{handle}
-use Rattle.hp_model.specs.Runs.{EndsWith}
-use Rattle.hp_steps.proofs.Ending.{end-goes}
+use Rattle.hp_model.specs.Runs.{EndsWith, before_it, last}
+use Rattle.hp_steps.proofs.Batches.{at, built-made, left-append, made-append, quiet-split, quiet-step}
 use Rattle.hp_steps.proofs.Began.{tokens-append}
 use Rattle.hp_steps.proofs.Together.{Comes, together}
 use Rattle.hp_steps.specs.Handling.{AreQuiet, left_after, made_after}
@@ -64,6 +65,21 @@ pub told-fixed : (es : List Edit) → All IsFixedEdit (map (named_edit nothing) 
 told-fixed [] = All-nil IsFixedEdit
 told-fixed (e ∷ es) = All-cons IsFixedEdit (named_edit nothing e) (map (named_edit nothing) es) (edit-fixed e) (told-fixed es)
 
+-- the moves of the end, of whose tokens none switches the lexer
+end-goes : (rules : Rules) {l k : Lexing} {es : List Emitted} (c : ControlState) (rest : List Emitted) → Leads (end_move rules) l es k → end_move rules k ≡ ends rest
+    → AreQuiet handle c (tokens_of es ++ tokens_of rest) → EndsWith rules (at l c) (made_after handle c (tokens_of es ++ tokens_of rest))
+end-goes rules {l} c rest here ended q = subst (EndsWith rules (at l c)) (built-made rest (at l c)) (last ended)
+end-goes rules {l} c rest (onward {m = m} {es = es} {fs = fs} made more) ended q =
+    let same : tokens_of (es ++ fs) ++ tokens_of rest ≡ tokens_of es ++ (tokens_of fs ++ tokens_of rest) =
+    ap (λ (ts : List Token). ts ++ tokens_of rest) (tokens-append es fs) ∙ append_assoc (tokens_of es) (tokens_of fs) (tokens_of rest) in
+    let mid : ControlState = left_after handle c (tokens_of es) in
+    let parts : AreQuiet handle c (tokens_of es) × AreQuiet handle mid (tokens_of fs ++ tokens_of rest) =
+    quiet-split handle c (tokens_of es) (tokens_of fs ++ tokens_of rest) (subst (AreQuiet handle c) same q) in
+    let way : EndsWith rules (at l c) (made_after handle c (tokens_of es) ++ made_after handle mid (tokens_of fs ++ tokens_of rest)) =
+    before_it (quiet-step l m es c (end_move rules l) made parts.0) (end-goes rules mid rest more ended parts.1) in
+    let P : List Token → Type 0 = λ ts. EndsWith rules (at l c) (made_after handle c ts) in
+    subst P (sym same) (subst (EndsWith rules (at l c)) (sym (made-append handle c (tokens_of es) (tokens_of fs ++ tokens_of rest))) way)
+
 -- the moves of the end are an end of the run
 ends-run : (l : Lexing) (c : ControlState) (tokens : List Token) → EndsText (table built_in) l [] tokens → AreQuiet handle c (singles tokens)
     → EndsWith (table built_in) (record { lexing = l; control = c }) (made_after handle c (singles tokens))
@@ -77,10 +93,10 @@ ends-run l c tokens end q = subst (λ (ts : List Token). EndsWith (table built_i
 
 pub ending_is : RunsAtOnce → (s : ControlState) (v w : Split) (tokens : List Token) (edits : List Edit) → IsValid (record s { lex = lex_start }) → control_of v ≡ record s { lex = lex_start } → v.edits ≡ []
     → ((rested : ℕ) → EndsText (table built_in) (lexing s.lex end_of_text rested) [] tokens) → CollectsAll v w tokens → edits ≡ edits_of w → IsEnd (record { entry = s; edits = edits })
-ending_is law s v w tokens edits valid is none ends handled told = record {
+ending_is law s v w tokens edits valid is none left handled told = record {
   ends = record {
     made = made_after handle c (singles tokens);
-    ends = end-same built_in (parser_in s) (ends-run (lexing s.lex end_of_text 0) c tokens (ends 0) comes.quiet) (record { lexing = record { machine = refl; unread = append-nil s.lex.ahead }; control = refl });
+    ends = end-same built_in (parser_in s) (ends-run (lexing s.lex end_of_text 0) c tokens (left 0) comes.quiet) (record { lexing = record { machine = refl; unread = append-nil s.lex.ahead }; control = refl });
     same = λ tree.
         ap (applied_all tree) told
         ∙ (handled.edits tree
@@ -94,7 +110,7 @@ ending_is law s v w tokens edits valid is none ends handled told = record {
     c = record s { lex = lex_start }
 
     comes : Comes c tokens
-    comes = together law tokens c handled.read (subst AreRuns (sym (ends 0).appends.appended) (ends 0).appends.runs) valid (subst (λ (d : ControlState). AreQuiet handle_at_once d tokens) is handled.quiet)
+    comes = together law tokens c handled.read (subst AreRuns (sym (left 0).appends.appended) (left 0).appends.runs) valid (subst (λ (d : ControlState). AreQuiet handle_at_once d tokens) is handled.quiet)
 
 pub end-runs : (names : List Reference) (l : Lexing) (tokens : List Token) → EndsText (table names) l [] tokens → AreRuns tokens
 end-runs names l tokens end = subst AreRuns (sym end.appends.appended) end.appends.runs
@@ -102,7 +118,7 @@ end-runs names l tokens end = subst AreRuns (sym end.appends.appended) end.appen
 -- the lexer over the built-in names, from a state
 pub named-ends : (lexer : Lexer) (lex own : LexState) (tokens : List Token) → lexer ≡ record { lex = lex; names = built_in; asked = asked.Nothing; rested = 2 ^ 32 } → lex ≡ own
     → ((rested : ℕ) → EndsText (table lexer.names) (lexing lexer.lex end_of_text rested) [] tokens) → (rested : ℕ) → EndsText (table built_in) (lexing own end_of_text rested) [] tokens
-named-ends lexer lex own tokens is same ends =
+named-ends lexer lex own tokens is same left =
     let P : Lexer → Type 0 = λ l. (rested : ℕ) → EndsText (table l.names) (lexing l.lex end_of_text rested) [] tokens in
     let Q : LexState → Type 0 = λ l. (rested : ℕ) → EndsText (table built_in) (lexing l end_of_text rested) [] tokens in
-    subst Q same (subst P is ends)
+    subst Q same (subst P is left)

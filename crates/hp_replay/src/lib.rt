@@ -3,9 +3,9 @@
 
 mod at_end;
 mod collecting;
-mod tokens;
 #[cfg(test)]
 mod tests;
+mod tokens;
 mod told;
 
 pub use at_end::ending;
