@@ -1,7 +1,6 @@
 -- The rows of raw text keep a machine that fits.
-use Rattle.std.proofs.Common.{◌≡◌, ℕ, List, [], ◌∷◌, Bool, true, false, ◌&&◌, not, refl, Option, None, Some}
+use Rattle.std.proofs.Common.{◌≡◌, ℕ, List, true, ◌&&◌, refl, Some}
 use Rattle.std.specs.Prelude.{IsTrue, ◌==◌}
-use Rattle.hp_tokens.specs.declared.building.Building.{Building}
 use Rattle.hp_tokens.specs.declared.machine.Machine.{Machine}
 use Rattle.hp_tokens.specs.declared.state.State.{State}
 use Rattle.hp_tokens.specs.declared.state.State.TheVariants.{Rcdata, Rawtext, ScriptData, Plaintext, RcdataLessThanSign, RcdataEndTagOpen, RcdataEndTagName, RawtextLessThanSign, RawtextEndTagOpen, RawtextEndTagName, ScriptDataLessThanSign, ScriptDataEndTagOpen, ScriptDataEndTagName, ScriptDataEscapeStart, ScriptDataEscapeStartDash, ScriptDataEscaped, ScriptDataEscapedDash, ScriptDataEscapedDashDash, ScriptDataEscapedLessThanSign, ScriptDataEscapedEndTagOpen, ScriptDataEscapedEndTagName, ScriptDataDoubleEscapeStart, ScriptDataDoubleEscaped, ScriptDataDoubleEscapedDash, ScriptDataDoubleEscapedDashDash, ScriptDataDoubleEscapedLessThanSign, ScriptDataDoubleEscapeEnd, BeforeAttributeName, SelfClosingStartTag, Data}
@@ -11,7 +10,7 @@ use Rattle.hp_tokens.specs.declared.building.Part.TheVariants.{Name}
 use Rattle.hp_tokens.specs.Rows.{is_blank, go, again, plus, lowered, putting, buffering, emitting_buffer, without_built}
 use Rattle.hp_lex_raw.specs.Letters.{solidus, less_than}
 use Rattle.hp_lex_raw.specs.Rows.{row, row_of, has_row, ends_name, is_appropriate, end_tag_name}
-use Rattle.hp_pieces.proofs.FitRows.{Fits, Keeps, keeps, either-keeps, go-keeps, again-keeps, stay-keeps, plus-keeps, emitting-keeps, buffer-keeps, back-keeps, flushing-keeps, built-fits, buffer-fits, value-fits, told-after}
+use Rattle.hp_pieces.proofs.FitRows.{Fits, Keeps, keeps, either-keeps, go-keeps, again-keeps, stay-keeps, plus-keeps, emitting-keeps, buffer-keeps, built-fits, buffer-fits, told-after}
 
 name_keeps : (s text : State) (m : Machine) (c : ℕ) → m.state ≡ s → uses_token s ≡ true → uses_buffer s ≡ true → Fits m → Keeps (end_tag_name text m (Some c))
 name_keeps s text m c e t b h =
@@ -25,30 +24,30 @@ each_keeps : (s : State) (m : Machine) (c : ℕ) → m.state ≡ s → Fits m �
 each_keeps Rcdata m c e h k = search (keeps, h, h.told) depth 9
 each_keeps Rawtext m c e h k = search (keeps, h, h.told) depth 9
 each_keeps ScriptData m c e h k = search (keeps, h, h.told) depth 9
-each_keeps Plaintext m c e h k = search (keeps, h, h.told) depth 9
-each_keeps RcdataLessThanSign m c e h k = search (keeps, h, h.told) depth 9
-each_keeps RcdataEndTagOpen m c e h k = search (keeps, h, h.told) depth 9
+each_keeps Plaintext m c e h k = search (keeps, h) depth 9
+each_keeps RcdataLessThanSign m c e h k = search (keeps, h.told) depth 9
+each_keeps RcdataEndTagOpen m c e h k = search (keeps, h.told) depth 9
 each_keeps RcdataEndTagName m c e h k = name_keeps RcdataEndTagName Rcdata m c e refl refl h
-each_keeps RawtextLessThanSign m c e h k = search (keeps, h, h.told) depth 9
-each_keeps RawtextEndTagOpen m c e h k = search (keeps, h, h.told) depth 9
+each_keeps RawtextLessThanSign m c e h k = search (keeps, h.told) depth 9
+each_keeps RawtextEndTagOpen m c e h k = search (keeps, h.told) depth 9
 each_keeps RawtextEndTagName m c e h k = name_keeps RawtextEndTagName Rawtext m c e refl refl h
-each_keeps ScriptDataLessThanSign m c e h k = search (keeps, h, h.told) depth 9
-each_keeps ScriptDataEndTagOpen m c e h k = search (keeps, h, h.told) depth 9
+each_keeps ScriptDataLessThanSign m c e h k = search (keeps, h.told) depth 9
+each_keeps ScriptDataEndTagOpen m c e h k = search (keeps, h.told) depth 9
 each_keeps ScriptDataEndTagName m c e h k = name_keeps ScriptDataEndTagName ScriptData m c e refl refl h
-each_keeps ScriptDataEscapeStart m c e h k = search (keeps, h, h.told) depth 9
-each_keeps ScriptDataEscapeStartDash m c e h k = search (keeps, h, h.told) depth 9
+each_keeps ScriptDataEscapeStart m c e h k = search (keeps, h.told) depth 9
+each_keeps ScriptDataEscapeStartDash m c e h k = search (keeps, h.told) depth 9
 each_keeps ScriptDataEscaped m c e h k = search (keeps, h, h.told) depth 9
-each_keeps ScriptDataEscapedDash m c e h k = search (keeps, h, h.told) depth 9
+each_keeps ScriptDataEscapedDash m c e h k = search (keeps, h.told) depth 9
 each_keeps ScriptDataEscapedDashDash m c e h k = search (keeps, h, h.told) depth 9
-each_keeps ScriptDataEscapedLessThanSign m c e h k = search (keeps, h, h.told) depth 9
-each_keeps ScriptDataEscapedEndTagOpen m c e h k = search (keeps, h, h.told) depth 9
+each_keeps ScriptDataEscapedLessThanSign m c e h k = search (keeps, h.told) depth 9
+each_keeps ScriptDataEscapedEndTagOpen m c e h k = search (keeps, h.told) depth 9
 each_keeps ScriptDataEscapedEndTagName m c e h k = name_keeps ScriptDataEscapedEndTagName ScriptDataEscaped m c e refl refl h
-each_keeps ScriptDataDoubleEscapeStart m c e h k = let part : (x : List ℕ) → Fits (record m { buffer = x }) = λ x. buffer-fits ScriptDataDoubleEscapeStart m x e refl h in search (keeps, part, h, h.told) depth 9
+each_keeps ScriptDataDoubleEscapeStart m c e h k = let part : (x : List ℕ) → Fits (record m { buffer = x }) = λ x. buffer-fits ScriptDataDoubleEscapeStart m x e refl h in search (keeps, part, h.told) depth 9
 each_keeps ScriptDataDoubleEscaped m c e h k = search (keeps, h, h.told) depth 9
-each_keeps ScriptDataDoubleEscapedDash m c e h k = search (keeps, h, h.told) depth 9
+each_keeps ScriptDataDoubleEscapedDash m c e h k = search (keeps, h.told) depth 9
 each_keeps ScriptDataDoubleEscapedDashDash m c e h k = search (keeps, h, h.told) depth 9
-each_keeps ScriptDataDoubleEscapedLessThanSign m c e h k = search (keeps, h, h.told) depth 9
-each_keeps ScriptDataDoubleEscapeEnd m c e h k = let part : (x : List ℕ) → Fits (record m { buffer = x }) = λ x. buffer-fits ScriptDataDoubleEscapeEnd m x e refl h in search (keeps, part, h, h.told) depth 9
+each_keeps ScriptDataDoubleEscapedLessThanSign m c e h k = search (keeps, h.told) depth 9
+each_keeps ScriptDataDoubleEscapeEnd m c e h k = let part : (x : List ℕ) → Fits (record m { buffer = x }) = λ x. buffer-fits ScriptDataDoubleEscapeEnd m x e refl h in search (keeps, part, h.told) depth 9
 each_keeps _ m c e h k = cc
 
 pub row_keeps : (m : Machine) (c : ℕ) → Fits m → IsTrue (has_row m.state) → Keeps (row m (Some c))

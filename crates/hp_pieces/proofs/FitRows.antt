@@ -1,5 +1,5 @@
 -- A machine with no parts but those that its state uses, which was told a last start tag: rows made by the combinators keep that.
-use Rattle.std.proofs.Common.{◌≡◌, ℕ, List, [], Bool, true, false, cond, refl, ap, ◌∙◌, sym, Option, None, Some}
+use Rattle.std.proofs.Common.{◌≡◌, ℕ, List, [], Bool, true, false, cond, refl, ap, ◌∙◌, Option}
 use Rattle.std.specs.Prelude.{IsSome}
 use Rattle.hp_tokens.specs.declared.state.State.{State}
 use Rattle.hp_tokens.specs.declared.state.Return.TheVariants as returns

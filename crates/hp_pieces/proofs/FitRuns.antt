@@ -6,9 +6,8 @@ use Rattle.hp_elements.specs.declared.token.Mode.TheVariants as mode
 use Rattle.hp_elements.specs.declared.token.Rest.{Rest}
 use Rattle.hp_names.specs.BuiltIn.{built_in}
 use Rattle.hp_tokens.specs.Moves.{Lexing, Emitted, Move, needs_more, asks_cdata, asks_last_tag, makes, ends, move}
-use Rattle.hp_tokens.specs.States.{enter, state_of_rest, uses_buffer, uses_return, uses_token, uses_value}
+use Rattle.hp_tokens.specs.States.{enter, state_of_rest, uses_buffer, uses_return, uses_value}
 use Rattle.hp_tokens.specs.declared.building.Building.{Building}
-use Rattle.hp_tokens.specs.declared.building.Building.TheVariants as building
 use Rattle.hp_tokens.specs.declared.lexing.LexState.{LexState}
 use Rattle.hp_tokens.specs.declared.machine.Machine.{Machine}
 use Rattle.hp_tokens.specs.declared.state.Return.{Return}
@@ -21,7 +20,7 @@ use Rattle.hp_control.specs.States.{ControlState, IsValid, LexFits, StackFits, l
 use Rattle.hp_lexer.specs.Table.{table}
 use Rattle.hp_model.proofs.Running.{runs-valid}
 use Rattle.hp_model.specs.Handling.{handle}
-use Rattle.hp_model.specs.Runs.{Parser, Step, rests, goes, Goes, here, onward, at_lexing, built, followed_by, step, step_by, switched, told}
+use Rattle.hp_model.specs.Runs.{Parser, Step, rests, goes, Goes, here, onward, at_lexing, built, step, step_by, switched, told}
 use Rattle.hp_run.proofs.TableRows.{table_read}
 use Rattle.hp_run.specs.Pages.{Runs}
 use Rattle.hp_pieces.specs.Running.{parser_in, state_at}

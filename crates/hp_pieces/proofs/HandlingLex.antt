@@ -1,5 +1,5 @@
 -- No handling of a token changes the lexer's part of the control state, and so no step of a run does.
-use Rattle.std.proofs.Common.{◌≡◌, ℕ, zero, suc, ◌+◌, Bool, true, false, ◌&&◌, cond, List, [], ◌∷◌, Option, None, Some, length, refl, ap, ◌∙◌, sym, subst}
+use Rattle.std.proofs.Common.{◌≡◌, ℕ, zero, suc, Bool, true, false, ◌&&◌, cond, List, [], ◌∷◌, Option, None, Some, refl, ◌∙◌, sym, subst}
 use Rattle.std.specs.Option.{unwrap_or}
 use Rattle.hp_elements.specs.Rules.{Plan, ends, ◌⨾◌, when, unless, plan_for}
 use Rattle.hp_elements.specs.Tokens.{kind_of}
@@ -7,7 +7,7 @@ use Rattle.hp_elements.specs.declared.act.Act.{Act as RowAct}
 use Rattle.hp_elements.specs.declared.act.Act.TheVariants as act
 use Rattle.hp_elements.specs.declared.token.Mode.{Mode}
 use Rattle.hp_elements.specs.declared.token.Token.{Token}
-use Rattle.hp_tokens.specs.Moves.{Emitted, Lexing, Move, Rules, needs_more, asks_cdata, asks_last_tag, makes, ends as ends_input, move}
+use Rattle.hp_tokens.specs.Moves.{Emitted, Move, Rules, needs_more, asks_cdata, asks_last_tag, makes, ends as ends_input, move}
 use Rattle.hp_tokens.specs.declared.lexing.LexState.{LexState}
 use Rattle.hp_control.specs.Acts.{headed, touching}
 use Rattle.hp_control.specs.Foreign.{is_foreign}
@@ -19,9 +19,9 @@ use Rattle.hp_rules_rest.specs.Whole.{every_mode_rows}
 use Rattle.hp_model.specs.Handling.{all_turns, bound, handle, handle_all, handle_piece, settled}
 use Rattle.hp_model.specs.Rows.{carry, carry_plan, entering, foreign_turn, is_head_mode, mode_turn, nothing_more, rules, turn}
 use Rattle.hp_model.specs.Runs.{Goes, Parser, Step, at_lexing, built, goes, here, onward, rests, step, step_by, told}
-use Rattle.hp_model.specs.Steps.{holds, step as act_step}
+use Rattle.hp_model.specs.Steps.{holds}
 use Rattle.hp_model.specs.Tokens.{is_line_feed, pieces}
-use Rattle.hp_model.specs.Turns.{Handled, Turn, after_turn, again, and_then, as_part, before, before_all, done, goes_on, joined, left_by, turns, unchanged}
+use Rattle.hp_model.specs.Turns.{Handled, Turn, after_turn, again, and_then, as_part, before, before_all, done, goes_on, left_by, turns, unchanged}
 use Rattle.hp_pieces.proofs.LexKept.{either, step-leaves}
 
 -- the turn leaves that lexer's part

@@ -1,5 +1,5 @@
 -- Runs over parts of a page, one after the other, are the run over the page.
-use Rattle.std.proofs.Common.{◌≡◌, ℕ, List, [], ◌++◌, refl, ap, ◌∙◌, sym, subst}
+use Rattle.std.proofs.Common.{◌≡◌, ℕ, List, ◌++◌, refl, ap, ◌∙◌, sym, subst}
 use Rattle.hp_names.specs.BuiltIn.{built_in}
 use Rattle.hp_tokens.specs.declared.lexing.LexState.{LexState}
 use Rattle.hp_tokens.specs.declared.machine.Machine.{Machine}
@@ -10,9 +10,9 @@ use Rattle.hp_lexer.proofs.Steady.{table_steady}
 use Rattle.hp_lexer.specs.Table.{table}
 use Rattle.hp_model.proofs.Running.{one_run, runs-join}
 use Rattle.hp_model.specs.AtOnce.{MakeSame}
-use Rattle.hp_model.specs.Runs.{EndsWith, Parser, RunsTo, followed_by}
+use Rattle.hp_model.specs.Runs.{Parser, followed_by}
 use Rattle.hp_run.proofs.Existing.{run_exists}
-use Rattle.hp_run.specs.Pages.{IsTreeOf, Runs}
+use Rattle.hp_run.specs.Pages.{IsTreeOf}
 use Rattle.hp_steps.proofs.Together.{applied-append}
 use Rattle.hp_pieces.specs.Running.{Ends, Leads, parser_in, state_at}
 use Rattle.hp_pieces.proofs.FitRuns.{exit_valid}

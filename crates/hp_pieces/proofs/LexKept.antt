@@ -1,5 +1,5 @@
 -- No act of tree construction changes the lexer's part of the control state.
-use Rattle.std.proofs.Common.{◌≡◌, ℕ, zero, suc, ◌+◌, Bool, true, false, cond, List, [], ◌∷◌, Option, None, Some, length, map, drop, refl, ◌∙◌}
+use Rattle.std.proofs.Common.{◌≡◌, ℕ, zero, suc, Bool, true, false, cond, List, [], ◌∷◌, Option, None, Some, length, refl, ◌∙◌}
 use Rattle.std.specs.Prelude.{nat_le, slice_get}
 use Rattle.std.specs.List.{list_all}
 use Rattle.std.specs.Option.{is_some}
@@ -15,20 +15,19 @@ use Rattle.hp_elements.specs.declared.act.Scope.TheVariants as scope
 use Rattle.hp_elements.specs.declared.sets.Namespace.{Namespace}
 use Rattle.hp_elements.specs.declared.sets.SetName.TheVariants as sets
 use Rattle.hp_elements.specs.declared.tag.Tag.{Tag}
-use Rattle.hp_elements.specs.declared.token.DoctypeParts.{DoctypeParts}
 use Rattle.hp_elements.specs.declared.token.Token.{Token}
 use Rattle.hp_tokens.specs.declared.lexing.LexState.{LexState}
 use Rattle.hp_control.specs.declared.edit.Child.TheVariants as child
 use Rattle.hp_control.specs.declared.element.FormattingEntry.{FormattingEntry}
 use Rattle.hp_control.specs.declared.element.FormattingEntry.TheVariants.{Marker, Element}
-use Rattle.hp_control.specs.Acts.{append_entry, append_to_list, empty_form, empty_pending, equal_ids, frameset_not_ok, head_element, insert, make_room, pop, pop_by, pop_run, push_head, push_head_of, put_here, remove_earliest, remove_entry, set_quirks, take_head_off, take_head_off_of, take_off, taken_off, through, through_named, walk, with_it, with_stack}
-use Rattle.hp_control.specs.Adoption.{Case, Unlisted, Closed, Hidden, Alone, Tangled, Spot, adopt, adopt_once, case_of, find_name, goes_on, is_plain, reconstruct, relist, renew, renew_down, renew_entry, stale, strike, turn, turn_in, turns}
-use Rattle.hp_control.specs.Composed.{close, close_description, close_item, close_link, close_link_of, close_paragraph, drop_entry, end_form, end_form_in_template, end_form_of, flush, foster_character, foster_characters, implied, implied_except, is_item, is_open_form, is_white, named_in_scope, put_characters, template_in_stack}
-use Rattle.hp_control.specs.Foreign.{current_namespace, insert_as_current, insert_foreign, insert_in, opened_namespace, tag_in}
+use Rattle.hp_control.specs.Acts.{append_entry, append_to_list, empty_form, empty_pending, equal_ids, frameset_not_ok, head_element, insert, make_room, pop, pop_by, push_head_of, put_here, remove_earliest, remove_entry, set_quirks, take_head_off_of, take_off, taken_off, through, through_named, with_it, with_stack}
+use Rattle.hp_control.specs.Adoption.{Case, Unlisted, Closed, Hidden, Alone, Tangled, Spot, adopt, case_of, find_name, goes_on, is_plain, reconstruct, renew, renew_down, renew_entry, stale, turn, turn_in, turns}
+use Rattle.hp_control.specs.Composed.{close, close_description, close_item, close_link_of, close_paragraph, drop_entry, end_form, end_form_in_template, end_form_of, flush, foster_character, foster_characters, implied, implied_except, is_item, is_open_form, is_white, named_in_scope, put_characters, template_in_stack}
+use Rattle.hp_control.specs.Foreign.{current_namespace, insert_in, opened_namespace, tag_in}
 use Rattle.hp_control.specs.Outcome.{Act, Outcome, and_then, becomes, choose, nothing_done}
 use Rattle.hp_control.specs.States.{ControlState}
 use Rattle.hp_control.specs.Walks.{has_entry, open_at, reach, seen}
-use Rattle.hp_model.specs.Steps.{implied_but_for, quirks_of, step, take_off_entry, take_off_named}
+use Rattle.hp_model.specs.Steps.{implied_but_for, step, take_off_entry}
 use Rattle.hp_model.specs.Tokens.{is_self_closing, name_for, name_of, parts_of, tag_of}
 
 abbrev pub Leaves : Act → Type 0

@@ -1,5 +1,5 @@
 -- Where places are counted otherwise, a run makes the same edits and leads to the same state.
-use Rattle.std.proofs.Common.{◌≡◌, ℕ, List, [], ◌∷◌, ◌++◌, Bool, true, false, cond, refl, ap, ◌∙◌, sym, subst, Option, None, Some}
+use Rattle.std.proofs.Common.{◌≡◌, List, [], ◌∷◌, ◌++◌, Bool, true, false, cond, refl, ap, ◌∙◌, sym, subst, Option, None, Some}
 use Rattle.hp_elements.specs.declared.token.Rest.{Rest}
 use Rattle.hp_elements.specs.declared.token.Token.{Token}
 use Rattle.hp_names.specs.References.{Reference}
@@ -13,7 +13,7 @@ use Rattle.hp_control.specs.declared.edit.Edit.{Edit}
 use Rattle.hp_lexer.specs.Table.{table}
 use Rattle.hp_model.specs.Handling.{handle}
 use Rattle.hp_model.specs.Runs.{EndsWith, last, before_it, Goes, here, onward, Parser, Rests, RunsTo, Step, rests, goes, at_lexing, built, step, step_by, switched, told}
-use Rattle.hp_model.specs.Turns.{Handled, left_by}
+use Rattle.hp_model.specs.Turns.{Handled}
 use Rattle.hp_steps.specs.Alike.{Alike, SameMove}
 use Rattle.hp_steps.proofs.Shifting.{end_move-same, move-same}
 

@@ -1,5 +1,5 @@
 -- What callers see of a fragment and of an ending, and what the two types keep.
-use Rattle.std.specs.Prelude.{ℕ, List, length, All}
+use Rattle.std.specs.Prelude.{ℕ, List, All}
 use Rattle.std.specs.Str.{IsUtf8, chars}
 use Rattle.hp_control.specs.declared.edit.Edit.{Edit}
 use Rattle.hp_control.specs.Edits.{IsFixedEdit}

@@ -1,6 +1,6 @@
 -- A token that is handled over a known state.
-use Rattle.std.proofs.Common.{◌≡◌, refl, subst}
-use Rattle.std.specs.Prelude.{Result, Ok, Err}
+use Rattle.std.proofs.Common.{◌≡◌, subst}
+use Rattle.std.specs.Prelude.{Result, Ok}
 use Rattle.hp_elements.specs.declared.token.Token.{Token}
 use Rattle.hp_control.specs.declared.change.Refusal.{Refusal}
 use Rattle.hp_control.specs.Faithful.{Split}

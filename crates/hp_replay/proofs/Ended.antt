@@ -14,7 +14,7 @@ use Rattle.hp_control.specs.Edits.{IsFixed, IsFixedChild, IsFixedEdit, IsFixedPl
 use Rattle.hp_control.specs.Faithful.{Split}
 use Rattle.hp_control.specs.Nothing.{nothing}
 use Rattle.hp_control.specs.States.{ControlState, IsValid, lex_start}
-use Rattle.hp_control.specs.Tree.{Tree, applied_all}
+use Rattle.hp_control.specs.Tree.{applied_all}
 use Rattle.hp_control.specs.declared.edit.Child.{Child}
 use Rattle.hp_control.specs.declared.edit.Child.TheVariants as child
 use Rattle.hp_control.specs.declared.edit.Edit.{Edit}
@@ -26,16 +26,16 @@ use Rattle.hp_control.specs.declared.edit.Ref.TheVariants.{Fixed, Older, Own}
 use Rattle.hp_lexer.specs.declared.lexer.Asked.TheVariants as asked
 use Rattle.hp_lexer.specs.declared.lexer.Lexer.{Lexer}
 use Rattle.hp_lexer.specs.Table.{table}
-use Rattle.hp_model.specs.AtOnce.{MakeSame, RunsAtOnce, handle_at_once}
+use Rattle.hp_model.specs.AtOnce.{RunsAtOnce, handle_at_once}
 use Rattle.hp_model.specs.Handling.{handle}
 use Rattle.hp_model.specs.Runs.{EndsWith, before_it, last}
-use Rattle.hp_steps.proofs.Batches.{at, built-made, left-append, made-append, quiet-split, quiet-step}
+use Rattle.hp_steps.proofs.Batches.{at, built-made, made-append, quiet-split, quiet-step}
 use Rattle.hp_steps.proofs.Began.{tokens-append}
 use Rattle.hp_steps.proofs.Together.{Comes, together}
 use Rattle.hp_steps.specs.Handling.{AreQuiet, left_after, made_after}
 use Rattle.hp_pieces.proofs.SameRuns.{end-same}
 use Rattle.hp_pieces.specs.Fragments.{IsEnd}
-use Rattle.hp_pieces.specs.Running.{Ends, parser_in}
+use Rattle.hp_pieces.specs.Running.{parser_in}
 use Rattle.hp_replay.specs.Collecting.{CollectsAll, control_of, edits_of}
 
 -- edits in which each element is told by its id

@@ -1,4 +1,4 @@
-use Rattle.std.proofs.Common.{rules, ◌≡◌}
+use Rattle.std.proofs.Common.{rules}
 use Rattle.hp_replay.proofs.Toward.{told_on}
 use Rattle.hp_replay.proofs.told.told_all.Goals as goal
 
