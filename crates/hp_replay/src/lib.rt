@@ -3,8 +3,6 @@
 
 mod at_end;
 mod collecting;
-#[cfg(test)]
-mod tests;
 mod tokens;
 mod told;
 
