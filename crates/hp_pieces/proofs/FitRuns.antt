@@ -1,0 +1,121 @@
+-- A run leads from a state of the lexer that can stand between two texts to such a state.
+use Rattle.std.proofs.Common.{◌≡◌, ℕ, List, [], ◌∷◌, Bool, true, false, cond, refl, ap, ◌∙◌, subst, Option, None, Some}
+use Rattle.std.specs.Prelude.{IsSome}
+use Rattle.hp_elements.specs.declared.token.Mode.{Mode}
+use Rattle.hp_elements.specs.declared.token.Mode.TheVariants as mode
+use Rattle.hp_elements.specs.declared.token.Rest.{Rest}
+use Rattle.hp_names.specs.BuiltIn.{built_in}
+use Rattle.hp_tokens.specs.Moves.{Lexing, Emitted, Move, needs_more, asks_cdata, asks_last_tag, makes, ends, move}
+use Rattle.hp_tokens.specs.States.{enter, state_of_rest, uses_buffer, uses_return, uses_value}
+use Rattle.hp_tokens.specs.declared.building.Building.{Building}
+use Rattle.hp_tokens.specs.declared.lexing.LexState.{LexState}
+use Rattle.hp_tokens.specs.declared.machine.Machine.{Machine}
+use Rattle.hp_tokens.specs.declared.state.Return.{Return}
+use Rattle.hp_tokens.specs.declared.state.Return.TheVariants as returns
+use Rattle.hp_tokens.specs.declared.state.State.{State}
+use Rattle.hp_control.specs.Composed.{is_foreign_now}
+use Rattle.hp_control.specs.declared.edit.Edit.{Edit}
+use Rattle.hp_control.proofs.StartLemmas.{start_valid}
+use Rattle.hp_control.specs.States.{ControlState, IsValid, LexFits, StackFits, lex_start, may_be_ahead}
+use Rattle.hp_lexer.specs.Table.{table}
+use Rattle.hp_model.proofs.Running.{runs-valid}
+use Rattle.hp_model.specs.Handling.{handle}
+use Rattle.hp_model.specs.Runs.{Parser, Step, rests, goes, Goes, here, onward, at_lexing, built, step, step_by, switched, told}
+use Rattle.hp_run.proofs.TableRows.{table_read}
+use Rattle.hp_run.specs.Pages.{Runs}
+use Rattle.hp_pieces.specs.Running.{parser_in, state_at}
+use Rattle.hp_pieces.proofs.FitRows.{Fits, entered}
+use Rattle.hp_pieces.proofs.FitTable.{MoveKeeps, move_keeps}
+
+switched-fits : (o : Option Rest) (l : Lexing) → Fits l.machine → Fits (switched o l).machine
+switched-fits None l h = h
+switched-fits (Some rest) l h = entered (state_of_rest rest) l.machine h.told
+
+built-fits : (es : List Emitted) (p : Parser) → Fits p.lexing.machine → Fits (built p es).parser.lexing.machine
+built-fits [] p h = h
+built-fits (e ∷ es) p h = built-fits es (told p (handle p.control e.token)) (switched-fits (handle p.control e.token).switch p.lexing h)
+
+abbrev StepKeeps : Step → Type 0
+StepKeeps rests = Unit {0}
+StepKeeps (goes q es) = Fits q.lexing.machine
+
+either-fits : (b : Bool) (f h : Lexing) → Fits f.machine → Fits h.machine → Fits (cond b f h).machine
+either-fits true f h x y = x
+either-fits false f h x y = y
+
+step_keeps : (p : Parser) (m : Move) (s : State) (text : List ℕ) → MoveKeeps s text m → StepKeeps (step_by p m)
+step_keeps p needs_more s text k = tt
+step_keeps p (asks_cdata f h) s text k = either-fits (is_foreign_now p.control) f h k.0 k.1
+step_keeps p asks_last_tag s text k = tt
+step_keeps p (makes l es) s text k = built-fits es (at_lexing p l) k
+step_keeps p (ends es) s text k = tt
+
+goes_keep : {p q : Parser} {es : List Edit} → Goes (step (table built_in)) p es q → Fits p.lexing.machine → Fits q.lexing.machine
+goes_keep here h = h
+goes_keep {p} (onward {q = q} {es = es} e g) h =
+    goes_keep g (subst StepKeeps e (step_keeps p (move (table built_in) p.lexing) p.lexing.machine.state p.lexing.unread (move_keeps p.lexing h)))
+
+-- where no step is made, what is unread decides nothing yet
+rest_ahead : (p : Parser) (m : Move) (s : State) (text : List ℕ) → MoveKeeps s text m → ((q : Parser) (es : List Edit) → step_by p m ≡ goes q es → ⊥) → may_be_ahead s text ≡ true
+rest_ahead p needs_more s text k n = k
+rest_ahead p (asks_cdata f h) s text k n = absurd (n _ _ refl)
+rest_ahead p asks_last_tag s text k n = absurd k
+rest_ahead p (makes l es) s text k n = absurd (n _ _ refl)
+rest_ahead p (ends es) s text k n = absurd k
+
+-- the parts, one by one
+from_parts : (m : Machine) → enter m.state m ≡ m → IsSome m.last_tag → Fits m
+from_parts m e h = record {
+  building = ap (λ (x : Machine). x.building) e;
+  buffer = ap (λ (x : Machine). x.buffer) e;
+  return_to = ap (λ (x : Machine). x.return_to) e;
+  value = ap (λ (x : Machine). x.value) e;
+  told = h;
+}
+
+to_parts : (m : Machine) → Fits m → enter m.state m ≡ m
+to_parts m h =
+    let b' : List ℕ = cond (uses_buffer m.state) m.buffer [] in
+    let r' : Return = cond (uses_return m.state) m.return_to returns.Data in
+    let v' : ℕ = cond (uses_value m.state) m.value 0 in
+    let one : Building → List ℕ → Return → ℕ → Machine = λ x b r v. record m { building = x; buffer = b; return_to = r; value = v } in
+    ap (λ (x : Building). one x b' r' v') h.building
+    ∙ (ap (λ (b : List ℕ). one m.building b r' v') h.buffer
+    ∙ (ap (λ (r : Return). one m.building m.buffer r v') h.return_to
+    ∙ ap (λ (v : ℕ). one m.building m.buffer m.return_to v) h.value))
+
+relex_stack : (m : Mode) (c : ControlState) (l : LexState) → StackFits m c → StackFits m (record c { lex = l })
+relex_stack mode.Initial c l h = h
+relex_stack _ c l h = h
+
+-- a valid state with another state of the lexer
+pub relex_valid : (c : ControlState) (l : LexState) → IsValid c → LexFits l → IsValid (record c { lex = l })
+relex_valid c l v f = record {
+  stack_ids = v.stack_ids;
+  list_ids = v.list_ids;
+  head = v.head;
+  form = v.form;
+  formatting = v.formatting;
+  stack = relex_stack c.mode c l v.stack;
+  original = v.original;
+  pending = v.pending;
+  template_modes = v.template_modes;
+  templates = v.templates;
+  lex = f;
+}
+
+lex_fits : (s : ControlState) (text : List ℕ) (es : List Edit) (there : Parser) → Runs built_in (parser_in s) text es there → LexFits s.lex → LexFits (state_at there).lex
+lex_fits s text es there run f =
+    let h : Fits there.lexing.machine = goes_keep run.goes (from_parts s.lex.machine f.parts f.last_tag) in record {
+      parts = to_parts there.lexing.machine h;
+      ahead =
+          rest_ahead there (move (table built_in) there.lexing) there.lexing.machine.state there.lexing.unread (move_keeps there.lexing h)
+          (λ q fs e. run.rests.no_step q fs e);
+      last_tag = h.told;
+    }
+
+-- and so it leads from a valid state to a valid one
+pub exit_valid : (s : ControlState) (text : List ℕ) (es : List Edit) (there : Parser) → Runs built_in (parser_in s) text es there → IsValid s → IsValid (state_at there)
+exit_valid s text es there run v =
+    relex_valid there.control (state_at there).lex (runs-valid (table built_in) (table_read built_in) (parser_in s) there text es run (relex_valid s lex_start v start_valid.lex))
+    (lex_fits s text es there run v.lex)

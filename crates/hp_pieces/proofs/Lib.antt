@@ -1,0 +1,11 @@
+pub mod FitRows
+pub mod FitTags
+pub mod FitRaw
+pub mod FitMarkup
+pub mod FitNames
+pub mod FitTable
+pub mod FitRuns
+pub mod LexKept
+pub mod HandlingLex
+pub mod SameRuns
+pub mod Joining

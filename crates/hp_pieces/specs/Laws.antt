@@ -1,0 +1,29 @@
+-- The laws of runs from known states and of ends of input.
+use Rattle.std.specs.Prelude.{◌≡◌, ℕ, List, ◌++◌}
+use Rattle.hp_names.specs.BuiltIn.{built_in}
+use Rattle.hp_control.specs.declared.edit.Edit.{Edit}
+use Rattle.hp_control.specs.States.{ControlState, IsValid, start}
+use Rattle.hp_control.specs.Tree.{applied_all, document}
+use Rattle.hp_model.specs.AtOnce.{MakeSame}
+use Rattle.hp_run.specs.Pages.{IsTreeOf}
+use Rattle.hp_pieces.specs.Running.{Ends, Leads}
+
+-- from each state there is a run over each text
+abbrev pub LeadsExist : Type 0
+LeadsExist = (text : List ℕ) (s : ControlState) → (es : List Edit) × (t : ControlState) × Leads text s es t
+
+-- and one alone, up to how its edits are spelled
+abbrev pub LeadsOnce : Type 0
+LeadsOnce = (text : List ℕ) (s t u : ControlState) (es fs : List Edit) → Leads text s es t → Leads text s fs u → (t ≡ u) × MakeSame es fs
+
+-- from a valid state it leads to a valid one
+abbrev pub LeadsValid : Type 0
+LeadsValid = (text : List ℕ) (s t : ControlState) (es : List Edit) → Leads text s es t → IsValid s → IsValid t
+
+-- the run over two texts in a row
+abbrev pub LeadsJoin : Type 0
+LeadsJoin = (a b : List ℕ) (s m t : ControlState) (es fs : List Edit) → Leads a s es m → Leads b m fs t → Leads (a ++ b) s (es ++ fs) t
+
+-- the run over a page, and the end of input behind it, build the page's tree
+abbrev pub PageBuilt : Type 0
+PageBuilt = (page : List ℕ) (t : ControlState) (es fs : List Edit) → Leads page start es t → Ends t fs → IsTreeOf built_in page (applied_all document (es ++ fs))

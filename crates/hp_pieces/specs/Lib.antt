@@ -1,0 +1,4 @@
+pub mod Running
+pub mod Fragments
+pub mod Texts
+pub mod Laws

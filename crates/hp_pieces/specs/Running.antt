@@ -1,0 +1,33 @@
+-- The run of the sequential parser over a text from a known state, and the end of input from one (13.2).
+use Rattle.std.specs.Prelude.{◌≡◌, ℕ, List}
+use Rattle.hp_names.specs.BuiltIn.{built_in}
+use Rattle.hp_tokens.specs.Moves.{standing}
+use Rattle.hp_control.specs.declared.edit.Edit.{Edit}
+use Rattle.hp_control.specs.States.{ControlState, lex_start}
+use Rattle.hp_lexer.specs.Table.{table}
+use Rattle.hp_model.specs.AtOnce.{MakeSame}
+use Rattle.hp_model.specs.Runs.{EndsWith, Parser}
+use Rattle.hp_run.specs.Pages.{Runs}
+
+-- The parser in this state, before a text: what was read ahead is unread. Where the lexer stands is told once, so it is not
+-- told in the control state too.
+abbrev pub parser_in : ControlState → Parser
+parser_in s = record { lexing = standing s.lex.machine 0 0 s.lex.ahead; control = record s { lex = lex_start } }
+
+-- the state between two texts: what is unread was read ahead
+abbrev pub state_at : Parser → ControlState
+state_at p = record p.control { lex = record { machine = p.lexing.machine; ahead = p.lexing.unread } }
+
+-- the run over the text leads from one state to another, with edits that have the effect of these on every tree
+pub record Leads (text : List ℕ) (entry : ControlState) (edits : List Edit) (exit : ControlState) : Type 0 where
+  pub made : List Edit
+  pub there : Parser
+  pub run : Runs built_in (parser_in entry) text made there
+  pub reaches : exit ≡ state_at there
+  pub same : MakeSame edits made
+
+-- the end of input from this state has edits that have the effect of these on every tree
+pub record Ends (entry : ControlState) (edits : List Edit) : Type 0 where
+  pub made : List Edit
+  pub ends : EndsWith (table built_in) (parser_in entry) made
+  pub same : MakeSame edits made

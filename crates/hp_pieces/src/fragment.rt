@@ -1,0 +1,34 @@
+//! Fragments.
+ghost use Rattle.std.specs.Prelude.{◌≡◌, ◌≤◌, length};
+
+use crate::exact::Exact;
+
+/// What a part of a page does to the parser.
+#[derive(Drop)]
+pub enum Fragment<'p> {
+    /// From a known state.
+    Exact(Exact<'p>),
+}
+
+impl<'p> Fragment<'p> {
+    ghost use Rattle.hp_pieces.specs.Texts.{covered_of, text_of};
+
+    /// The text of which it is a fragment.
+    pub fn text(&self) -> &'p [u8]
+        ensures { result.now ≡ text_of self.now }
+    {
+        match self {
+            Fragment::Exact(exact) => exact.text(),
+        }
+    }
+
+    /// How many bytes of its text it covers, from the front on. An exact one covers all.
+    pub fn covered(&self) -> u64
+        ensures covered { result ≡ covered_of self.now }
+        ensures within { result ≤ length (text_of self.now) }
+    {
+        match self {
+            Fragment::Exact(exact) => exact.text().len() as u64,
+        }
+    }
+}

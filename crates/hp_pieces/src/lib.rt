@@ -1,0 +1,12 @@
+//! What a part of a page does to the parser: its fragment, and the end of input.
+#![tactic(auto)]
+
+mod ending;
+mod exact;
+mod fragment;
+mod laws;
+
+pub use ending::Ending;
+pub use exact::Exact;
+pub use fragment::Fragment;
+pub use laws::runs_between;

@@ -1,0 +1,124 @@
+-- What the tokens of the end of input do is the end of input.
+use Rattle.std.proofs.Common.{◌≡◌, ℕ, List, [], ◌∷◌, ◌++◌, ◌^◌, refl, ap, ◌∙◌, sym, subst, append-nil, append_assoc, map}
+use Rattle.std.specs.Prelude.{All}
+use Rattle.std.proofs.lemmas.List.Elements.{All-cons, All-nil}
+use Rattle.hp_elements.specs.declared.token.Token.{Token}
+use Rattle.hp_names.specs.BuiltIn.{built_in}
+use Rattle.hp_names.specs.References.{Reference}
+use Rattle.hp_tokens.specs.Advancing.{AreRuns, Ends as EndsText, end_of_text, lexing, singles, tokens_of}
+use Rattle.hp_tokens.specs.Moves.{Emitted, Lexing, Rules, end_move, ends}
+use Rattle.hp_tokens.specs.Runs.{Leads, here, onward}
+use Rattle.hp_tokens.specs.declared.lexing.LexState.{LexState}
+use Rattle.hp_control.specs.Apply.{named, named_child, named_edit, named_place}
+use Rattle.hp_control.specs.Edits.{IsFixed, IsFixedChild, IsFixedEdit, IsFixedPlace}
+use Rattle.hp_control.specs.Faithful.{Split}
+use Rattle.hp_control.specs.Nothing.{nothing}
+use Rattle.hp_control.specs.States.{ControlState, IsValid, lex_start}
+use Rattle.hp_control.specs.Tree.{applied_all}
+use Rattle.hp_control.specs.declared.edit.Child.{Child}
+use Rattle.hp_control.specs.declared.edit.Child.TheVariants as child
+use Rattle.hp_control.specs.declared.edit.Edit.{Edit}
+use Rattle.hp_control.specs.declared.edit.Edit.TheVariants.{NewElement, Put, Detach, MoveChildren, AddMissing}
+use Rattle.hp_control.specs.declared.edit.Place.{Place}
+use Rattle.hp_control.specs.declared.edit.Place.TheVariants.{Into, Foster}
+use Rattle.hp_control.specs.declared.edit.Ref.{Ref}
+use Rattle.hp_control.specs.declared.edit.Ref.TheVariants.{Fixed, Older, Own}
+use Rattle.hp_lexer.specs.declared.lexer.Asked.TheVariants as asked
+use Rattle.hp_lexer.specs.declared.lexer.Lexer.{Lexer}
+use Rattle.hp_lexer.specs.Table.{table}
+use Rattle.hp_model.specs.AtOnce.{RunsAtOnce, handle_at_once}
+use Rattle.hp_model.specs.Handling.{handle}
+use Rattle.hp_model.specs.Runs.{EndsWith, before_it, last}
+use Rattle.hp_steps.proofs.Batches.{at, built-made, made-append, quiet-split, quiet-step}
+use Rattle.hp_steps.proofs.Began.{tokens-append}
+use Rattle.hp_steps.proofs.Together.{Comes, together}
+use Rattle.hp_steps.specs.Handling.{AreQuiet, left_after, made_after}
+use Rattle.hp_pieces.proofs.SameRuns.{end-same}
+use Rattle.hp_pieces.specs.Fragments.{IsEnd}
+use Rattle.hp_pieces.specs.Running.{parser_in}
+use Rattle.hp_replay.specs.Collecting.{CollectsAll, control_of, edits_of}
+
+-- edits in which each element is told by its id
+named-fixed : (r : Ref) → IsFixed (named nothing r)
+named-fixed (Fixed id) = tt
+named-fixed (Older depth) = tt
+named-fixed (Own number) = tt
+
+place-fixed : (p : Place) → IsFixedPlace (named_place nothing p)
+place-fixed (Into parent) = named-fixed parent
+place-fixed (Foster t above) = (named-fixed t, named-fixed above)
+
+child-fixed : (c : Child) → IsFixedChild (named_child nothing c)
+child-fixed (child.Element node) = named-fixed node
+child-fixed (child.Text text) = tt
+child-fixed (child.Comment text) = tt
+child-fixed (child.Doctype name public system) = tt
+
+edit-fixed : (e : Edit) → IsFixedEdit (named_edit nothing e)
+edit-fixed (NewElement tag) = tt
+edit-fixed (Put what place) = (child-fixed what, place-fixed place)
+edit-fixed (Detach node) = named-fixed node
+edit-fixed (MoveChildren from to) = (named-fixed from, named-fixed to)
+edit-fixed (AddMissing node attributes) = named-fixed node
+
+pub told-fixed : (es : List Edit) → All IsFixedEdit (map (named_edit nothing) es)
+told-fixed [] = All-nil IsFixedEdit
+told-fixed (e ∷ es) = All-cons IsFixedEdit (named_edit nothing e) (map (named_edit nothing) es) (edit-fixed e) (told-fixed es)
+
+-- the moves of the end, of whose tokens none switches the lexer
+end-goes : (rules : Rules) {l k : Lexing} {es : List Emitted} (c : ControlState) (rest : List Emitted) → Leads (end_move rules) l es k → end_move rules k ≡ ends rest
+    → AreQuiet handle c (tokens_of es ++ tokens_of rest) → EndsWith rules (at l c) (made_after handle c (tokens_of es ++ tokens_of rest))
+end-goes rules {l} c rest here ended q = subst (EndsWith rules (at l c)) (built-made rest (at l c)) (last ended)
+end-goes rules {l} c rest (onward {m = m} {es = es} {fs = fs} made more) ended q =
+    let same : tokens_of (es ++ fs) ++ tokens_of rest ≡ tokens_of es ++ (tokens_of fs ++ tokens_of rest) =
+    ap (λ (ts : List Token). ts ++ tokens_of rest) (tokens-append es fs) ∙ append_assoc (tokens_of es) (tokens_of fs) (tokens_of rest) in
+    let mid : ControlState = left_after handle c (tokens_of es) in
+    let parts : AreQuiet handle c (tokens_of es) × AreQuiet handle mid (tokens_of fs ++ tokens_of rest) =
+    quiet-split handle c (tokens_of es) (tokens_of fs ++ tokens_of rest) (subst (AreQuiet handle c) same q) in
+    let way : EndsWith rules (at l c) (made_after handle c (tokens_of es) ++ made_after handle mid (tokens_of fs ++ tokens_of rest)) =
+    before_it (quiet-step l m es c (end_move rules l) made parts.0) (end-goes rules mid rest more ended parts.1) in
+    let P : List Token → Type 0 = λ ts. EndsWith rules (at l c) (made_after handle c ts) in
+    subst P (sym same) (subst (EndsWith rules (at l c)) (sym (made-append handle c (tokens_of es) (tokens_of fs ++ tokens_of rest))) way)
+
+-- the moves of the end are an end of the run
+ends-run : (l : Lexing) (c : ControlState) (tokens : List Token) → EndsText (table built_in) l [] tokens → AreQuiet handle c (singles tokens)
+    → EndsWith (table built_in) (record { lexing = l; control = c }) (made_after handle c (singles tokens))
+ends-run l c tokens end q = subst (λ (ts : List Token). EndsWith (table built_in) (record { lexing = l; control = c }) (made_after handle c ts)) all way
+  where
+    all : tokens_of end.first ++ tokens_of end.rest ≡ singles tokens
+    all = sym (tokens-append end.first end.rest) ∙ (sym end.appends.spelled ∙ ap singles (sym end.appends.appended))
+
+    way : EndsWith (table built_in) (record { lexing = l; control = c }) (made_after handle c (tokens_of end.first ++ tokens_of end.rest))
+    way = end-goes (table built_in) c end.rest end.leads end.ended (subst (AreQuiet handle c) (sym all) q)
+
+pub ending_is : RunsAtOnce → (s : ControlState) (v w : Split) (tokens : List Token) (edits : List Edit) → IsValid (record s { lex = lex_start }) → control_of v ≡ record s { lex = lex_start } → v.edits ≡ []
+    → ((rested : ℕ) → EndsText (table built_in) (lexing s.lex end_of_text rested) [] tokens) → CollectsAll v w tokens → edits ≡ edits_of w → IsEnd (record { entry = s; edits = edits })
+ending_is law s v w tokens edits valid is none left handled told = record {
+  ends = record {
+    made = made_after handle c (singles tokens);
+    ends = end-same built_in (parser_in s) (ends-run (lexing s.lex end_of_text 0) c tokens (left 0) comes.quiet) (record { lexing = record { machine = refl; unread = append-nil s.lex.ahead }; control = refl });
+    same = λ tree.
+        ap (applied_all tree) told
+        ∙ (handled.edits tree
+        ∙ (ap (λ (es : List Edit). applied_all tree (es ++ made_after handle_at_once (control_of v) tokens)) (ap (map (named_edit nothing)) none)
+        ∙ (ap (λ (d : ControlState). applied_all tree (made_after handle_at_once d tokens)) is ∙ sym (comes.made tree))));
+  };
+  fixed = subst (All IsFixedEdit) (sym told) (told-fixed w.edits);
+}
+  where
+    c : ControlState
+    c = record s { lex = lex_start }
+
+    comes : Comes c tokens
+    comes = together law tokens c handled.read (subst AreRuns (sym (left 0).appends.appended) (left 0).appends.runs) valid (subst (λ (d : ControlState). AreQuiet handle_at_once d tokens) is handled.quiet)
+
+pub end-runs : (names : List Reference) (l : Lexing) (tokens : List Token) → EndsText (table names) l [] tokens → AreRuns tokens
+end-runs names l tokens end = subst AreRuns (sym end.appends.appended) end.appends.runs
+
+-- the lexer over the built-in names, from a state
+pub named-ends : (lexer : Lexer) (lex own : LexState) (tokens : List Token) → lexer ≡ record { lex = lex; names = built_in; asked = asked.Nothing; rested = 2 ^ 32 } → lex ≡ own
+    → ((rested : ℕ) → EndsText (table lexer.names) (lexing lexer.lex end_of_text rested) [] tokens) → (rested : ℕ) → EndsText (table built_in) (lexing own end_of_text rested) [] tokens
+named-ends lexer lex own tokens is same left =
+    let P : Lexer → Type 0 = λ l. (rested : ℕ) → EndsText (table l.names) (lexing l.lex end_of_text rested) [] tokens in
+    let Q : LexState → Type 0 = λ l. (rested : ℕ) → EndsText (table built_in) (lexing l end_of_text rested) [] tokens in
+    subst Q same (subst P is left)

@@ -1,0 +1,94 @@
+// Tree construction over a known state, whose edits are kept.
+ghost use Rattle.std.specs.Prelude.{◌≡◌, IfOk, OnOk};
+ghost use Rattle.hp_tokens.specs.Advancing.{AreRuns};
+ghost use Rattle.hp_control.specs.States.{lex_start};
+ghost use Rattle.hp_model.specs.Whole.{IsRead};
+ghost use Rattle.hp_views.specs.View.{split_of};
+ghost use Rattle.hp_replay.specs.Collecting.{Collects, CollectsAll, IsKnown};
+
+use crate::NoMemory;
+use crate::tokens::{is_start, of_page};
+use hp_acts::handle;
+use hp_control::{Control, Nothing};
+use hp_elements::{Rest, Token, Tokens};
+use hp_tokens::LexState;
+use hp_views::View;
+use std::alloc::Global;
+
+/// The state with the lexer's part apart, in whose place that of a page's start stands.
+pub(crate) fn apart(control: Control) -> (Control, LexState)
+    ensures control { result.0 ≡ record control { lex = lex_start } }
+    ensures lex { result.1 ≡ control.lex }
+{
+    let Control { lex, .. } = Control::start();
+    let Control {
+        lex: own,
+        mode,
+        original,
+        templates,
+        stack,
+        formatting,
+        head,
+        form,
+        frameset_ok,
+        quirks,
+        pending,
+        skip_lf,
+        next,
+    } = control;
+    let control = Control {
+        lex,
+        mode,
+        original,
+        templates,
+        stack,
+        formatting,
+        head,
+        form,
+        frameset_ok,
+        quirks,
+        pending,
+        skip_lf,
+        next,
+    };
+    (control, own)
+}
+
+/// Handles a token. Answers the state in which the lexer goes on, where the token calls for another than its own.
+pub(crate) fn collect<'p>(
+    alloc: Global,
+    view: &mut View<'p, Nothing>,
+    token: Token<'p>,
+) -> Result<Option<Rest>, NoMemory>
+    requires known { IsKnown (split_of view.old) }
+    requires read { IsRead token }
+    ensures { IfOk result (λ switch. Collects (split_of view.old) (split_of view.new) token.entry switch) }
+{
+    match handle(alloc, view, token) {
+        Ok(handled) => Ok(handled.switch),
+        Err(_) => Err(NoMemory),
+    }
+}
+
+/// Handles the tokens of the end of input, of which none is a start tag.
+pub(crate) fn collect_last<'p>(
+    alloc: Global,
+    view: &mut View<'p, Nothing>,
+    tokens: Tokens<'static>,
+) -> Result<(), NoMemory>
+    requires known { IsKnown (split_of view.old) }
+    requires runs { AreRuns tokens }
+    ensures { OnOk result (CollectsAll (split_of view.old) (split_of view.new) tokens.entry) }
+{
+    hp_model::at_once();
+    for token in tokens {
+        if is_start(&token) {
+            return Err(NoMemory);
+        }
+        let token = of_page(alloc, token)?;
+        if collect(alloc, view, token)?.is_some() {
+            return Err(NoMemory);
+        }
+    }
+    Ok(())
+}

@@ -1,0 +1,10 @@
+//! The sequential parser over a part of a page from a known state, and the end of input from one: their edits are kept.
+#![tactic(auto)]
+
+mod at_end;
+mod collecting;
+mod tokens;
+mod told;
+
+pub use at_end::ending;
+pub use hp_elements::NoMemory;
