@@ -283,3 +283,27 @@ pub(crate) fn copied_part(
         Some(part) => Ok(Some(part.copy(alloc)?)),
     }
 }
+
+/// Whether one of the attributes has that name.
+#[inline]
+fn has_name(attributes: &Chain<Attribute>, name: &Name) -> bool
+    ensures { result ≡ has_name name.now attributes.now }
+{
+    attributes.iter().any(|attribute| attribute.name.same(name))
+}
+
+/// An attribute in no namespace goes behind the finished ones, unless one of them has its name.
+#[inline]
+pub fn add(
+    alloc: Global,
+    attributes: &mut Chain<Attribute>,
+    attribute: Attribute,
+) -> Result<(), NoMemory>
+    ensures { OnOk result (attributes.new ≡ added attributes.old (Some (record { name = attribute.name; value = attribute.value }))) }
+{
+    if !attributes.is_empty() && has_name(attributes, &attribute.name) {
+        return Ok(());
+    }
+    attributes.push(alloc, attribute)?;
+    Ok(())
+}

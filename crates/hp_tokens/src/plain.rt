@@ -270,3 +270,47 @@ impl Run for AttributeNameText {
 
     ghost no_cr = { refl };
 }
+
+/// The name of a tag, in any case: up to white space, U+0000, CR, `/` or `>`.
+#[derive(Drop)]
+pub struct AnyTagNameText;
+
+impl Run for AnyTagNameText {
+    ghost passes = { none_of tag_name_stops };
+
+    #[inline]
+    fn passes(byte: u8) -> bool
+        ensures { result ≡ none_of tag_name_stops byte }
+    {
+        !matches!(
+            byte,
+            b'\0' | b'\t' | b'\n' | b'\x0c' | b'\r' | b' ' | b'/' | b'>'
+        )
+    }
+
+    ghost high = { none-high tag_name_stops refl };
+
+    ghost no_cr = { refl };
+}
+
+/// The name of an attribute, in any case: up to white space, U+0000, CR, `/`, `=` or `>`.
+#[derive(Drop)]
+pub struct AnyAttributeNameText;
+
+impl Run for AnyAttributeNameText {
+    ghost passes = { none_of attribute_name_stops };
+
+    #[inline]
+    fn passes(byte: u8) -> bool
+        ensures { result ≡ none_of attribute_name_stops byte }
+    {
+        !matches!(
+            byte,
+            b'\0' | b'\t' | b'\n' | b'\x0c' | b'\r' | b' ' | b'/' | b'=' | b'>'
+        )
+    }
+
+    ghost high = { none-high attribute_name_stops refl };
+
+    ghost no_cr = { refl };
+}
