@@ -1,15 +1,14 @@
 -- The code points at the front of a text, by its first bytes.
-use Rattle.std.proofs.Common.{◌≡◌, ℕ, ◌+◌, ◌-◌, ◌^◌, ◌<◌, ◌≤◌, ◌≢◌, List, [], ◌∷◌, ◌++◌, suc, zero, length, take, drop, get_or, refl, sym, ◌∙◌, ap, subst, arith, Bool, true, false, ◌&&◌, Option, None, Some, inl, inr, drop-drop, length-drop}
-use Rattle.std.specs.Prelude.{◌==◌, nat_lt, slice_get, MatchOption}
-use Rattle.std.specs.Str.{chars, IsUtf8, IsCharBoundary}
+use Rattle.std.proofs.Common.{◌≡◌, ℕ, ◌+◌, ◌^◌, ◌<◌, ◌≤◌, ◌≢◌, List, [], ◌∷◌, ◌++◌, suc, zero, length, take, drop, get_or, refl, sym, ◌∙◌, ap, subst, arith, Bool, true, false, ◌&&◌, Option, None, Some, inl, inr, drop-drop, length-drop}
+use Rattle.std.specs.Prelude.{◌==◌, nat_lt, slice_get, IfSome}
+use Rattle.std.specs.Str.{chars, IsUtf8}
 use Rattle.std.specs.List.{list_all}
 use Rattle.std.specs.Char.{len_utf8, is_ascii_alphabetic}
 use lib.Utf8.{encode, encodes}
 use borrow.Author.Tests.{ltb-true}
 use Rattle.std.proofs.lemmas.Bool.{cases_lt, and_parts, eqb-true, eq-eqb}
-use Rattle.std.proofs.lemmas.Str.{chars-nil, chars_past_char, IsUtf8-past_char, encodes-chars, encode_ascii, encode_same, length-encode, len_utf8_bounds, IsCharBoundary-from_drop, IsCharBoundary-from_rest}
-use Rattle.hp_tokens.specs.Reading.{Unread, first, Reads, IsAt, FrontIs, IsFront, opens_start_tag, opens_end_tag, begins_with_pair, SkipsPairCr, IsAsciiFront, ReadsAscii}
-use Rattle.hp_tokens.proofs.Texts.{same_bytes}
+use Rattle.std.proofs.lemmas.Str.{chars-nil, chars_past_char, IsUtf8-past_char, encodes-chars, encode_ascii, IsCharBoundary-from_drop, IsCharBoundary-from_rest}
+use Rattle.hp_tokens.specs.Reading.{Unread, first, Reads, IsAt, IsFront, opens_start_tag, opens_end_tag, begins_with_pair, SkipsPairCr, IsAsciiFront, ReadsAscii, PassesFrom, StopsRun}
 
 -- an ASCII byte at the front is the first code point
 module _ (x : ℕ) (xs : List ℕ) (u : IsUtf8 (x ∷ xs)) (low : x < 128) where
@@ -322,7 +321,7 @@ module _ (text bytes : List ℕ) (at byte : ℕ) (is : IsAt text at) (low : byte
   byte-missing other_one =
       let P : Unread → Type 0 = λ u. first u.text ≢ Some byte in
       subst P view (byte-left (drop at text) byte is.rest low (λ some. unequal (get_or (drop at text) 0 0) (λ h.
-          other_one (omega (arith, some, ap length same, length-drop at text)) (ap (λ (xs : List ℕ). get_or xs at 0) same ∙ (sym (at_front text at) ∙ h)))))
+      other_one (omega (arith, some, ap length same, length-drop at text)) (ap (λ (xs : List ℕ). get_or xs at 0) same ∙ (sym (at_front text at) ∙ h)))))
     where
       unequal : (x : ℕ) → (x ≡ byte → ⊥) → (x == byte) ≡ false
       unequal x h = by_cases (x == byte) refl
@@ -330,3 +329,39 @@ module _ (text bytes : List ℕ) (at byte : ℕ) (is : IsAt text at) (low : byte
           by_cases : (b : Bool) → (x == byte) ≡ b → (x == byte) ≡ false
           by_cases true e = absurd (h (eqb-true x byte e))
           by_cases false e = e
+
+-- a byte that does not pass, where what passes or what does not is ASCII
+module _ (p : ℕ → Bool) (other : (x c : ℕ) → p x ≡ false → (x < 128 → c ≡ x) → (128 ≤ x → 128 ≤ c) → p c ≡ false) where
+  stops_at : (xs : List ℕ) → IsUtf8 xs → (0 < length xs → p (get_or xs 0 0) ≡ false) → IfSome (first (chars xs)) (λ c. p c ≡ false)
+  stops_at [] u h = let P : List ℕ → Type 0 = λ cs. IfSome (first cs) (λ c. p c ≡ false) in subst P (sym chars-nil) tt
+  stops_at (x ∷ xs) u h =
+      let b = begins x xs u in
+      let P : List ℕ → Type 0 = λ cs. IfSome (first cs) (λ c. p c ≡ false) in
+      subst P (sym b.spelled) (other x b.c (h (omega arith)) (λ low. let two : x ∷ chars xs ≡ b.c ∷ b.cs = sym (low-chars x xs u low) ∙ b.spelled in cc) b.high)
+
+  stops_from : (text : List ℕ) (at count : ℕ) → IsAt text (at + count) → PassesFrom p text at count → StopsRun p (cursor_at text (at + count))
+  stops_from text at count is run =
+      let rest : drop count (drop at text) ≡ drop (at + count) text = drop-drop count at text in
+      stops_at (drop (at + count) text) is.rest (λ some.
+      let inside : count < length (drop at text) = omega (arith, some, ap length rest, length-drop count (drop at text)) in
+      ap (λ (x : ℕ). p x) (ap (λ (xs : List ℕ). get_or xs 0 0) (sym rest) ∙ at_front (drop at text) count) ∙ run.end inside)
+
+-- where only ASCII ends a run
+pub high-stops : (p : ℕ → Bool) → ((c : ℕ) → 128 ≤ c → p c ≡ true) → (text : List ℕ) (at count : ℕ) → IsAt text (at + count) → PassesFrom p text at count
+    → StopsRun p (cursor_at text (at + count))
+high-stops p high text at count is run = stops_from p (λ x c fails low big. elim (cases_lt x 128) [
+  | inl small ↦ ap (λ (y : ℕ). p y) (low small) ∙ fails
+  | inr large ↦ let both : true ≡ false = sym (high x large) ∙ fails in cc
+]) text at count is run
+
+false_by : (b : Bool) → (b ≡ true → ⊥) → b ≡ false
+false_by true h = absurd (h refl)
+false_by false h = refl
+
+-- where only ASCII passes
+pub low-stops : (p : ℕ → Bool) → ((c : ℕ) → p c ≡ true → c < 128) → (text : List ℕ) (at count : ℕ) → IsAt text (at + count) → PassesFrom p text at count
+    → StopsRun p (cursor_at text (at + count))
+low-stops p ascii text at count is run = stops_from p (λ x c fails low big. elim (cases_lt x 128) [
+  | inl small ↦ ap (λ (y : ℕ). p y) (low small) ∙ fails
+  | inr large ↦ false_by (p c) (λ passes. absurd (omega (arith, ascii c passes, big large)))
+]) text at count is run
