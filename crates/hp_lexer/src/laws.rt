@@ -3,7 +3,7 @@ ghost use Rattle.std.specs.Prelude.{List};
 ghost use Rattle.hp_names.specs.References.{Reference};
 ghost use Rattle.hp_tokens.specs.Runs.{IsSteady, AnyPieces};
 ghost use Rattle.hp_lexer.specs.Table.{table};
-ghost use Rattle.hp_lexer.specs.Standing.{StepsFall, SwitchesFall};
+ghost use Rattle.hp_lexer.specs.Standing.{StepsFall, SilentFall, SwitchesFall};
 
 /// A move that is made stays made when more text follows; and so, however a text is cut into pieces, the lexer gives the same
 /// tokens, the places where they began and the last state, over any table of reference names. It does nothing; its contract is
@@ -16,8 +16,9 @@ pub fn any_pieces()
 }
 
 /// A run over a text ends: with each step of the lexer its load falls, whatever is answered to a question and wherever the lexer is
-/// switched. It does nothing; its contract is the law.
+/// switched; and moves that emit nothing make it no larger. It does nothing; its contract is the law.
 pub fn steps_fall()
     ensures steps { StepsFall }
+    ensures silent { SilentFall }
     ensures switches { SwitchesFall }
 {}
