@@ -145,11 +145,11 @@ impl Name {
     pub fn same(&self, other: &Name) -> bool
         ensures { IsTrue result ↔ (self.now ≡ other.now) }
     {
-        match &self.spelling {
-            Spelling::Named(own) => other.is(*own),
-            _ => match &other.spelling {
-                Spelling::Named(_) => false,
-                _ => self.as_str() == other.as_str(),
+        match self.known() {
+            Some(own) => other.is(own),
+            None => match other.known() {
+                Some(_) => false,
+                None => self.as_str() == other.as_str(),
             },
         }
     }
@@ -172,6 +172,7 @@ impl Name {
         }
     }
 
+    /// The same, also for a name that is no known one.
     #[inline(never)]
     fn copy_spelling(&self, alloc: Global) -> Result<Name, AllocError>
         ensures { IfOk result (λ copy. copy ≡ self.now) }

@@ -1,5 +1,5 @@
 -- What a cursor has still to read.
-use Rattle.std.specs.Prelude.{◌≡◌, ℕ, All, ◌+◌, ◌<◌, ◌≤◌, ◌^◌, ◌++◌, ◌==◌, ◌&&◌, MatchOption, true, false, sum_by, length, drop, take, slice_index, List, [], ◌∷◌, Option, None, Some, Bool}
+use Rattle.std.specs.Prelude.{◌≡◌, ℕ, ◌+◌, ◌<◌, ◌≤◌, ◌^◌, ◌++◌, ◌==◌, ◌&&◌, MatchOption, nat_lt, true, false, sum_by, length, drop, take, slice_index, List, [], ◌∷◌, Option, None, Some, Bool}
 use Rattle.std.specs.List.{list_all}
 use Rattle.std.specs.Char.{len_utf8, is_ascii_alphabetic}
 use Rattle.std.specs.Str.{IsUtf8, IsCharBoundary}
@@ -41,7 +41,7 @@ pub record PassesFrom (test : ℕ → Bool) (text : List ℕ) (at count : ℕ) :
 pub record SkipsRun (test : ℕ → Bool) (old new : Unread) (some : Bool) : Type 0 where
   pub run : List ℕ
   pub reads : ReadsRun test old run new
-  pub says : some ≡ (0 < length run)
+  pub says : some ≡ nat_lt 0 (length run)
 
 -- the first byte of a text: its first code point, where that is ASCII
 pub record FrontIs (text : List ℕ) (byte : ℕ) : Type 0 where
@@ -76,7 +76,7 @@ pub record SkipsPairCr (old new : Unread) : Type 0 where
 -- so many code points come first that are ASCII
 pub record IsAsciiFront (count : ℕ) (text : List ℕ) : Type 0 where
   pub within : count ≤ length text
-  pub ascii : All (λ c. c < 128) (take count text)
+  pub ascii : list_all (λ c. nat_lt c 128) (take count text) ≡ true
 
 -- so many code points were taken, which are ASCII
 pub record ReadsAscii (count : ℕ) (old new : Unread) : Type 0 where

@@ -284,24 +284,26 @@ pub(crate) fn copied_part(
     }
 }
 
+ghost use Rattle.hp_tokens.specs.Parts.{joined};
+
 /// Whether one of the attributes has that name.
 #[inline]
-fn has_name(attributes: &Chain<Attribute>, name: &Name) -> bool
+fn are_named(attributes: &Chain<Attribute>, name: &Name) -> bool
     ensures { result ≡ has_name name.now attributes.now }
 {
     attributes.iter().any(|attribute| attribute.name.same(name))
 }
 
-/// An attribute in no namespace goes behind the finished ones, unless one of them has its name.
+/// An attribute goes behind the others, unless one of them has its name.
 #[inline]
 pub fn add(
     alloc: Global,
     attributes: &mut Chain<Attribute>,
     attribute: Attribute,
 ) -> Result<(), NoMemory>
-    ensures { OnOk result (attributes.new ≡ added attributes.old (Some (record { name = attribute.name; value = attribute.value }))) }
+    ensures { OnOk result (attributes.new ≡ joined attributes.old attribute) }
 {
-    if !attributes.is_empty() && has_name(attributes, &attribute.name) {
+    if !attributes.is_empty() && are_named(attributes, &attribute.name) {
         return Ok(());
     }
     attributes.push(alloc, attribute)?;

@@ -2,6 +2,7 @@
 ghost use Rattle.std.specs.Prelude.{◌≡◌, ℕ, List, [], ◌∷◌, ◌++◌, length, drop, take, IsUtf8, ◌+◌, ◌<◌, ◌≤◌, ◌^◌, MatchOption, true, false, slice_index, Bool};
 ghost use Rattle.std.specs.List.{list_all};
 
+use crate::plain::WholeDataText;
 use hp_elements::Text;
 use memchr::{memchr, memchr3};
 use std::marker::Model;
@@ -46,7 +47,8 @@ impl<'p> Model for Cursor<'p> {
 impl<'p> Cursor<'p> {
     ghost use Rattle.std.specs.Str.{chars};
     ghost use Rattle.hp_tokens.specs.Reading.{Unread, first, Reads, ReadsRun, ReadsAscii, SkipsRun, SkipsPairCr, IsFront, IsAsciiFront, opens_start_tag, opens_end_tag};
-    ghost use Rattle.std.specs.Prelude.{◌≢◌, Some};
+    ghost use Rattle.std.specs.Prelude.{◌≢◌, Some, IsUtf8};
+    ghost use Rattle.hp_tokens.specs.Plain.{none_of, whole_data_stops, whole_raw_stops};
     ghost use Rattle.hp_tokens.specs.Rows.{is_blank};
 
     /// A cursor at the start of a text.
@@ -94,17 +96,37 @@ impl<'p> Cursor<'p> {
         Some(c)
     }
 
+    /// The unread bytes.
+    #[inline(always)]
+    fn rest(&self) -> &'p [u8]
+        ensures chars { chars result.now ≡ self.now.text }
+        ensures utf8 { IsUtf8 result.now }
+    {
+        &self.text.as_bytes()[self.at..]
+    }
+
     /// The first byte of the next code point, which is the code point where that is ASCII.
     #[inline(always)]
     pub fn front(&self) -> Option<u8>
         ensures { IsFront self.now.text result }
     {
-        let bytes = self.text.as_bytes();
-        if self.at < bytes.len() {
-            Some(bytes[self.at])
-        } else {
-            None
-        }
+        self.rest().first().copied()
+    }
+
+    /// Whether the next two code points are `<` and an ASCII letter.
+    #[inline(always)]
+    pub fn opens_start_tag(&self) -> bool
+        ensures { result ≡ opens_start_tag self.now.text }
+    {
+        opens_start(self.rest())
+    }
+
+    /// Whether the next three code points are `<`, `/` and an ASCII letter.
+    #[inline(always)]
+    pub fn opens_end_tag(&self) -> bool
+        ensures { result ≡ opens_end_tag self.now.text }
+    {
+        opens_end(self.rest())
     }
 
     /// Takes the next code point if it is this one, which is ASCII, and answers whether it is.
@@ -117,33 +139,9 @@ impl<'p> Cursor<'p> {
         let bytes = self.text.as_bytes();
         if self.at < bytes.len() && bytes[self.at] == byte {
             self.at += 1;
-            true
-        } else {
-            false
+            return true;
         }
-    }
-
-    /// Whether the next two code points are `<` and an ASCII letter.
-    #[inline(always)]
-    pub fn opens_start_tag(&self) -> bool
-        ensures { result ≡ opens_start_tag self.now.text }
-    {
-        let bytes = self.text.as_bytes();
-        bytes.len() - self.at >= 2
-            && bytes[self.at] == b'<'
-            && bytes[self.at + 1].is_ascii_alphabetic()
-    }
-
-    /// Whether the next three code points are `<`, `/` and an ASCII letter.
-    #[inline(always)]
-    pub fn opens_end_tag(&self) -> bool
-        ensures { result ≡ opens_end_tag self.now.text }
-    {
-        let bytes = self.text.as_bytes();
-        bytes.len() - self.at >= 3
-            && bytes[self.at] == b'<'
-            && bytes[self.at + 1] == b'/'
-            && bytes[self.at + 2].is_ascii_alphabetic()
+        false
     }
 
     /// Takes the tabs, line feeds, form feeds and spaces at the front, and answers whether there are any.
@@ -154,6 +152,35 @@ impl<'p> Cursor<'p> {
         let count = blanks_len(self.text.as_bytes(), self.at);
         self.at += count;
         count > 0
+    }
+
+    /// Takes the CR of a CR LF pair at the front, if there is one.
+    #[inline(always)]
+    pub fn skip_pair_cr(&mut self)
+        ensures { SkipsPairCr self.old self.new }
+    {
+        if is_pair(self.rest()) {
+            self.at += 1;
+        }
+    }
+
+    /// The bytes behind the next code point, which is ASCII.
+    #[inline(always)]
+    pub fn behind_front(&self) -> &'p [u8]
+        requires front { IsAsciiFront 1 self.now.text }
+        ensures chars { chars result.now ≡ drop 1 self.now.text }
+        ensures utf8 { IsUtf8 result.now }
+    {
+        &self.rest()[1..]
+    }
+
+    /// Takes so many code points, which are ASCII.
+    #[inline(always)]
+    pub fn skip_ascii(&mut self, count: usize)
+        requires front { IsAsciiFront count self.old.text }
+        ensures { ReadsAscii count self.old self.new }
+    {
+        self.at += count;
     }
 
     /// Takes the run of code points at the front that pass.
@@ -176,35 +203,6 @@ impl<'p> Cursor<'p> {
         let from = self.at;
         self.at += count;
         Text::of_page(self.text, from, self.at)
-    }
-
-    /// Takes the CR of a CR LF pair at the front, if there is one.
-    #[inline(always)]
-    pub fn skip_pair_cr(&mut self)
-        ensures { SkipsPairCr self.old self.new }
-    {
-        let bytes = self.text.as_bytes();
-        if bytes.len() - self.at >= 2 && bytes[self.at] == b'\r' && bytes[self.at + 1] == b'\n' {
-            self.at += 1;
-        }
-    }
-
-    /// The bytes behind the next code point, which is ASCII.
-    #[inline(always)]
-    pub fn behind_front(&self) -> &'p [u8]
-        requires { IsAsciiFront 1 self.now.text }
-        ensures { chars result.now ≡ drop 1 self.now.text }
-    {
-        &self.text.as_bytes()[self.at + 1..]
-    }
-
-    /// Takes so many code points, which are ASCII.
-    #[inline(always)]
-    pub fn skip_ascii(&mut self, count: usize)
-        requires { IsAsciiFront count self.old.text }
-        ensures { ReadsAscii count self.old self.new }
-    {
-        self.at += count;
     }
 
     /// Takes the text at the front up to the next `<`, `&`, CR or U+0000, as a part of the text.
@@ -273,7 +271,45 @@ fn blanks_len(bytes: &[u8], at: usize) -> usize
     bytes.len() - at
 }
 
+ghost use Rattle.hp_tokens.specs.Reading.{opens_start_tag as spec_opens_start, opens_end_tag as spec_opens_end, begins_with_pair};
+
+/// Whether a text begins with `<` and an ASCII letter.
+#[inline(always)]
+fn opens_start(rest: &[u8]) -> bool
+    ensures { result ≡ spec_opens_start rest.now }
+{
+    match rest {
+        [b'<', letter, ..] => letter.is_ascii_alphabetic(),
+        _ => false,
+    }
+}
+
+/// Whether a text begins with `<`, `/` and an ASCII letter.
+#[inline(always)]
+fn opens_end(rest: &[u8]) -> bool
+    ensures { result ≡ spec_opens_end rest.now }
+{
+    match rest {
+        [b'<', b'/', letter, ..] => letter.is_ascii_alphabetic(),
+        _ => false,
+    }
+}
+
+/// Whether a text begins with CR LF.
+#[inline(always)]
+fn is_pair(rest: &[u8]) -> bool
+    ensures { result ≡ begins_with_pair rest.now }
+{
+    match rest {
+        [b'\r', b'\n', ..] => true,
+        _ => false,
+    }
+}
+
 ghost use Rattle.hp_tokens.specs.Plain.{none_of, whole_data_stops, whole_raw_stops};
+
+/// How many bytes are looked at one by one, before a search by vectors begins.
+const NEAR: usize = 24;
 
 /// How many bytes from `at` on stand before the next `<`, `&`, CR or U+0000.
 #[inline]
@@ -283,16 +319,12 @@ fn data_len(bytes: &[u8], at: usize) -> usize
 {
     let rest = &bytes[at..];
     let near = &rest[..rest.len().min(NEAR)];
-    for (i, byte) in near.iter().enumerate() {
-        if matches!(*byte, b'<' | b'&' | b'\r' | b'\0') {
-            return i;
-        }
+    let count = run_len::<WholeDataText>(near, 0);
+    if count < near.len() {
+        return count;
     }
     far_data_len(rest)
 }
-
-/// How many bytes are looked at one by one, before a search by vectors begins.
-const NEAR: usize = 24;
 
 /// The same of a long text.
 #[inline(never)]

@@ -1,6 +1,6 @@
 // What the runs go over, one type a class of text.
 ghost use Rattle.std.specs.Prelude.{◌≡◌, [], ◌∷◌, refl};
-ghost use Rattle.hp_tokens.specs.Plain.{none_of, in_name, data_stops, raw_stops, plaintext_stops, escaped_stops, cdata_stops, comment_stops, bogus_comment_stops, double_quoted_stops, single_quoted_stops, unquoted_stops, tag_name_stops, attribute_name_stops};
+ghost use Rattle.hp_tokens.specs.Plain.{none_of, in_name, whole_data_stops, data_stops, raw_stops, plaintext_stops, escaped_stops, cdata_stops, comment_stops, bogus_comment_stops, double_quoted_stops, single_quoted_stops, unquoted_stops, tag_name_stops, attribute_name_stops};
 ghost use Rattle.hp_tokens.specs.PlainLaws.{none-high, name-high, text-other};
 
 use crate::cursor::Run;
@@ -311,6 +311,25 @@ impl Run for AnyAttributeNameText {
     }
 
     ghost high = { none-high attribute_name_stops refl };
+
+    ghost no_cr = { refl };
+}
+
+/// Text in the data state and in RCDATA, whatever its class: up to U+0000, CR, `&` or `<`.
+#[derive(Drop)]
+pub struct WholeDataText;
+
+impl Run for WholeDataText {
+    ghost passes = { none_of whole_data_stops };
+
+    #[inline]
+    fn passes(byte: u8) -> bool
+        ensures { result ≡ none_of whole_data_stops byte }
+    {
+        !matches!(byte, b'\0' | b'\r' | b'&' | b'<')
+    }
+
+    ghost high = { none-high whole_data_stops refl };
 
     ghost no_cr = { refl };
 }

@@ -175,7 +175,8 @@ pub fn next_text<'p, T: Table, R: TextRun>(
     Some(token)
 }
 
-ghost use Rattle.std.specs.Prelude.{map};
+ghost use Rattle.std.specs.Prelude.{map, length, ◌<◌};
+ghost use Rattle.std.specs.List.{list_all};
 ghost use Rattle.hp_tokens.specs.Rows.{character};
 ghost use Rattle.hp_tokens.specs.Plain.{none_of, whole_data_stops, whole_raw_stops};
 
@@ -193,6 +194,8 @@ pub fn next_data<'p, T: Table>(
     requires resting { is_resting state.now.machine.state ≡ true }
     requires held { held state.now ≤ input.old.place }
     ensures turn { IfSome result (λ text. (rules : Rules) (here : State → Bool) → HasRows rules T.has_row T.row_of → Turned rules here (lexing state.now input.old rested.old) [] (lexing state.now input.new rested.new) (map character text) rested.new turns.Emitted) }
+    ensures no_nul { IfSome result (λ text. list_all (none_of (0 ∷ [])) text ≡ true) }
+    ensures long { IfSome result (λ text. 0 < length text) }
     ensures none { IfNone result ((input.new ≡ input.old) × (rested.new ≡ rested.old)) }
     ensures held { held state.now ≤ input.new.place }
 {
@@ -221,6 +224,8 @@ pub fn next_raw<'p, T: Table>(
     requires resting { is_resting state.now.machine.state ≡ true }
     requires held { held state.now ≤ input.old.place }
     ensures turn { IfSome result (λ text. (rules : Rules) (here : State → Bool) → HasRows rules T.has_row T.row_of → Turned rules here (lexing state.now input.old rested.old) [] (lexing state.now input.new rested.new) (map character text) rested.new turns.Emitted) }
+    ensures no_nul { IfSome result (λ text. list_all (none_of (0 ∷ [])) text ≡ true) }
+    ensures long { IfSome result (λ text. 0 < length text) }
     ensures none { IfNone result ((input.new ≡ input.old) × (rested.new ≡ rested.old)) }
     ensures held { held state.now ≤ input.new.place }
 {
