@@ -62,8 +62,8 @@ module _ (old o mid : Lexer) (old_input mid_input : Unread) (tokens : List Token
       let Q : List Token → Type 0 = λ ts. Advances (table old.names) (stands old old_input) [] (lexing mid.lex mid_input mid.rested) ts mid.rested false in
       subst Q none (subst P f (advanced t e))
 
-  pub at_cut : turn ≡ turns.NeedsMore → (new : Lexer) → new ≡ record mid { rested = 2 ^ 32 } → held mid.lex ≤ 2 ^ 32 → Stepped old old_input new mid_input steps.AtCut
-  at_cut e new is_new few =
+  pub at_cut : turn ≡ turns.NeedsMore → (new : Lexer) → new ≡ record mid { rested = 2 ^ 32 } → held mid.lex ≤ 2 ^ 32 → mid_input.text ≡ [] → Stepped old old_input new mid_input steps.AtCut
+  at_cut e new is_new few used =
       let l = led turns.NeedsMore e in
       let P : Lexing → Type 0 = λ x. Advances (table old.names) (stands old old_input) [] x [] mid.rested false in
       let Q : Lexing → Type 0 = λ x. move (table old.names) x ≡ needs_more in
@@ -75,6 +75,7 @@ module _ (old o mid : Lexer) (old_input mid_input : Unread) (tokens : List Token
         asked = nothing;
         start = refl;
         held = few;
+        used = used;
       } in
       subst R (sym is_new) done
 

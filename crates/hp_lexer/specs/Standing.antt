@@ -60,7 +60,7 @@ pub record ReachesCdata (old : Lexer) (old_input : Unread) (new : Lexer) (new_in
   pub asks : move (table old.names) there ≡ asks_cdata (stands_answered true new new_input) (stands_answered false new new_input)
   pub asked : new.asked ≡ asked.Cdata
 
--- moves that emit nothing led to where more input is needed; in the next text the lexer rested nowhere yet
+-- moves that emit nothing led to where more input is needed; the text is used up, and in the next one the lexer rested nowhere yet
 pub record ReachesCut (old : Lexer) (old_input : Unread) (new : Lexer) (new_input : Unread) : Type 0 where
   pub rested : ℕ
   pub advances : Advances (table old.names) (stands old old_input) [] (stands (record new { rested = rested }) new_input) [] rested false
@@ -68,6 +68,7 @@ pub record ReachesCut (old : Lexer) (old_input : Unread) (new : Lexer) (new_inpu
   pub asked : new.asked ≡ asked.Nothing
   pub start : new.rested ≡ 2 ^ 32
   pub held : held new.lex ≤ 2 ^ 32
+  pub used : new_input.text ≡ []
 
 -- The promise of `next`. The tokens are those of moves from one rest to the next, or to where no move is made or the state is in
 -- another part of the table; more input is needed; a question is asked.

@@ -215,7 +215,7 @@ impl Lexer {
                 tokens,
             }),
             Turn::NeedsMore => {
-                self.reach_cut()?;
+                self.reach_cut(input)?;
                 Ok(Step::AtCut)
             }
             Turn::AskCdata => {
@@ -298,11 +298,12 @@ impl Lexer {
     }
 
     /// The text is used up: what stood in it is before the next one.
-    fn reach_cut(&mut self) -> Result<(), NoMemory>
+    fn reach_cut(&mut self, input: &Cursor<'_>) -> Result<(), NoMemory>
         ensures cut { OnOk result ((self.new ≡ record self.old { rested = 2 ^ 32 }) × (held self.old.lex ≤ 2 ^ 32)) }
+        ensures used { OnOk result (input.now.text ≡ []) }
         ensures names { self.new.names ≡ self.old.names }
     {
-        if self.lex.ahead.len_bytes() > ORIGIN {
+        if self.lex.ahead.len_bytes() > ORIGIN || input.peek().is_some() {
             return Err(NoMemory);
         }
         self.rested = ORIGIN;
