@@ -7,3 +7,4 @@ pub mod Opening
 pub mod Loads
 mod Placing
 mod PlacedSteps
+pub mod Direct

@@ -19,7 +19,7 @@ use Rattle.hp_lexer.specs.Running.{Passed, Led, Ran, emits}
 use Rattle.hp_lexer.specs.Standing.{opened, behind_cdata, stands, stands_answered, Stepped}
 use Rattle.hp_lexer.proofs.Falling.{FallsTo, AsksCdata, move_falls}
 
-at_nothing : (l : Lexer) (input : Unread) → l.asked ≡ asked.Nothing → stands l input ≡ lexing l.lex input l.rested
+pub at_nothing : (l : Lexer) (input : Unread) → l.asked ≡ asked.Nothing → stands l input ≡ lexing l.lex input l.rested
 at_nothing l input e = ap (λ (a : Asked). lexing (record l.lex { machine = opened a l.lex.machine }) input l.rested) e
 
 module _ (old o mid : Lexer) (old_input mid_input : Unread) (tokens : List Token) (turn : Turn)
