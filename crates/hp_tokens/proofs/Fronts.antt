@@ -1,6 +1,6 @@
 -- The code points at the front of a text, by its first bytes.
-use Rattle.std.proofs.Common.{◌≡◌, ℕ, ◌+◌, ◌-◌, ◌^◌, ◌<◌, ◌≤◌, ◌≢◌, List, [], ◌∷◌, ◌++◌, suc, zero, length, take, drop, get_or, refl, sym, ◌∙◌, ap, subst, arith, Bool, true, false, ◌&&◌, Option, None, Some, inl, inr, drop-drop, drop-cons}
-use Rattle.std.specs.Prelude.{◌==◌, nat_lt, slice_get, MatchOption}
+use Rattle.std.proofs.Common.{◌≡◌, ℕ, ◌+◌, ◌-◌, ◌^◌, ◌<◌, ◌≤◌, ◌≢◌, List, [], ◌∷◌, ◌++◌, suc, zero, length, take, drop, get_or, refl, sym, ◌∙◌, ap, subst, arith, Bool, true, false, ◌&&◌, Option, None, Some, inl, inr, drop-drop, length-drop}
+use Rattle.std.specs.Prelude.{◌==◌, nat_lt, slice_get, MatchOption, IfSome}
 use Rattle.std.specs.Str.{chars, IsUtf8, IsCharBoundary}
 use Rattle.std.specs.List.{list_all}
 use Rattle.std.specs.Char.{len_utf8, is_ascii_alphabetic}
@@ -8,7 +8,7 @@ use lib.Utf8.{encode, encodes}
 use borrow.Author.Tests.{ltb-true}
 use Rattle.std.proofs.lemmas.Bool.{cases_lt, and_parts, eqb-true, eq-eqb}
 use Rattle.std.proofs.lemmas.Str.{chars-nil, chars_past_char, IsUtf8-past_char, encodes-chars, encode_ascii, encode_same, length-encode, len_utf8_bounds, IsCharBoundary-from_drop, IsCharBoundary-from_rest}
-use Rattle.hp_tokens.specs.Reading.{Unread, first, Reads, IsAt, FrontIs, IsFront, opens_start_tag, opens_end_tag, begins_with_pair, SkipsPairCr, IsAsciiFront, ReadsAscii}
+use Rattle.hp_tokens.specs.Reading.{Unread, first, Reads, IsAt, FrontIs, IsFront, opens_start_tag, opens_end_tag, begins_with_pair, SkipsPairCr, IsAsciiFront, ReadsAscii, PassesFrom, StopsRun}
 use Rattle.hp_tokens.proofs.Texts.{same_bytes}
 
 -- an ASCII byte at the front is the first code point
@@ -70,11 +70,11 @@ differs x c low high = grind arith
 
 -- whether the first code point is this ASCII one
 pub first-test : (a x : ℕ) (xs : List ℕ) → IsUtf8 (x ∷ xs) → a < 128 → (x == a) ≡ false → first (chars (x ∷ xs)) ≢ Some a
-first-test a x xs u low no h = elim (cases_lt x 128) [
+first-test a x xs u low other_one h = elim (cases_lt x 128) [
   | inl small ↦
       let e : Some x ≡ Some a = sym (ap first (low-chars x xs u small)) ∙ h in
       let same : x ≡ a = cc in
-      let yes : true ≡ false = sym (eq-eqb x a same) ∙ no in cc
+      let yes : true ≡ false = sym (eq-eqb x a same) ∙ other_one in cc
   | inr big ↦
       let b = begins x xs u in
       let e : Some b.c ≡ Some a = sym (ap first b.spelled) ∙ h in
@@ -131,6 +131,10 @@ and_false : (b : Bool) → false ≡ (b && false)
 and_false true = refl
 and_false false = refl
 
+and_both : (x y z : Bool) → ((x && y) && z) ≡ (x && (y && z))
+and_both true y z = refl
+and_both false y z = refl
+
 start_test : (xs : List ℕ) → opens_start_tag xs ≡ cons_test (λ c. c == 60) (head_test is_ascii_alphabetic) xs
 start_test [] = refl
 start_test (a ∷ []) = and_false (a == 60)
@@ -140,7 +144,7 @@ end_test : (xs : List ℕ) → opens_end_tag xs ≡ cons_test (λ c. c == 60) (c
 end_test [] = refl
 end_test (a ∷ []) = and_false (a == 60)
 end_test (a ∷ b ∷ []) = and_false (a == 60) ∙ ap (λ (x : Bool). (a == 60) && x) (and_false (b == 47))
-end_test (a ∷ b ∷ c ∷ xs) = refl
+end_test (a ∷ b ∷ c ∷ xs) = and_both (a == 60) (b == 47) (is_ascii_alphabetic c)
 
 pair_test : (xs : List ℕ) → begins_with_pair xs ≡ cons_test (λ c. c == 13) (head_test (λ c. c == 10)) xs
 pair_test [] = refl
@@ -200,9 +204,9 @@ module _ (text : List ℕ) (at byte : ℕ) (is : IsAt text at) (low : byte < 128
 
 -- another byte, or none
 pub byte-left : (xs : List ℕ) (byte : ℕ) → IsUtf8 xs → byte < 128 → (0 < length xs → (get_or xs 0 0 == byte) ≡ false) → first (chars xs) ≢ Some byte
-byte-left [] byte u low no h =
+byte-left [] byte u low other_one h =
     let e : None ≡ Some byte = sym (ap first chars-nil) ∙ h in cc
-byte-left (x ∷ xs) byte u low no h = first-test byte x xs u low (no (omega arith)) h
+byte-left (x ∷ xs) byte u low other_one h = first-test byte x xs u low (other_one (omega arith)) h
 
 -- the ASCII code points at the front are bytes
 ascii_front : (count : ℕ) (xs : List ℕ) → IsUtf8 xs → count ≤ length (chars xs) → list_all (λ c. nat_lt c 128) (take count (chars xs)) ≡ true
@@ -238,3 +242,127 @@ module _ (xs now : List ℕ) (count : ℕ) (u : IsUtf8 xs) (is : chars xs ≡ no
 
   pub front-chars : chars (drop count xs) ≡ drop count now
   front-chars = front_bytes.2 ∙ ap (λ (cs : List ℕ). drop count cs) is
+
+-- what a cursor at a place of a text has to read
+abbrev pub cursor_at : List ℕ → ℕ → Unread
+cursor_at text at = record { place = 2 ^ 32 + at; text = chars (drop at text) }
+
+-- so many ASCII code points are skipped
+module _ (text : List ℕ) (at count : ℕ) (is : IsAt text at) (now : Unread) (view : cursor_at text at ≡ now) (front : IsAsciiFront count now.text) where
+  ahead : chars (drop at text) ≡ now.text
+  ahead = ap (λ (u : Unread). u.text) view
+
+  pub ascii-within : count ≤ length (drop at text)
+  ascii-within = front-within (drop at text) now.text count is.rest ahead front
+
+  pub ascii-IsAt : IsAt text (at + count)
+  ascii-IsAt = on-IsAt text at count is ascii-within (front-utf8 (drop at text) now.text count is.rest ahead front)
+
+  pub ascii-read : ReadsAscii count now (cursor_at text (at + count))
+  ascii-read = record {
+    text = sym (ap chars (drop-drop count at text)) ∙ front-chars (drop at text) now.text count is.rest ahead front;
+    place = let same : 2 ^ 32 + at ≡ now.place = ap (λ (u : Unread). u.place) view in omega (arith, same);
+  }
+
+-- the CR of a pair
+pair_begins : (text : List ℕ) → begins_with_pair text ≡ true → (cs : List ℕ) × (text ≡ 13 ∷ cs)
+pair_begins [] h = cc
+pair_begins (a ∷ []) h = cc
+pair_begins (a ∷ b ∷ xs) h = (b ∷ xs, ap (λ (x : ℕ). x ∷ (b ∷ xs)) (eqb-true a 13 (and_parts (a == 13) _ h).0))
+
+pair_ascii : (text : List ℕ) → begins_with_pair text ≡ true → IsAsciiFront 1 text
+pair_ascii text h =
+    let P : List ℕ → Type 0 = λ xs. IsAsciiFront 1 xs in
+    let first = pair_begins text h in
+    subst P (sym first.1) record { within = omega arith; ascii = refl }
+
+module _ (text : List ℕ) (at : ℕ) (is : IsAt text at) (now : Unread) (view : cursor_at text at ≡ now) (pair : begins_with_pair now.text ≡ true) where
+  pub pair-IsAt : IsAt text (at + 1)
+  pair-IsAt = ascii-IsAt text at 1 is now view (pair_ascii now.text pair)
+
+  pub pair-taken : SkipsPairCr now (cursor_at text (at + 1))
+  pair-taken =
+      let read = ascii-read text at 1 is now view (pair_ascii now.text pair) in
+      let first = pair_begins now.text pair in
+      record {
+        taken = λ h. record {
+          text = first.1 ∙ ap (λ (xs : List ℕ). 13 ∷ xs) (sym (read.text ∙ ap (λ (xs : List ℕ). drop 1 xs) first.1));
+          place = read.place;
+        };
+        left = λ h. let never : true ≡ false = sym pair ∙ h in cc;
+      }
+
+pub pair-none : (now : Unread) → begins_with_pair now.text ≡ false → SkipsPairCr now now
+pair-none now other_one = record {
+  taken = λ h. let yes : true ≡ false = sym h ∙ other_one in cc;
+  left = λ h. refl;
+}
+
+-- the byte at a place
+at_front : (text : List ℕ) (at : ℕ) → get_or (drop at text) 0 0 ≡ get_or text at 0
+at_front [] zero = refl
+at_front [] (suc n) = refl
+at_front (x ∷ xs) zero = refl
+at_front (x ∷ xs) (suc n) = at_front xs n
+
+module _ (text bytes : List ℕ) (at byte : ℕ) (is : IsAt text at) (low : byte < 128) (same : bytes ≡ text) (now : Unread) (view : cursor_at text at ≡ now) where
+  stands : get_or bytes at 0 ≡ byte → get_or (drop at text) 0 0 ≡ byte
+  stands h = at_front text at ∙ (ap (λ (xs : List ℕ). get_or xs at 0) (sym same) ∙ h)
+
+  some_left : at < length bytes → 0 < length (drop at text)
+  some_left h = omega (arith, h, ap length same, length-drop at text)
+
+  pub byte-invariant : at < length bytes → get_or bytes at 0 ≡ byte → IsAt text (at + 1)
+  byte-invariant some h = byte-IsAt text at byte is low (some_left some) (stands h)
+
+  pub byte-taken : at < length bytes → get_or bytes at 0 ≡ byte → Reads now byte (cursor_at text (at + 1))
+  byte-taken some h = let P : Unread → Type 0 = λ u. Reads u byte (cursor_at text (at + 1)) in subst P view (byte-Reads text at byte is low (some_left some) (stands h))
+
+  pub byte-missing : (at < length bytes → get_or bytes at 0 ≡ byte → ⊥) → first now.text ≢ Some byte
+  byte-missing other_one =
+      let P : Unread → Type 0 = λ u. first u.text ≢ Some byte in
+      subst P view (byte-left (drop at text) byte is.rest low (λ some. unequal (get_or (drop at text) 0 0) (λ h.
+      other_one (omega (arith, some, ap length same, length-drop at text)) (ap (λ (xs : List ℕ). get_or xs at 0) same ∙ (sym (at_front text at) ∙ h)))))
+    where
+      unequal : (x : ℕ) → (x ≡ byte → ⊥) → (x == byte) ≡ false
+      unequal x h = by_cases (x == byte) refl
+        where
+          by_cases : (b : Bool) → (x == byte) ≡ b → (x == byte) ≡ false
+          by_cases true e = absurd (h (eqb-true x byte e))
+          by_cases false e = e
+
+-- a byte that does not pass, where what passes or what does not is ASCII
+module _ (p : ℕ → Bool) (other : (x c : ℕ) → p x ≡ false → (x < 128 → c ≡ x) → (128 ≤ x → 128 ≤ c) → p c ≡ false) where
+  stops_at : (xs : List ℕ) → IsUtf8 xs → (0 < length xs → p (get_or xs 0 0) ≡ false) → IfSome (first (chars xs)) (λ c. p c ≡ false)
+  stops_at [] u h = let P : List ℕ → Type 0 = λ cs. IfSome (first cs) (λ c. p c ≡ false) in subst P (sym chars-nil) tt
+  stops_at (x ∷ xs) u h =
+      let b = begins x xs u in
+      let P : List ℕ → Type 0 = λ cs. IfSome (first cs) (λ c. p c ≡ false) in
+      subst P (sym b.spelled) (other x b.c (h (omega arith)) (λ low. let two : x ∷ chars xs ≡ b.c ∷ b.cs = sym (low-chars x xs u low) ∙ b.spelled in cc) b.high)
+
+  stops_from : (text : List ℕ) (at count : ℕ) → IsAt text (at + count) → PassesFrom p text at count → StopsRun p (cursor_at text (at + count))
+  stops_from text at count is run =
+      let rest : drop count (drop at text) ≡ drop (at + count) text = drop-drop count at text in
+      stops_at (drop (at + count) text) is.rest (λ some.
+      let inside : count < length (drop at text) = omega (arith, some, ap length rest, length-drop count (drop at text)) in
+      ap (λ (x : ℕ). p x) (ap (λ (xs : List ℕ). get_or xs 0 0) (sym rest) ∙ at_front (drop at text) count) ∙ run.end inside)
+
+-- where only ASCII ends a run
+pub high-stops : (p : ℕ → Bool) → ((c : ℕ) → 128 ≤ c → p c ≡ true) → (text : List ℕ) (at count : ℕ) → IsAt text (at + count) → PassesFrom p text at count
+    → StopsRun p (cursor_at text (at + count))
+high-stops p high text at count is run = stops_from p (λ x c fails low big. elim (cases_lt x 128) [
+  | inl small ↦ ap (λ (y : ℕ). p y) (low small) ∙ fails
+  | inr large ↦ let both : true ≡ false = sym (high x large) ∙ fails in cc
+]) text at count is run
+
+false_by : (b : Bool) → (b ≡ true → ⊥) → b ≡ false
+false_by true h = absurd (h refl)
+false_by false h = refl
+
+-- where only ASCII passes
+pub low-stops : (p : ℕ → Bool) → ((c : ℕ) → p c ≡ true → c < 128) → (text : List ℕ) (at count : ℕ) → IsAt text (at + count) → PassesFrom p text at count
+    → StopsRun p (cursor_at text (at + count))
+low-stops p ascii text at count is run = stops_from p (λ x c fails low big. elim (cases_lt x 128) [
+  | inl small ↦ ap (λ (y : ℕ). p y) (low small) ∙ fails
+  | inr large ↦ false_by (p c) (λ passes. absurd (omega (arith, ascii c passes, big large)))
+]) text at count is run

@@ -20,17 +20,22 @@ no_pass true h = absurd (h refl)
 no_pass false h = refl
 
 -- where the first byte that passes stands, or the end
-pub first-stops : (test : ℕ → Bool) (xs : List ℕ) (r : Option ℕ) → IsFirstByte test xs r → StopsAt test xs (unwrap_or r (length xs))
-first-stops test xs None h = record {
+first_stops : (test : ℕ → Bool) (xs : List ℕ) (r : Option ℕ) → IsFirstByte test xs r → StopsAt test xs (unwrap_or r (length xs))
+first_stops test xs None h = record {
   within = omega arith;
   before = λ k lt. no_pass (test (get_or xs k 0)) (h k (omega arith) lt);
   stop = λ lt. absurd (omega (arith, lt));
 }
-first-stops test xs (Some n) h = record {
+first_stops test xs (Some n) h = record {
   within = omega (arith, h.0.high);
   before = λ k lt. no_pass (test (get_or xs k 0)) (h.0.before k (omega arith) lt);
   stop = λ lt. h.1;
 }
+
+stops_at : (test : ℕ → Bool) (xs : List ℕ) (n m : ℕ) (r : Option ℕ) → IsFirstByte test xs r → length xs ≡ n → m ≡ unwrap_or r n → StopsAt test xs m
+stops_at test xs n m r h size is =
+    let P : ℕ → Type 0 = λ k. StopsAt test xs k in
+    subst P (ap (λ (k : ℕ). unwrap_or r k) size ∙ sym is) (first_stops test xs r h)
 
 all_from : (p : ℕ → Bool) (n : ℕ) (xs : List ℕ) → n ≤ length xs → ((k : ℕ) → k < n → p (get_or xs k 0) ≡ true) → list_all p (take n xs) ≡ true
 all_from p zero xs within h = refl
@@ -76,9 +81,9 @@ stop3 false false true h = refl
 stop3 false false false h = cc
 
 -- `<`, `&` or CR, and before that U+0000
-pub data-passes : (xs front : List ℕ) (n m : ℕ) → front ≡ take n xs → StopsAt (is_byte3 60 38 13) xs n → StopsAt (is_byte 0) front m
+data_passes : (xs front : List ℕ) (n m : ℕ) → front ≡ take n xs → StopsAt (is_byte3 60 38 13) xs n → StopsAt (is_byte 0) front m
     → PassesFrom (none_of whole_data_stops) xs 0 m
-data-passes xs front n m is first zeros =
+data_passes xs front n m is first zeros =
     let size : length front ≡ n = ap length is ∙ length-take-le n xs first.within in
     let same : (k : ℕ) → k < n → get_or front k 0 ≡ get_or xs k 0 = λ k lt. ap (λ (ys : List ℕ). get_or ys k 0) is ∙ get_or-take n xs k 0 lt in
     let ends : m ≤ n = omega (arith, zeros.within, size) in
@@ -103,8 +108,8 @@ data-passes xs front n m is first zeros =
     }
 
 -- `<`, CR or U+0000
-pub raw-passes : (xs : List ℕ) (n : ℕ) → StopsAt (is_byte3 60 13 0) xs n → PassesFrom (none_of whole_raw_stops) xs 0 n
-raw-passes xs n first = record {
+raw_passes : (xs : List ℕ) (n : ℕ) → StopsAt (is_byte3 60 13 0) xs n → PassesFrom (none_of whole_raw_stops) xs 0 n
+raw_passes xs n first = record {
   within = first.within;
   passes = all_from (none_of whole_raw_stops) n xs first.within (λ k lt.
       let x : ℕ = get_or xs k 0 in pass3 (x == 0) (x == 13) (x == 60) (first.before k lt));
@@ -133,3 +138,15 @@ from-place p text xs at n is run =
     let moved : (n ≤ length (drop at text)) × (list_all p (take n (drop at text)) ≡ true) × (n < length (drop at text) → p (get_or (drop at text) n 0) ≡ false) =
     subst P is (run.within, run.passes, run.end) in
     record { within = moved.0; passes = moved.1; end = moved.2 }
+
+-- what two searches found
+pub data-found : (xs front : List ℕ) (n m : ℕ) (r q : Option ℕ) → IsFirstByte (is_byte3 60 38 13) xs r → n ≡ unwrap_or r (length xs)
+    → front ≡ take n xs → IsFirstByte (is_byte 0) front q → m ≡ unwrap_or q n → PassesFrom (none_of whole_data_stops) xs 0 m
+data-found xs front n m r q found is cut zeros there =
+    let first = stops_at (is_byte3 60 38 13) xs (length xs) n r found refl is in
+    data_passes xs front n m cut first (stops_at (is_byte 0) front n m q zeros (ap length cut ∙ length-take-le n xs first.within) there)
+
+pub raw-found : (text xs : List ℕ) (at m : ℕ) (r : Option ℕ) → xs ≡ drop at text → IsFirstByte (is_byte3 60 13 0) xs r
+    → m ≡ unwrap_or r (length xs) → PassesFrom (none_of whole_raw_stops) text at m
+raw-found text xs at m r cut found is =
+    from-place (none_of whole_raw_stops) text xs at m cut (raw_passes xs m (stops_at (is_byte3 60 13 0) xs (length xs) m r found refl is))

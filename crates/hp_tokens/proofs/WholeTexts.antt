@@ -1,6 +1,6 @@
 -- A text that is emitted as it stands: each of its code points is a token of its own.
 use Rattle.std.proofs.Common.{◌≡◌, ℕ, ◌+◌, ◌<◌, List, [], ◌∷◌, ◌++◌, Bool, true, false, cond, length, map, refl, ap, ◌∙◌, sym, subst, arith, Option, not}
-use Rattle.std.specs.Prelude.{◌==◌, IsTrue, sum_by}
+use Rattle.std.specs.Prelude.{◌==◌, IsTrue, sum_by, IfSome}
 use Rattle.std.specs.List.{list_all}
 use Rattle.std.specs.Char.{len_utf8}
 use Rattle.std.proofs.lemmas.Bool.{and_parts, and_from, eqb-true}
@@ -10,7 +10,7 @@ use Rattle.hp_tokens.specs.declared.state.State.{State}
 use Rattle.hp_tokens.specs.declared.machine.Machine.{Machine}
 use Rattle.hp_tokens.specs.declared.lexing.LexState.{LexState}
 use Rattle.hp_tokens.specs.declared.rows.Turn.TheVariants as turns
-use Rattle.hp_tokens.specs.Reading.{Unread, Reads, ReadsRun, SkipsPairCr, begins_with_pair}
+use Rattle.hp_tokens.specs.Reading.{Unread, first, Reads, ReadsRun, StopsRun, SkipsPairCr, begins_with_pair}
 use Rattle.hp_tokens.specs.States.{is_resting}
 use Rattle.hp_tokens.specs.Rows.{Row, character, plus, stay}
 use Rattle.hp_tokens.specs.Moves.{Lexing, Emitted, Move, Rules, move, makes, standing, after_row, after_pair}
@@ -156,3 +156,24 @@ no-first x stops [] h = refl
 no-first x stops (c ∷ cs) h =
     let parts = and_parts (none_of (x ∷ stops) c) _ h in
     and_from (none_of (x ∷ []) c) _ (and_from (not (c == x)) true (and_parts (not (c == x)) _ parts.0).0 refl) (no-first x stops cs parts.1)
+
+same_unread : (old new : Unread) → old.text ≡ new.text → new.place ≡ old.place → new ≡ old
+same_unread old new text place =
+    ap (λ (p : ℕ). record { place = p; text = new.text }) place ∙ ap (λ (t : List ℕ). record { place = old.place; text = t }) (sym text)
+
+-- where nothing comes first that is emitted as it stands, nothing was taken
+pub whole-none : (passes : ℕ → Bool) → passes 10 ≡ true → (old mid new : Unread) (text : List ℕ) → SkipsPairCr old mid → ReadsRun passes mid text new
+    → StopsRun passes new → text ≡ [] → new ≡ old
+whole-none passes lf old mid new text skips run stops none =
+    let left : mid.text ≡ new.text = run.text ∙ ap (λ (xs : List ℕ). xs ++ new.text) none in
+    let still : new.place ≡ mid.place = run.place ∙ (ap (λ (xs : List ℕ). mid.place + sum_by len_utf8 xs) none ∙ omega arith) in
+    by_cases (begins_with_pair old.text) refl left still
+  where
+    by_cases : (b : Bool) → begins_with_pair old.text ≡ b → mid.text ≡ new.text → new.place ≡ mid.place → new ≡ old
+    by_cases true h left still =
+        let took = skips.taken h in
+        let next = behind_pair mid.text (sym (ap begins_with_pair took.text) ∙ h) in
+        let P : List ℕ → Type 0 = λ xs. IfSome (first xs) (λ c. passes c ≡ false) in
+        let stopped : passes 10 ≡ false = subst P (sym left ∙ next.1) stops in
+        let both : true ≡ false = sym lf ∙ stopped in cc
+    by_cases false h left still = same_unread mid new left still ∙ skips.left h

@@ -1,5 +1,5 @@
 -- What a cursor has still to read.
-use Rattle.std.specs.Prelude.{◌≡◌, ℕ, ◌+◌, ◌<◌, ◌≤◌, ◌^◌, ◌++◌, ◌==◌, ◌&&◌, MatchOption, nat_lt, true, false, sum_by, length, drop, take, slice_index, List, [], ◌∷◌, Option, None, Some, Bool}
+use Rattle.std.specs.Prelude.{◌≡◌, ℕ, ◌+◌, ◌<◌, ◌≤◌, ◌^◌, ◌++◌, ◌==◌, ◌&&◌, MatchOption, IfSome, nat_lt, true, false, sum_by, length, drop, take, slice_index, List, [], ◌∷◌, Option, None, Some, Bool}
 use Rattle.std.specs.List.{list_all}
 use Rattle.std.specs.Char.{len_utf8, is_ascii_alphabetic}
 use Rattle.std.specs.Str.{IsUtf8, IsCharBoundary}
@@ -36,6 +36,10 @@ pub record PassesFrom (test : ℕ → Bool) (text : List ℕ) (at count : ℕ) :
   pub within : count ≤ length (drop at text)
   pub passes : list_all test (take count (drop at text)) ≡ true
   pub end : count < length (drop at text) → test (slice_index (drop at text) count) ≡ false
+
+-- the next code point, if there is one, does not pass the test: a run before it is as long as it can be
+abbrev pub StopsRun : (ℕ → Bool) → Unread → Type 0
+StopsRun test u = IfSome (first u.text) (λ c. test c ≡ false)
 
 -- a run of code points that pass the test was taken, which may be empty
 pub record SkipsRun (test : ℕ → Bool) (old new : Unread) (some : Bool) : Type 0 where

@@ -46,7 +46,7 @@ impl<'p> Model for Cursor<'p> {
 
 impl<'p> Cursor<'p> {
     ghost use Rattle.std.specs.Str.{chars};
-    ghost use Rattle.hp_tokens.specs.Reading.{Unread, first, Reads, ReadsRun, ReadsAscii, SkipsRun, SkipsPairCr, IsFront, IsAsciiFront, opens_start_tag, opens_end_tag};
+    ghost use Rattle.hp_tokens.specs.Reading.{Unread, first, Reads, ReadsRun, StopsRun, ReadsAscii, SkipsRun, SkipsPairCr, IsFront, IsAsciiFront, opens_start_tag, opens_end_tag};
     ghost use Rattle.std.specs.Prelude.{◌≢◌, Some, IsUtf8};
     ghost use Rattle.hp_tokens.specs.Plain.{none_of, whole_data_stops, whole_raw_stops};
     ghost use Rattle.hp_tokens.specs.Rows.{is_blank};
@@ -147,7 +147,8 @@ impl<'p> Cursor<'p> {
     /// Takes the tabs, line feeds, form feeds and spaces at the front, and answers whether there are any.
     #[inline(always)]
     pub fn skip_blanks(&mut self) -> bool
-        ensures { SkipsRun is_blank self.old self.new result }
+        ensures run { SkipsRun is_blank self.old self.new result }
+        ensures stops { StopsRun is_blank self.new }
     {
         let count = blanks_len(self.text.as_bytes(), self.at);
         self.at += count;
@@ -187,6 +188,7 @@ impl<'p> Cursor<'p> {
     #[inline(always)]
     pub fn take_run<R: Run>(&mut self) -> &'p str
         ensures run { ReadsRun R.passes self.old (chars result.now) self.new }
+        ensures stops { StopsRun R.passes self.new }
     {
         let count = run_len::<R>(self.text.as_bytes(), self.at);
         let from = self.at;
@@ -198,6 +200,7 @@ impl<'p> Cursor<'p> {
     #[inline(always)]
     pub fn take_text<R: Run>(&mut self) -> Text<'p>
         ensures run { ReadsRun R.passes self.old result self.new }
+        ensures stops { StopsRun R.passes self.new }
     {
         let count = run_len::<R>(self.text.as_bytes(), self.at);
         let from = self.at;
@@ -209,6 +212,7 @@ impl<'p> Cursor<'p> {
     #[inline]
     pub fn take_data(&mut self) -> Text<'p>
         ensures run { ReadsRun (none_of whole_data_stops) self.old result self.new }
+        ensures stops { StopsRun (none_of whole_data_stops) self.new }
     {
         let count = data_len(self.text.as_bytes(), self.at);
         let from = self.at;
@@ -220,6 +224,7 @@ impl<'p> Cursor<'p> {
     #[inline]
     pub fn take_raw(&mut self) -> Text<'p>
         ensures run { ReadsRun (none_of whole_raw_stops) self.old result self.new }
+        ensures stops { StopsRun (none_of whole_raw_stops) self.new }
     {
         let count = raw_len(self.text.as_bytes(), self.at);
         let from = self.at;
@@ -231,6 +236,7 @@ impl<'p> Cursor<'p> {
     #[inline(always)]
     pub fn take_blanks(&mut self) -> Text<'p>
         ensures run { ReadsRun is_blank self.old result self.new }
+        ensures stops { StopsRun is_blank self.new }
     {
         let count = blanks_len(self.text.as_bytes(), self.at);
         let from = self.at;
