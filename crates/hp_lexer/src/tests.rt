@@ -16,7 +16,7 @@ struct Teller {
     in_run: bool,
     /// Whether places are told.
     places: bool,
-    /// Whether texts and tags are read without the table, where they can be.
+    /// Whether texts are read without the table, where they can be.
     straight: bool,
 }
 
@@ -98,9 +98,8 @@ impl Teller {
     }
 }
 
-/// Reads a text or a tag without the table and tells it, and answers whether there was one.
+/// Reads a text without the table and tells it, and answers whether there was one.
 fn tell_straight(
-    alloc: Global,
     lexer: &mut Lexer,
     input: &mut Cursor<'_>,
     teller: &mut Teller,
@@ -115,14 +114,7 @@ fn tell_straight(
         })?;
         return Ok(true);
     }
-    match lexer.next_tag(alloc, input)? {
-        None => Ok(false),
-        Some(token) => {
-            teller.tell(&token)?;
-            teller.tell_place(&token, lexer.rested.saturating_sub(ORIGIN))?;
-            Ok(true)
-        }
-    }
+    Ok(false)
 }
 
 /// Tells the tokens of a piece of a text.
@@ -138,7 +130,7 @@ fn tell_piece(
     }
     let mut input = Cursor::of_str(piece);
     for _ in 0..1000 {
-        if teller.straight && tell_straight(alloc, lexer, &mut input, teller)? {
+        if teller.straight && tell_straight(lexer, &mut input, teller)? {
             continue;
         }
         if is_asking(lexer) || lexer.lex.ahead.len_bytes() > input.place() {
