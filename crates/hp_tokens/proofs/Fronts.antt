@@ -1,15 +1,14 @@
 -- The code points at the front of a text, by its first bytes.
-use Rattle.std.proofs.Common.{◌≡◌, ℕ, ◌+◌, ◌-◌, ◌^◌, ◌<◌, ◌≤◌, ◌≢◌, List, [], ◌∷◌, ◌++◌, suc, zero, length, take, drop, get_or, refl, sym, ◌∙◌, ap, subst, arith, Bool, true, false, ◌&&◌, Option, None, Some, inl, inr, drop-drop, length-drop}
-use Rattle.std.specs.Prelude.{◌==◌, nat_lt, slice_get, MatchOption, IfSome}
-use Rattle.std.specs.Str.{chars, IsUtf8, IsCharBoundary}
+use Rattle.std.proofs.Common.{◌≡◌, ℕ, ◌+◌, ◌^◌, ◌<◌, ◌≤◌, ◌≢◌, List, [], ◌∷◌, ◌++◌, suc, zero, length, take, drop, get_or, refl, sym, ◌∙◌, ap, subst, arith, Bool, true, false, ◌&&◌, Option, None, Some, inl, inr, drop-drop, length-drop}
+use Rattle.std.specs.Prelude.{◌==◌, nat_lt, slice_get, IfSome}
+use Rattle.std.specs.Str.{chars, IsUtf8}
 use Rattle.std.specs.List.{list_all}
 use Rattle.std.specs.Char.{len_utf8, is_ascii_alphabetic}
 use lib.Utf8.{encode, encodes}
 use borrow.Author.Tests.{ltb-true}
 use Rattle.std.proofs.lemmas.Bool.{cases_lt, and_parts, eqb-true, eq-eqb}
-use Rattle.std.proofs.lemmas.Str.{chars-nil, chars_past_char, IsUtf8-past_char, encodes-chars, encode_ascii, encode_same, length-encode, len_utf8_bounds, IsCharBoundary-from_drop, IsCharBoundary-from_rest}
-use Rattle.hp_tokens.specs.Reading.{Unread, first, Reads, IsAt, FrontIs, IsFront, opens_start_tag, opens_end_tag, begins_with_pair, SkipsPairCr, IsAsciiFront, ReadsAscii, PassesFrom, StopsRun}
-use Rattle.hp_tokens.proofs.Texts.{same_bytes}
+use Rattle.std.proofs.lemmas.Str.{chars-nil, chars_past_char, IsUtf8-past_char, encodes-chars, encode_ascii, IsCharBoundary-from_drop, IsCharBoundary-from_rest}
+use Rattle.hp_tokens.specs.Reading.{Unread, first, Reads, IsAt, IsFront, opens_start_tag, opens_end_tag, begins_with_pair, SkipsPairCr, IsAsciiFront, ReadsAscii, PassesFrom, StopsRun}
 
 -- an ASCII byte at the front is the first code point
 module _ (x : ℕ) (xs : List ℕ) (u : IsUtf8 (x ∷ xs)) (low : x < 128) where

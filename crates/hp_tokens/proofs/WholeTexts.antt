@@ -10,12 +10,12 @@ use Rattle.hp_tokens.specs.declared.state.State.{State}
 use Rattle.hp_tokens.specs.declared.machine.Machine.{Machine}
 use Rattle.hp_tokens.specs.declared.lexing.LexState.{LexState}
 use Rattle.hp_tokens.specs.declared.rows.Turn.TheVariants as turns
-use Rattle.hp_tokens.specs.Reading.{Unread, first, Reads, ReadsRun, StopsRun, SkipsPairCr, begins_with_pair}
+use Rattle.hp_tokens.specs.Reading.{Unread, first, ReadsRun, StopsRun, SkipsPairCr, begins_with_pair}
 use Rattle.hp_tokens.specs.States.{is_resting}
-use Rattle.hp_tokens.specs.Rows.{Row, character, plus, stay}
-use Rattle.hp_tokens.specs.Moves.{Lexing, Emitted, Move, Rules, move, makes, standing, after_row, after_pair}
-use Rattle.hp_tokens.specs.Runs.{Leads, here, onward}
-use Rattle.hp_tokens.specs.Advancing.{lexing, tokens_of, Began, Says, Appends, Advances, HasRows, MovesByRows, Turned, Stops, at_rest}
+use Rattle.hp_tokens.specs.Rows.{Row, character}
+use Rattle.hp_tokens.specs.Moves.{Lexing, Emitted, Rules, move, makes, standing, after_row}
+use Rattle.hp_tokens.specs.Runs.{Leads, onward}
+use Rattle.hp_tokens.specs.Advancing.{lexing, tokens_of, Began, Says, Appends, HasRows, MovesByRows, Turned, at_rest}
 use Rattle.hp_tokens.specs.Plain.{EmitsPlain, none_of}
 use Rattle.hp_tokens.proofs.FineRows.{characters-single}
 use Rattle.hp_tokens.proofs.Stepping.{by_rows, singles-alone, AreRuns-alone}
