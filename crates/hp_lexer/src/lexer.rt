@@ -150,9 +150,10 @@ impl Lexer {
         }
     }
 
-    /// The text at the front that the table emits as it stands, up to the next `<`, `&`, CR or U+0000, where a CR LF pair that comes
-    /// first is LF; or what a named reference at the front stands for. Where the lexer rests in no state of text, or neither
-    /// comes first: `None`, and nothing changes. It is what calls of `next` do there, with each code point in a token of its own.
+    /// The text at the front that the table emits as it stands: in the data state and RCDATA up to the next `<`, `&`, CR or U+0000, in
+    /// RAWTEXT and script data up to the next `<`, CR or U+0000, where a CR LF pair that comes first is LF. Where the lexer rests in
+    /// another state, or no such text comes first: `None`, and nothing changes. It is what calls of `next` do there, with each code
+    /// point in a token of its own.
     #[inline]
     pub fn next_plain<'p>(&mut self, input: &mut Cursor<'p>) -> Option<Text<'p>>
         requires held { held self.old.lex ≤ input.old.place }
