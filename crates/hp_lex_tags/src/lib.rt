@@ -8,4 +8,4 @@ mod tags;
 #[cfg(test)]
 mod tests;
 
-pub use tags::{advance, any_pieces, at_end, is_here, next_text};
+pub use tags::{advance, any_pieces, at_end, is_here, next_plain, next_text};
