@@ -183,7 +183,12 @@ impl Lexer {
     {
         match self.asked {
             Asked::Nothing => {
-                let text = hp_lex_tags::next_reference(&mut self.lex, input, &self.names, &mut self.rested)?;
+                let text = hp_lex_tags::next_reference(
+                    &mut self.lex,
+                    input,
+                    &self.names,
+                    &mut self.rested,
+                )?;
                 Some(text)
             }
             _ => None,
