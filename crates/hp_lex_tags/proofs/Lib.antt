@@ -1,3 +1,4 @@
 pub mod NamedSteps
 pub mod PlainRows
 pub mod Steady
+pub mod UsualReference

@@ -7,5 +7,7 @@ mod rows;
 mod tags;
 #[cfg(test)]
 mod tests;
+mod usual_reference;
 
 pub use tags::{advance, any_pieces, at_end, is_here, next_plain, next_text};
+pub use usual_reference::next_reference;

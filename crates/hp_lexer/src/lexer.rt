@@ -171,6 +171,30 @@ impl Lexer {
         }
     }
 
+    /// What a named reference with a semicolon at the front stands for, in the data state, where that is one code point; otherwise
+    /// `None`, and nothing changes. It is what calls of `next` do there.
+    #[inline]
+    pub fn next_reference<'p>(&mut self, input: &mut Cursor<'p>) -> Option<Text<'p>>
+        requires held { held self.old.lex ≤ input.old.place }
+        ensures text { IfSome result (λ text. PlainStepped self.old input.old self.new input.new text) }
+        ensures none { IfNone result ((self.new ≡ self.old) × (input.new ≡ input.old)) }
+        ensures held { held self.new.lex ≤ input.new.place }
+        ensures names { self.new.names ≡ self.old.names }
+    {
+        match self.asked {
+            Asked::Nothing => {
+                let text = hp_lex_tags::next_reference(
+                    &mut self.lex,
+                    input,
+                    &self.names,
+                    &mut self.rested,
+                )?;
+                Some(text)
+            }
+            _ => None,
+        }
+    }
+
     /// The next tokens that the table emits at once, a question, or that the text is used up.
     pub fn next<'p>(&mut self, alloc: Global, input: &mut Cursor<'p>) -> Result<Step<'p>, NoMemory>
         requires answered { IsTrue (is_answered self.old.asked) }

@@ -107,7 +107,11 @@ fn tell_straight(
     if lexer.lex.ahead.len_bytes() > input.place() {
         return Err(NoMemory);
     }
-    if let Some(text) = lexer.next_plain(input) {
+    let text = match lexer.next_plain(input) {
+        Some(text) => Some(text),
+        None => lexer.next_reference(input),
+    };
+    if let Some(text) = text {
         teller.tell(&Token::Characters {
             class: CharClass::Other,
             text,
