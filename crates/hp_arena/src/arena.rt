@@ -1,6 +1,6 @@
 //! The nodes, elements and leaves of a tree, and the edits on them.
 
-ghost use Rattle.std.specs.Prelude.{◌≡◌, ◌≢◌, ◌+◌, ◌<◌, ◌≤◌, length, ◌++◌, [], ◌∷◌, ◌^◌, true, false, IfOk, OnOk, OnErr, All, MatchOption, Some, slice_get, slice_set, vec_len, vec_capacity};
+ghost use Rattle.std.specs.Prelude.{◌≡◌, ◌≢◌, ◌+◌, ◌<◌, ◌≤◌, length, ◌++◌, [], ◌∷◌, ◌^◌, true, false, IfOk, OnOk, OnErr, All, MatchOption, unwrap_or, Some, slice_get, slice_set, vec_len, vec_capacity};
 ghost use Rattle.hp_control.specs.Edits.{room_of, room_of_all};
 ghost use Rattle.hp_control.specs.Tree.{document, detached, put, put_child, applied, is_there, id_of, is_place, may_be_child, leads_into_document, children_moved, with_tag, with_attributes};
 ghost use Rattle.hp_control.specs.Tree.{branch, IsForest};
@@ -428,6 +428,16 @@ impl<'p> Arena<'p> {
     }
 }
 
+/// A part of a doctype; the empty text where it is missing.
+fn text_or_empty(part: Option<Text<'_>>) -> Text<'_>
+    ensures { result ≡ unwrap_or part.entry [] }
+{
+    match part {
+        Some(text) => text,
+        None => Text::new(),
+    }
+}
+
 /// A doctype as the tree keeps it: a name that is missing is the empty text.
 #[inline(never)]
 fn kept_doctype<'p>(doctype: hp_elements::Doctype<'p>) -> Doctype<'p>
@@ -435,10 +445,7 @@ fn kept_doctype<'p>(doctype: hp_elements::Doctype<'p>) -> Doctype<'p>
 {
     let parts = doctype.into_parts();
     Doctype {
-        name: match parts.name {
-            Some(name) => name,
-            None => Text::new(),
-        },
+        name: text_or_empty(parts.name),
         public: parts.public,
         system: parts.system,
     }
