@@ -89,6 +89,7 @@ fn compare_names(first: Shown<'_>, second: Shown<'_>) -> Ordering
 }
 
 /// The texts of attributes, as these stand.
+#[inline(never)]
 fn texts_of<'t>(alloc: Global, attributes: &'t Chain<Attribute>) -> Result<Vec<Shown<'t>>, NoMemory>
     ensures { IfOk result (λ shown. attributes_of shown.items ≡ attributes.now) }
 {
@@ -100,6 +101,7 @@ fn texts_of<'t>(alloc: Global, attributes: &'t Chain<Attribute>) -> Result<Vec<S
 }
 
 /// Puts attributes into the order in which they are printed. Up to 20 take no memory for it.
+#[inline(never)]
 fn sort(shown: &mut Vec<Shown<'_>>) -> Result<(), NoMemory>
     ensures { OnOk result (attributes_of shown.new.items ≡ in_order (attributes_of shown.old.items)) }
 {

@@ -3,7 +3,10 @@
 use crate::print_tree;
 use hp_arena::Tree;
 use hp_control::{Child, Edit, Edits, Place, Ref};
-use hp_elements::{Attribute, AttributeSpace, Chain, Doctype, DoctypeParts, Known, Name, Namespace, NoMemory, Tag, Text};
+use hp_elements::{
+    Attribute, AttributeSpace, Chain, Doctype, DoctypeParts, Known, Name, Namespace, NoMemory, Tag,
+    Text,
+};
 use std::alloc::Global;
 use std::mem;
 use std::process::Abort;
