@@ -4,3 +4,4 @@ pub mod Named
 pub mod Held
 pub mod Tags
 pub mod Fine
+pub mod Straight

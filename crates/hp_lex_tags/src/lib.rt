@@ -4,8 +4,10 @@
 mod named;
 mod references;
 mod rows;
+mod straight;
 mod tags;
 #[cfg(test)]
 mod tests;
 
+pub use straight::next_tag;
 pub use tags::{advance, any_pieces, at_end, is_here, next_plain, next_text};
