@@ -4,3 +4,4 @@ pub mod Steady
 pub mod StraightMoves
 pub mod StraightParts
 pub mod StraightTags
+pub mod UsualReference

@@ -5,3 +5,4 @@ pub mod Held
 pub mod Tags
 pub mod Fine
 pub mod Straight
+pub mod Usual

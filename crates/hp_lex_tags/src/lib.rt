@@ -8,6 +8,8 @@ mod straight;
 mod tags;
 #[cfg(test)]
 mod tests;
+mod usual_reference;
 
 pub use straight::next_tag;
 pub use tags::{advance, any_pieces, at_end, is_here, next_plain, next_text};
+pub use usual_reference::next_reference;
