@@ -1,0 +1,4 @@
+pub mod Kept
+pub mod Beginning
+pub mod Keys
+pub mod Popping
