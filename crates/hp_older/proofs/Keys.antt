@@ -37,11 +37,11 @@ or-same false h k = true≢false (sym k)
 -- what holds of each name of a list holds of a name among them
 pub among-all : (q : List ℕ → Bool) (names : List (List ℕ)) (name : List ℕ) → list_all q names ≡ true → is_among names name ≡ true → q name ≡ true
 among-all q [] name h k = absurd (true≢false (sym k))
-among-all q (x ∷ xs) name h k = go (bytes_eq name x) refl k (and_parts (q x) (list_all q xs) h)
+among-all q (x ∷ xs) name h k = let parts = and_parts (q x) (list_all q xs) h in go (bytes_eq name x) refl k parts.0 (among-all q xs name parts.1)
   where
-    go : (b : Bool) → bytes_eq name x ≡ b → (b || is_among xs name) ≡ true → (q x ≡ true) × (list_all q xs ≡ true) → q name ≡ true
-    go true e m parts = ap q (equal_bytes true name x (sym e) refl) ∙ parts.0
-    go false e m parts = among-all q xs name parts.1 m
+    go : (b : Bool) → bytes_eq name x ≡ b → (b || is_among xs name) ≡ true → q x ≡ true → (is_among xs name ≡ true → q name ≡ true) → q name ≡ true
+    go true e m here later = ap q (equal_bytes true name x (sym e) refl) ∙ here
+    go false e m here later = later m
 
 -- each is in a set that has all the names
 pub named-within : (names : List (List ℕ)) (s : SetName) → list_all (in_set s Html) names ≡ true → (e : OpenElement) → named_in names e ≡ true → within (kinds.Set s) e ≡ true
