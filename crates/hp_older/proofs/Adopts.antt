@@ -190,7 +190,7 @@ and_off true b h = h
 and_off false b h = refl
 
 -- no formatting element has a name outside of the set
-formatting_plain : (names : List (List ℕ)) → list_all (λ x. not (is_among names x.1)) (members sets.Formatting) ≡ true → (id : ℕ) (tag : Tag) → in_set sets.Formatting tag.namespace tag.name ≡ true → named_in names (element_for id tag) ≡ false
+pub formatting_plain : (names : List (List ℕ)) → list_all (λ x. not (is_among names x.1)) (members sets.Formatting) ≡ true → (id : ℕ) (tag : Tag) → in_set sets.Formatting tag.namespace tag.name ≡ true → named_in names (element_for id tag) ≡ false
 formatting_plain names h id tag k = and_off (is_html (element_for id tag)) (is_among names tag.name) (refused (is_among names) (members sets.Formatting) tag.namespace tag.name h k)
 
 nil_apart : (id : ℕ) (es : List OpenElement) → es ≡ [] → Apart id es
@@ -277,7 +277,7 @@ alone-weak s entry depth c h found opened seat =
     leaves_then s (pop_by (depth + 1)) (strike entry) c (pops-by (Weak s c.stack) (depth + 1) c short (weak_pop s (depth + 1) c.stack short kept))
     (weak_all s (popped_by (depth + 1) c.stack), refl)
 
-turn-weak : (s : ControlState) (fostering : Bool) (name : List ℕ) (c : ControlState) → is_among (words "html") name ≡ false → is_among core_names name ≡ false → Careful s c → Leaves (Weak s c.stack) (turn fostering name) c
+pub turn-weak : (s : ControlState) (fostering : Bool) (name : List ℕ) (c : ControlState) → is_among (words "html") name ≡ false → is_among core_names name ≡ false → Careful s c → Leaves (Weak s c.stack) (turn fostering name) c
 turn-weak s fostering name c nh nc h = go (find_name name c.formatting) refl
   where
     with_block : (entry : Spot) (depth : ℕ) (o : Option Seat) → IsEntry entry c.formatting → open_at entry.id c.stack ≡ Some depth → furthest (take depth c.stack) ≡ o

@@ -8,3 +8,4 @@ pub mod Track
 pub mod Tracking
 pub mod Pushing
 pub mod Adopts
+pub mod Links
