@@ -114,20 +114,49 @@ pub(crate) fn append_pending<'p, B: Below>(
     }
 }
 
-/// The doctype that the token is, as a child; one without parts for another token.
-fn doctype_child(alloc: Global, token: &Token<'_>) -> Result<Child<'static>, NoMemory>
-    ensures { IfOk result (λ child. child ≡ doctype_of (parts_of token.now)) }
+/// A part of a doctype that owns its text.
+fn own_part<'p>(alloc: Global, part: &Option<Text<'_>>) -> Result<Option<Text<'p>>, NoMemory>
+    ensures { IfOk result (λ own. own ≡ part.now) }
+{
+    match part {
+        None => Ok(None),
+        Some(text) => {
+            let own = Text::from_str(alloc, text.as_str())?;
+            Ok(Some(own))
+        }
+    }
+}
+
+fn own_doctype<'p>(alloc: Global, doctype: &Doctype<'_>) -> Result<Doctype<'p>, NoMemory>
+    ensures { IfOk result (λ own. own ≡ doctype.now) }
+{
+    let parts = doctype.parts();
+    let name = own_part(alloc, &parts.name)?;
+    let public = own_part(alloc, &parts.public)?;
+    let system = own_part(alloc, &parts.system)?;
+    let own = DoctypeParts {
+        name,
+        public,
+        system,
+        force_quirks: parts.force_quirks,
+    };
+    Doctype::new(alloc, own)
+}
+
+/// The doctype that the token is; one without parts for another token.
+fn doctype_for<'p>(alloc: Global, token: &Token<'p>) -> Result<Doctype<'p>, NoMemory>
+    ensures { IfOk result (λ doctype. doctype ≡ parts_of token.now) }
 {
     match token {
-        Token::Doctype { doctype } => Ok(Child::Doctype(doctype.copy(alloc)?)),
+        Token::Doctype { doctype } => own_doctype(alloc, doctype),
         _ => {
-            let parts = DoctypeParts {
+            let none = DoctypeParts {
                 name: None,
                 public: None,
                 system: None,
                 force_quirks: true,
             };
-            Ok(Child::Doctype(Doctype::new(alloc, parts)?))
+            Doctype::new(alloc, none)
         }
     }
 }
@@ -141,8 +170,8 @@ pub(crate) fn put_doctype<'p, B: Below>(
 ) -> Result<(), Refusal>
     ensures plan { Carries result (sight B.heard view.old) (sight B.heard view.new) (put_document_plan (doctype_of (parts_of token.now))) }
 {
-    let child = doctype_child(alloc, token)?;
-    view.put_into_document(alloc, child)
+    let doctype = doctype_for(alloc, token)?;
+    view.put_into_document(alloc, Child::Doctype(doctype))
 }
 
 /// Whether the doctype puts the page into quirks mode; another token does.
