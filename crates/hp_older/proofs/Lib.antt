@@ -1,0 +1,11 @@
+pub mod Kept
+pub mod Beginning
+pub mod Keys
+pub mod Popping
+pub mod Levels
+pub mod Effects
+pub mod Track
+pub mod Tracking
+pub mod Pushing
+pub mod Adopts
+pub mod Links

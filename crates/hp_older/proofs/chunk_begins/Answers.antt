@@ -1,0 +1,5 @@
+use Rattle.hp_older.proofs.Beginning.{begins}
+use Rattle.hp_older.proofs.chunk_begins.Goals as goal
+
+pub returns : goal.returns
+returns c = begins
