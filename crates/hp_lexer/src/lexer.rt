@@ -56,7 +56,7 @@ impl Lexer {
     ghost use Rattle.hp_tokens.specs.States.{enter, state_of_rest};
     ghost use Rattle.hp_lexer.specs.declared.lexer.Asked.TheVariants as asked;
     ghost use Rattle.hp_lexer.specs.declared.lexer.Step.TheVariants as steps;
-    ghost use Rattle.hp_lexer.specs.Standing.{is_answered, opened, Stepped, RestsInData, PlainStepped};
+    ghost use Rattle.hp_lexer.specs.Standing.{is_answered, opened, Stepped, RestsInData, PlainStepped, TagStepped};
     ghost use Rattle.hp_lexer.specs.Running.{Ran, Passed};
     ghost use Rattle.hp_lexer.specs.Table.{table};
 
@@ -192,6 +192,29 @@ impl Lexer {
                 Some(text)
             }
             _ => None,
+        }
+    }
+
+    /// A tag at the front, where the lexer rests in the data state and the tag is a usual one. It is what `next` does there. With
+    /// `None` some moves were made, which emit nothing, or none.
+    #[inline]
+    pub fn next_tag<'p>(
+        &mut self,
+        alloc: Global,
+        input: &mut Cursor<'p>,
+    ) -> Result<Option<Token<'p>>, NoMemory>
+        requires held { held self.old.lex ≤ input.old.place }
+        ensures tag { IfOk result (λ token. TagStepped self.old input.old self.new input.new token) }
+        ensures held { IfOk result (λ token. held self.new.lex ≤ input.new.place) }
+        ensures asked { self.new.asked ≡ self.old.asked }
+        ensures names { self.new.names ≡ self.old.names }
+    {
+        match self.asked {
+            Asked::Nothing => {
+                let token = hp_lex_tags::next_tag(alloc, &mut self.lex, input, &mut self.rested)?;
+                Ok(token)
+            }
+            _ => Ok(None),
         }
     }
 

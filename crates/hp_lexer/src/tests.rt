@@ -16,7 +16,7 @@ struct Teller {
     in_run: bool,
     /// Whether places are told.
     places: bool,
-    /// Whether texts are read without the table, where they can be.
+    /// Whether texts and tags are read without the table, where they can be.
     straight: bool,
 }
 
@@ -98,8 +98,9 @@ impl Teller {
     }
 }
 
-/// Reads a text without the table and tells it, and answers whether there was one.
+/// Reads a text or a tag without the table and tells it, and answers whether there was one.
 fn tell_straight(
+    alloc: Global,
     lexer: &mut Lexer,
     input: &mut Cursor<'_>,
     teller: &mut Teller,
@@ -118,7 +119,14 @@ fn tell_straight(
         })?;
         return Ok(true);
     }
-    Ok(false)
+    match lexer.next_tag(alloc, input)? {
+        None => Ok(false),
+        Some(token) => {
+            teller.tell(&token)?;
+            teller.tell_place(&token, lexer.rested.saturating_sub(ORIGIN))?;
+            Ok(true)
+        }
+    }
 }
 
 /// Tells the tokens of a piece of a text.
@@ -134,7 +142,7 @@ fn tell_piece(
     }
     let mut input = Cursor::of_str(piece);
     for _ in 0..1000 {
-        if teller.straight && tell_straight(lexer, &mut input, teller)? {
+        if teller.straight && tell_straight(alloc, lexer, &mut input, teller)? {
             continue;
         }
         if is_asking(lexer) || lexer.lex.ahead.len_bytes() > input.place() {
