@@ -32,7 +32,7 @@ use Rattle.hp_older.proofs.Keys.{apart-foreign, apart-name, apart-set, named-nam
 use Rattle.hp_older.proofs.Popping.{all-popped, kept-run, kept-through, kept-to, reach-root, reach-short, run-short, shown-reach, shown-run}
 use Rattle.hp_older.proofs.Levels.{Strong, Thin, Weak, core_names, key_names, own_of, strong-weak, strong_pop, template_names, thin_pop, weak-thin, weak_all, weak_pop, weak_then}
 
-or_left : (b : Bool) → b ≡ true → (b || false) ≡ true
+pub or_left : (b : Bool) → b ≡ true → (b || false) ≡ true
 or_left true h = refl
 or_left false h = absurd (true≢false (sym h))
 
@@ -184,7 +184,7 @@ strong_leaves s f c h = (strong-weak s c.stack (f c).control.stack h.0, h.1)
 pub weak_leaves : (s : ControlState) (f : Act) (c : ControlState) → Leaves (Weak s c.stack) f c → Leaves (Thin s c.stack) f c
 weak_leaves s f c h = (weak-thin s c.stack (f c).control.stack h.0, h.1)
 
-run_rooted : (names : Kinds) (c : ControlState) → is_rooted c.stack ≡ true → run_of names c.stack < length c.stack → is_rooted (pop_run names c).control.stack ≡ true
+pub run_rooted : (names : Kinds) (c : ControlState) → is_rooted c.stack ≡ true → run_of names c.stack < length c.stack → is_rooted (pop_run names c).control.stack ≡ true
 run_rooted names c r l = subst (λ es. is_rooted es ≡ true) (sym (all-popped (run_of names c.stack) c.stack l)) (rooted-drop (run_of names c.stack) c.stack l r)
 
 pub close-weak : (s : ControlState) (k : Known) (ends : Kinds) (c : ControlState) → is_rooted c.stack ≡ true → is_among (words "html") (text_of k) ≡ false → is_among core_names (text_of k) ≡ false

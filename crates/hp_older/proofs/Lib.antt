@@ -9,3 +9,8 @@ pub mod Tracking
 pub mod Pushing
 pub mod Adopts
 pub mod Links
+pub mod Steps
+pub mod Resets
+pub mod Acting
+pub mod Moves
+pub mod Table

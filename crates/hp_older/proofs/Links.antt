@@ -27,7 +27,7 @@ use Rattle.hp_control.specs.KindTests.{within}
 use Rattle.hp_control.specs.Outcome.{Act, and_then, choose, nothing_done}
 use Rattle.hp_control.specs.States.{ControlState, IsFormatting, is_html, is_rooted}
 use Rattle.hp_control.specs.Walks.{has_entry, run_of, seen}
-use Rattle.hp_model.proofs.Adopting.{IsEntry, entry-id, name-found, thinning_adopt}
+use Rattle.hp_model.proofs.Adopting.{IsEntry, entry-id, name-found, thinning_adopt, thinning_turn}
 use Rattle.hp_model.proofs.Stacks.{rooted-some}
 use Rattle.hp_model.proofs.Thinning.{got-formatting, thinning_drop_entry, thinning_empty_form, thinning_implied, thinning_reconstruct, thinning_renew}
 use Rattle.hp_model.proofs.Thins.{Ready, Thins, Thinning, ready_after, thins_all}
@@ -39,9 +39,6 @@ use Rattle.hp_older.proofs.Effects.{Leaves, apart-fewer, choose_leaves, implied-
 use Rattle.hp_older.proofs.Levels.{Strong, Weak, core_names, fewer, key_names, own_of, weak_all, weak_pop}
 use Rattle.hp_older.proofs.Adopts.{Apart, Careful, careful_after, formatting_plain, listed-apart, off-weak, pointed-apart, turn-weak}
 use Rattle.hp_older.proofs.Pushing.{own-same}
-
-thinning_turn : (fostering : Bool) (name : List ℕ) → Thinning (turn fostering name)
-thinning_turn fostering name = ?
 
 pub turns-weak : (n : ℕ) (s : ControlState) (fostering : Bool) (name : List ℕ) (c : ControlState) → is_among (words "html") name ≡ false → is_among core_names name ≡ false → Careful s c → Leaves (Weak s c.stack) (turns n fostering name) c
 unfolding turns
@@ -61,9 +58,7 @@ top-short e (f ∷ es) r h = omega arith
 plain-pop : (s : ControlState) (name : List ℕ) (c : ControlState) (st : List OpenElement) → c.stack ≡ st → is_rooted c.stack ≡ true → is_among (words "html") name ≡ false → is_among core_names name ≡ false → plain_top name st c.formatting ≡ true → Leaves (Weak s c.stack) pop c
 plain-pop s name c [] q r nh nc h = absurd (true≢false (sym h))
 plain-pop s name c (e ∷ es) q r nh nc h =
-    let first = and_parts (is_html e) _ h in
-    let inner = and_parts (bytes_eq name e.name) _ first.1 in
-    let one : within (kinds.Html name) e ≡ true = and_from (is_html e) (bytes_eq name e.name) first.0 inner.0 in
+    let one : within (kinds.Html name) e ≡ true = (and_parts (is_html e && bytes_eq name e.name) _ h).0 in
     let short : 1 < length c.stack = subst (λ x. 1 < length x) (sym q) (top-short e es (subst (λ x. is_rooted x ≡ true) q r) (apart-name (words "html") name nh e one)) in
     let same : own_of s core_names (drop 1 c.stack) ≡ own_of s core_names c.stack = subst (λ x. own_of s core_names (drop 1 x) ≡ own_of s core_names x) (sym q) (sym (own-same s core_names e es (apart-name core_names name nc e one))) in
     pops-by (Weak s c.stack) 1 c short (weak_pop s 1 c.stack short same)

@@ -87,7 +87,7 @@ push_template w s c e g n h b f nf nh =
       place = place-loose w.place s c.mode c.stack (e ∷ c.stack) g.place;
     }
 
-comes-one : (test : OpenElement → Bool) (e : OpenElement) (es : List OpenElement) → test e ≡ true → comes test (e ∷ es) ≡ true
+pub comes-one : (test : OpenElement → Bool) (e : OpenElement) (es : List OpenElement) → test e ≡ true → comes test (e ∷ es) ≡ true
 comes-one test e es h = ap (λ b. b || (not (is_a "template" e) && comes test es)) h
 
 -- a cell

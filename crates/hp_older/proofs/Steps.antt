@@ -103,8 +103,8 @@ still_there _ = nowhere
 
 abbrev pub still_but : Option (List ℕ) → There → There
 still_but None there = nowhere
-still_but (Some but) (named where_ name) = if bytes_eq but name then named where_ name else still_there (named where_ name)
-still_but (Some but) there = still_there there
+still_but (Some but) (named where_ name) = if bytes_eq but name then named where_ name else nowhere
+still_but (Some but) there = nowhere
 
 abbrev pub is_at : Where → Bool
 is_at (at m) = true
