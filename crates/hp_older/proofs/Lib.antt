@@ -13,4 +13,5 @@ pub mod Steps
 pub mod Resets
 pub mod Acting
 pub mod Moves
+pub mod Turning
 pub mod Table
