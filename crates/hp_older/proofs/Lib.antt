@@ -14,4 +14,6 @@ pub mod Resets
 pub mod Acting
 pub mod Moves
 pub mod Turning
+pub mod Found
+pub mod Listing
 pub mod Table

@@ -103,7 +103,7 @@ still_there _ = nowhere
 
 abbrev pub still_but : Option (List ℕ) → There → There
 still_but None there = nowhere
-still_but (Some but) (named where_ name) = if bytes_eq but name then named where_ name else nowhere
+still_but (Some but) (named where_ name) = if bytes_eq but name && is_among (words "dd dt li") but then named where_ name else nowhere
 still_but (Some but) there = nowhere
 
 abbrev pub is_at : Where → Bool
@@ -144,6 +144,7 @@ track_fits kind act.PopToFirst w = false
 track_fits kind act.TakeHeadOff w = false
 track_fits kind (act.TakeOff which) w = false
 track_fits kind act.HeadPointer w = false
+track_fits kind act.QuirksOfDoctype w = false
 track_fits kind (act.If x otherwise) w = false
 track_fits kind (act.Unless x otherwise) w = false
 track_fits kind _ w = true
@@ -171,6 +172,7 @@ track_after kind act.EndForm w = weakly w
 track_after kind act.CloseLink w = weakly w
 track_after kind (act.Adopt which) w = weakly w
 track_after kind act.Walk w = walked kind w
+track_after kind act.AppendToList w = strongly w
 track_after kind act.Reset w = record w { place = fitted }
 track_after kind act.KeepOriginal w = kept_back w.place w
 track_after kind act.ToOriginal w = record w { place = fitted; back = false }
