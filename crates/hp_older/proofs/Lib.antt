@@ -16,4 +16,5 @@ pub mod Moves
 pub mod Turning
 pub mod Found
 pub mod Listing
+pub mod Leading
 pub mod Table

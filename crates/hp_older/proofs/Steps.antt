@@ -205,6 +205,11 @@ abbrev pub track_deny : Test → Track → Track
 track_deny (test.CurrentIs known.Html) w = record w { top = highly w.top }
 track_deny _ w = w
 
+-- whether a new template mode is there is asked at the end of input alone
+abbrev pub can_test : Test → Bool
+can_test test.HasTemplateModes = false
+can_test _ = true
+
 abbrev pub Asks : Type 0
 Asks = Course → Track → Bool
 
@@ -224,9 +229,9 @@ module _ (kind : Kind) where
   plan_goes follow present ends v w next last = next v w
   plan_goes follow present (a ⨾ plan) v w next last = act_goes follow present a v w (λ x y. plan_goes follow present plan x y next last) last
   plan_goes follow present (when test plan rest) v w next last =
-      plan_goes follow present plan (assume test v) (track_assume kind test w) (λ x y. plan_goes follow present rest x y next last) last && plan_goes follow present rest v (track_deny test w) next last
+      can_test test && (plan_goes follow present plan (assume test v) (track_assume kind test w) (λ x y. plan_goes follow present rest x y next last) last && plan_goes follow present rest v (track_deny test w) next last)
   plan_goes follow present (unless test plan rest) v w next last =
-      plan_goes follow present rest (assume test v) (track_assume kind test w) next last && plan_goes follow present plan v (track_deny test w) (λ x y. plan_goes follow present rest x y next last) last
+      can_test test && (plan_goes follow present rest (assume test v) (track_assume kind test w) next last && plan_goes follow present plan v (track_deny test w) (λ x y. plan_goes follow present rest x y next last) last)
 
   unfoldable pub rules_go : ℕ → Mode → Course → Track → Asks → Bool
   rules_go zero m v w next = next v w
