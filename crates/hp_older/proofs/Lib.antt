@@ -17,4 +17,7 @@ pub mod Turning
 pub mod Found
 pub mod Listing
 pub mod Leading
+pub mod Going
+pub mod Rows
 pub mod Table
+pub mod Chunks
