@@ -209,7 +209,7 @@ module _ (s : ControlState) (first : 0 < s.next) where
       go : (h : Bool) → is_head_mode c.mode ≡ h
           → ((touches_any s (entering c).outcome || (if is_foreign (kind_of t) c.stack then plan_suits s (is_act_told s) (is_test_told s) t (rules 4 t) (mode_turn t c.mode) (rules_suit s (is_act_told s) (is_test_told s) t 4) (rules_suit s (is_act_told s) (is_test_told s) t 4 false c.mode) false (plan_for foreign (kind_of t)) nothing_missing c else rules_suit s (is_act_told s) (is_test_told s) t 4 false c.mode c)) ≡ true)
           × Ends c (before (entering c) (if is_foreign (kind_of t) c.stack then foreign_turn t c else mode_turn t c.mode c))
-      go true e = (ap (λ b. b || _) (head_touched c e), leads_touched s first (tally is_counted c.stack) (entering c) (if is_foreign (kind_of t) c.stack then foreign_turn t c else mode_turn t c.mode c) well well (head_touched c e))
+      go true e = (ap (λ b. b || (if is_foreign (kind_of t) c.stack then plan_suits s (is_act_told s) (is_test_told s) t (rules 4 t) (mode_turn t c.mode) (rules_suit s (is_act_told s) (is_test_told s) t 4) (rules_suit s (is_act_told s) (is_test_told s) t 4 false c.mode) false (plan_for foreign (kind_of t)) nothing_missing c else rules_suit s (is_act_told s) (is_test_told s) t 4 false c.mode c)) (head_touched c e), leads_touched s first (tally is_counted c.stack) (entering c) (if is_foreign (kind_of t) c.stack then foreign_turn t c else mode_turn t c.mode c) well well (head_touched c e))
       go false e =
           let d = dispatch t c read inside valid k e (is_foreign (kind_of t) c.stack) refl in
           (ap (λ b. touches_any s (entering c).outcome || b) d.0 ∙ or-true (touches_any s (entering c).outcome), leads_before s first (tally is_counted c.stack) (entering c) (if is_foreign (kind_of t) c.stack then foreign_turn t c else mode_turn t c.mode c) well well d.1)

@@ -21,3 +21,4 @@ pub mod Going
 pub mod Rows
 pub mod Table
 pub mod Chunks
+pub mod Tokens

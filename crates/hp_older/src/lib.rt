@@ -2,9 +2,20 @@
 //! nothing.
 #![tactic(auto)]
 
-ghost use Rattle.hp_older.specs.Laws.{Begins};
+ghost use Rattle.hp_older.specs.Laws.{Begins, ChunksStay, TokensGoOn, TokensHandled, TokensTold};
 
-/// At the begin of a chunk its state goes on from the older one.
+/// Where a chunk begins its state goes on from the older one: it has no new elements.
 pub fn chunk_begins()
     ensures { Begins }
+{}
+
+/// Over any older state, from a state that goes on from it, and for each token but the end of input: what the handling reads of
+/// the older state is told rightly, up to the first act that touches something older; a token is handled as the definition says,
+/// or it crosses by what it touches, or has more turns than a view takes; and where nothing older is touched, what is left goes
+/// on from the older state, and so does the view that handled the token.
+pub fn tokens_over()
+    ensures told { TokensTold }
+    ensures goes_on { TokensGoOn }
+    ensures handled { TokensHandled }
+    ensures stays { ChunksStay }
 {}
