@@ -1,41 +1,27 @@
 -- Each act leads from its track to the track after it, or touches something older, and never pops the only element.
-use Rattle.std.proofs.Common.{◌≡◌, ℕ, zero, suc, ◌+◌, ◌≤◌, ◌<◌, List, [], ◌∷◌, ◌++◌, drop, length, Bool, true, false, ◌||◌, ◌&&◌, not, refl, sym, ap, ◌∙◌, subst, arith, inl, inr, Option, None, Some, nat_le, nat_lt}
-use Rattle.std.specs.Prelude.{if◌then◌else◌, All, IfSome, ◌⊎◌}
-use Rattle.std.specs.List.{list_all, list_any}
+use Rattle.std.proofs.Common.{◌≡◌, ℕ, List, Bool, true, false, ◌||◌, ◌&&◌, not, refl, sym, ap, ◌∙◌, Option, None, Some}
+use Rattle.std.specs.Prelude.{if◌then◌else◌}
+use Rattle.std.specs.List.{list_all}
 use Rattle.std.specs.Option.{is_some}
-use Rattle.std.specs.Str.{bytes_eq}
-use Rattle.std.proofs.lemmas.Bool.{and_parts, and_from, true≢false, lt-ltb, le-leb, lt-leb}
-use Rattle.std.proofs.lemmas.List.Elements.{All-nil, All-cons, All-head, All-tail}
-use Rattle.hp_elements.specs.Kinds.{is_html as is_html_space}
+use Rattle.std.proofs.lemmas.Bool.{and_parts, and_from, true≢false}
 use Rattle.hp_elements.specs.Names.{is_among, known_of, text_of, words}
-use Rattle.hp_elements.specs.Sets.{members}
 use Rattle.hp_elements.specs.Tokens.{kind_of}
-use Rattle.hp_elements.specs.declared.act.Act.{Act}
-use Rattle.hp_elements.specs.declared.act.Act.TheVariants as act
 use Rattle.hp_elements.specs.declared.act.Which.{Which}
 use Rattle.hp_elements.specs.declared.act.Which.TheVariants.{Its, Named}
-use Rattle.hp_elements.specs.declared.kinds.Kinds.TheVariants as kinds
 use Rattle.hp_elements.specs.declared.known.Known.{Known}
-use Rattle.hp_elements.specs.declared.known.Known.TheVariants as known
-use Rattle.hp_elements.specs.declared.sets.SetName.{SetName}
-use Rattle.hp_elements.specs.declared.sets.SetName.TheVariants as sets
-use Rattle.hp_elements.specs.declared.token.Kind.{Kind}
 use Rattle.hp_elements.specs.declared.token.Kind.TheVariants.{Start, End}
 use Rattle.hp_elements.specs.declared.token.Token.{Token}
 use Rattle.hp_elements.specs.declared.token.Token.TheVariants as token
-use Rattle.hp_elements.proofs.FindLemmas.{equal_bytes}
 use Rattle.hp_elements.proofs.NameLemmas.{found_text}
 use Rattle.hp_control.specs.declared.element.OpenElement.{OpenElement}
-use Rattle.hp_control.specs.Acts.{element_for}
 use Rattle.hp_control.specs.States.{ControlState, is_html, is_rooted}
-use Rattle.hp_model.specs.Tokens.{name_for, name_of, tag_of}
-use Rattle.hp_model.specs.Whole.{IsRead}
-use Rattle.hp_older.specs.GoesOn.{IsFree, comes, is_a, is_key, is_new, kept, own}
+use Rattle.hp_model.specs.Tokens.{name_for}
+use Rattle.hp_older.specs.GoesOn.{IsFree, is_new}
 use Rattle.hp_older.proofs.Keys.{among-all, named_in, not-true, was-not}
-use Rattle.hp_older.proofs.Levels.{core_names, key_names, own_of, template_names}
+use Rattle.hp_older.proofs.Levels.{core_names, key_names, template_names}
 use Rattle.hp_older.proofs.Pushing.{push_cell, push_common, push_frames, push_select, push_template, with_top}
 use Rattle.hp_older.proofs.Steps.{is_common}
-use Rattle.hp_older.proofs.Track.{On, Track, can_push, name_told, pushed, sort_of, sort_told, Sort, common, template, cell, select, frames, root}
+use Rattle.hp_older.proofs.Track.{On, Track, can_push, name_told, pushed, sort_of, common, template, cell, select, frames, root}
 
 -- of disjoint names one excludes the others
 pub disjoint : (these those : List (List ℕ)) → list_all (λ x. not (is_among those x)) these ≡ true → (e : OpenElement) → named_in these e ≡ true → named_in those e ≡ false

@@ -1,6 +1,6 @@
 -- From a state that goes on from an older one each token is told up to the first act that touches something older, and where
 -- nothing is touched what is left goes on.
-use Rattle.std.proofs.Common.{◌≡◌, ℕ, zero, suc, ◌+◌, ◌≤◌, ◌<◌, List, [], ◌∷◌, length, Bool, true, false, ◌||◌, ◌&&◌, not, refl, sym, ap, ◌∙◌, subst, arith, inl, inr, Option, None, Some}
+use Rattle.std.proofs.Common.{◌≡◌, ℕ, zero, suc, ◌+◌, ◌<◌, List, [], ◌∷◌, length, Bool, true, false, ◌||◌, ◌&&◌, not, refl, sym, ap, ◌∙◌, subst, arith, inl, inr, Option, None, Some}
 use Rattle.std.specs.Prelude.{if◌then◌else◌, ◌⊎◌}
 use Rattle.std.specs.Option.{unwrap_or}
 use Rattle.std.proofs.Math.Bool.{or-true}
@@ -17,7 +17,7 @@ use Rattle.hp_control.specs.Faithful.{Split, StandsOn, any_after, state_over}
 use Rattle.hp_control.specs.Foreign.{is_foreign}
 use Rattle.hp_control.specs.Acts.{headed, touching}
 use Rattle.hp_control.specs.Outcome.{becomes, touches_any}
-use Rattle.hp_control.specs.States.{ControlState, IsSettled, IsValid, OriginalFits, StackFits, is_settled, is_tall}
+use Rattle.hp_control.specs.States.{ControlState, IsValid, OriginalFits, StackFits, is_settled, is_tall}
 use Rattle.hp_rules_rest.specs.Foreign.{foreign}
 use Rattle.hp_views.specs.Quiet.{paged, stands_kept}
 use Rattle.hp_model.specs.AtOnce.{after_first, handle_at_once, handle_rest}
@@ -26,9 +26,9 @@ use Rattle.hp_model.specs.Growth.{IsInside}
 use Rattle.hp_model.specs.Handling.{all_turns, bound, settled}
 use Rattle.hp_model.specs.Rows.{entering, foreign_turn, is_head_mode, mode_turn, rules, turn}
 use Rattle.hp_model.specs.Tokens.{is_line_feed}
-use Rattle.hp_model.specs.Turns.{Handled, Turn, goes_on, done, again, after_turn, before, before_all, joined, left_by, turns, unchanged}
+use Rattle.hp_model.specs.Turns.{Handled, Turn, goes_on, done, again, after_turn, before, before_all, left_by, turns, unchanged}
 use Rattle.hp_model.specs.Whole.{IsRead}
-use Rattle.hp_model.proofs.Course.{Course, Along, Base, alien}
+use Rattle.hp_model.proofs.Course.{alien}
 use Rattle.hp_model.proofs.Handled.{Leaves, along-foreign, along-start, foreign-base, foreign-standing, foreign-top, settled-valid, turn-leaves, weigh}
 use Rattle.hp_model.proofs.Passes.{base_of, goes_foreign, start}
 use Rattle.hp_model.proofs.Stacks.{is_counted}
@@ -36,14 +36,14 @@ use Rattle.hp_model.proofs.Tally.{tally}
 use Rattle.hp_acts.specs.Handling.{unskipped}
 use Rattle.hp_acts.specs.Suiting.{plan_suits, rules_suit, turn_suits, turns_suit, where_again}
 use Rattle.hp_acts.specs.Told.{is_act_told, is_rest_told, is_test_told, is_told, is_told_at_once}
-use Rattle.hp_older.specs.GoesOn.{GoesOn, back_mode, comes, fits_mode, is_a, is_key, is_new, is_plain_top, own, top_fits}
+use Rattle.hp_older.specs.GoesOn.{GoesOn, back_mode, comes, fits_mode, is_a, is_plain_top, own, top_fits}
 use Rattle.hp_older.proofs.Going.{Here, Leads, leads_before, leads_touched}
 use Rattle.hp_older.proofs.Kept.{empty-nil}
 use Rattle.hp_older.proofs.Listing.{knows-fits}
 use Rattle.hp_older.proofs.Rows.{or_rest, plan_leads, plan_told, rules_lead, rules_told}
 use Rattle.hp_older.proofs.Steps.{foreign_goes, is_ending, mode_goes, plan_goes, rules_go, well}
 use Rattle.hp_older.proofs.Table.{each_foreign_goes, each_mode_goes}
-use Rattle.hp_older.proofs.Track.{Balance, even, BackIs, BalanceIs, On, PlaceIs, Top, unknown, high, plain, made, TopIs, Track, Where, at, fitted, lost, begin, ends_at, ends_well, is_even, is_mode_between, is_mode_cell, is_mode_frames, is_mode_select, is_mode_text, is_plain_one, knows}
+use Rattle.hp_older.proofs.Track.{Balance, even, BackIs, BalanceIs, On, PlaceIs, Top, unknown, high, plain, made, TopIs, Track, Where, at, fitted, lost, begin, ends_at, ends_well, is_even, is_mode_between, is_mode_cell, is_mode_frames, is_mode_select, is_mode_text, is_plain_one}
 
 -- where a turn begins
 text_top : (s : ControlState) (st : List OpenElement) → is_tall st ≡ true → is_plain_top s st ≡ true → TopIs plain s st
@@ -190,11 +190,12 @@ module _ (s : ControlState) (first : 0 < s.next) where
       let far = foreign-standing (kind_of t) c.mode c valid.stack e in
       let row = not_or_second (goes_foreign (base_of c.mode)) _ far (or_rest (is_ending (kind_of t)) _ inside (or_rest (is_head_mode c.mode) _ off (each_foreign_goes c.mode (kind_of t)))) in
       let p : Here s n (λ v w. plan_goes (kind_of t) (rules_go (kind_of t) 4) (rules_go (kind_of t) 4 c.mode) (plan_for foreign (kind_of t)) v w well well) c =
-      record { course = record (start c.mode) { base = alien }; track = begin c.mode; view = k.view; stands = k.stands; is = k.is; along = along-foreign c valid (foreign-base c.mode c valid.stack far) (foreign-top (kind_of t) c.stack e); on = begin_on s c k.goes_on valid; asked = row } in
-      (plan_told s first n t read inside (rules 4 t) (mode_turn t c.mode) (rules_go (kind_of t) 4) (rules_go (kind_of t) 4 c.mode) (rules_lead s first n t read inside 4) (λ d z q. rules_lead s first n t read inside 4 false c.mode d z q)
-        (rules_suit s (is_act_told s) (is_test_told s) t 4) (rules_suit s (is_act_told s) (is_test_told s) t 4 false c.mode) (rules_told s first n t read inside 4) (λ d z q. rules_told s first n t read inside 4 false c.mode d z q) false (plan_for foreign (kind_of t)) c nothing_missing well well p (λ d q. refl),
-       plan_leads s first n t read inside (rules 4 t) (mode_turn t c.mode) (rules_go (kind_of t) 4) (rules_go (kind_of t) 4 c.mode) (rules_lead s first n t read inside 4) (λ d z q. rules_lead s first n t read inside 4 false c.mode d z q)
-        (rules_suit s (is_act_told s) (is_test_told s) t 4) (rules_suit s (is_act_told s) (is_test_told s) t 4 false c.mode) (rules_told s first n t read inside 4) (λ d z q. rules_told s first n t read inside 4 false c.mode d z q) false (plan_for foreign (kind_of t)) c well well p)
+      record { course = record (start c.mode) { base = alien }; track = begin c.mode; view = k.view; stands = k.stands; is = k.is; along = along-foreign c valid (foreign-base c.mode c valid.stack far) (foreign-top (kind_of t) c.stack e); on = begin_on s c k.goes_on valid; asked = row } in (
+        plan_told s first n t read inside (rules 4 t) (mode_turn t c.mode) (rules_go (kind_of t) 4) (rules_go (kind_of t) 4 c.mode) (rules_lead s first n t read inside 4) (λ d z q. rules_lead s first n t read inside 4 false c.mode d z q)
+            (rules_suit s (is_act_told s) (is_test_told s) t 4) (rules_suit s (is_act_told s) (is_test_told s) t 4 false c.mode) (rules_told s first n t read inside 4) (λ d z q. rules_told s first n t read inside 4 false c.mode d z q) false (plan_for foreign (kind_of t)) c nothing_missing well well p (λ d q. refl),
+        plan_leads s first n t read inside (rules 4 t) (mode_turn t c.mode) (rules_go (kind_of t) 4) (rules_go (kind_of t) 4 c.mode) (rules_lead s first n t read inside 4) (λ d z q. rules_lead s first n t read inside 4 false c.mode d z q)
+            (rules_suit s (is_act_told s) (is_test_told s) t 4) (rules_suit s (is_act_told s) (is_test_told s) t 4 false c.mode) (rules_told s first n t read inside 4) (λ d z q. rules_told s first n t read inside 4 false c.mode d z q) false (plan_for foreign (kind_of t)) c well well p,
+      )
   dispatch t c read inside valid k off false e =
       let n = tally is_counted c.stack in
       let row = or_rest (is_ending (kind_of t)) _ inside (or_rest (is_head_mode c.mode) _ off (each_mode_goes c.mode (kind_of t))) in

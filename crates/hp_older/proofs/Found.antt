@@ -1,12 +1,12 @@
 -- Acts that pop down to or through what a test found.
-use Rattle.std.proofs.Common.{◌≡◌, ℕ, zero, suc, ◌+◌, ◌≤◌, ◌<◌, List, [], ◌∷◌, ◌++◌, drop, map, length, Bool, true, false, ◌||◌, ◌&&◌, not, refl, sym, ap, ◌∙◌, subst, arith, inl, inr, Option, None, Some, nat_le, nat_lt}
-use Rattle.std.specs.Prelude.{if◌then◌else◌, All, IfSome, ◌⊎◌}
-use Rattle.std.specs.List.{list_all, list_any}
+use Rattle.std.proofs.Common.{◌≡◌, ℕ, suc, ◌<◌, List, [], ◌∷◌, drop, map, length, Bool, true, false, ◌||◌, ◌&&◌, not, refl, sym, ap, ◌∙◌, subst, arith, inl, inr, Option, None, Some}
+use Rattle.std.specs.Prelude.{if◌then◌else◌}
+use Rattle.std.specs.List.{list_all}
 use Rattle.std.specs.Option.{is_some, option_map}
 use Rattle.std.specs.Str.{bytes_eq}
-use Rattle.std.proofs.lemmas.Bool.{and_parts, and_from, true≢false, lt-leb}
+use Rattle.std.proofs.lemmas.Bool.{and_parts, and_from, true≢false}
 use Rattle.hp_elements.specs.Names.{is_among, known_of, text_of, words}
-use Rattle.hp_elements.specs.Sets.{Elements, in_set, is_member, members}
+use Rattle.hp_elements.specs.Sets.{in_set, is_member, members}
 use Rattle.hp_elements.specs.Tokens.{kind_of}
 use Rattle.hp_elements.specs.declared.act.Scope.{Scope}
 use Rattle.hp_elements.specs.declared.act.Scope.TheVariants as scope
@@ -24,10 +24,10 @@ use Rattle.hp_elements.specs.declared.token.Token.{Token}
 use Rattle.hp_elements.proofs.FindLemmas.{equal_bytes}
 use Rattle.hp_elements.proofs.NameLemmas.{known_of_text}
 use Rattle.hp_control.specs.declared.element.OpenElement.{OpenElement}
-use Rattle.hp_control.specs.Acts.{above, pop, pop_by, pop_run, pop_to, popped_by, through, through_named, with_it}
-use Rattle.hp_control.specs.Composed.{ends_of, implied, implied_but, implied_except}
+use Rattle.hp_control.specs.Acts.{above, pop_run, pop_to, popped_by, through, through_named}
+use Rattle.hp_control.specs.Composed.{ends_of, implied, implied_but}
 use Rattle.hp_control.specs.KindTests.{within}
-use Rattle.hp_control.specs.Outcome.{Act, nothing_done, touches_any}
+use Rattle.hp_control.specs.Outcome.{Act}
 use Rattle.hp_control.specs.States.{ControlState, is_html, is_rooted}
 use Rattle.hp_control.specs.Walks.{reach, run_of, seen}
 use Rattle.hp_model.specs.Steps.{implied_but_for}
@@ -37,19 +37,18 @@ use Rattle.hp_model.proofs.Courses.{ready}
 use Rattle.hp_model.proofs.Following.{implied_but_thins}
 use Rattle.hp_model.proofs.Stacks.{deeper, refused, rooted-drop}
 use Rattle.hp_model.proofs.Thinning.{thinning_implied, thinning_pop_to, thinning_through, thinning_through_named}
-use Rattle.hp_model.proofs.Thins.{Thins, Thinning, ids_of}
-use Rattle.hp_older.specs.GoesOn.{IsFree, comes, is_a, is_key, is_new, kept, own}
+use Rattle.hp_older.specs.GoesOn.{is_key, is_new}
 use Rattle.hp_older.proofs.Acting.{name-told}
 use Rattle.hp_older.proofs.Keys.{among-all, apart-name, apart-set, html_space, named-named, named-within, named_in, not-true, was-not}
-use Rattle.hp_older.proofs.Popping.{all-popped, reach-root, reach-short, run-short, shown-run}
-use Rattle.hp_older.proofs.Effects.{Leaves, apart-fewer, but-apart, but_for-strong, implied-strong, named-of, other_name, pops-by, root-apart, root-html, shown-thin, shown-weak, through-leaves, to-thin}
-use Rattle.hp_older.proofs.Levels.{Strong, Thin, Weak, core_names, key_names, own_of, template_names}
+use Rattle.hp_older.proofs.Popping.{all-popped, reach-root, run-short, shown-run}
+use Rattle.hp_older.proofs.Effects.{apart-fewer, but-apart, but_for-strong, implied-strong, other_name, root-apart, root-html, shown-thin, shown-weak, to-thin}
+use Rattle.hp_older.proofs.Levels.{core_names, key_names, template_names}
 use Rattle.hp_older.proofs.Links.{top-short}
 use Rattle.hp_older.proofs.Moves.{Did, did_strong, did_thin, did_weak, rooted_on, through_coming, through_shown, with_there, with_top}
 use Rattle.hp_older.proofs.Resets.{is_sorted}
 use Rattle.hp_older.proofs.Steps.{can_through, can_through_first, is_cells, is_context, is_headings, is_select_name, is_template_name, narrows, still_but, still_there, through_first}
 use Rattle.hp_older.proofs.Steps as steps
-use Rattle.hp_older.proofs.Track.{On, There, nowhere, named, among, ThereIs, Top, unknown, high, plain, made, TopIs, Track, can_pass, is_even, is_there_named, name_told, passed_named, strongly, thinly, under, weakly}
+use Rattle.hp_older.proofs.Track.{On, There, nowhere, named, among, ThereIs, unknown, plain, TopIs, Track, can_pass, is_even, is_there_named, name_told, passed_named, strongly, thinly, under, weakly}
 use Rattle.hp_older.proofs.Turning.{through_template}
 
 none_some : (k : ℕ) → None ≡ Some k → ⊥

@@ -1,13 +1,12 @@
 -- A row that passes the test is told up to the first act that touches something older, and where nothing is touched it ends on a
 -- track that goes on.
-use Rattle.std.proofs.Common.{◌≡◌, ℕ, zero, suc, ◌+◌, ◌≤◌, ◌<◌, List, [], ◌∷◌, ◌++◌, drop, map, length, Bool, true, false, ◌||◌, ◌&&◌, not, refl, sym, ap, ◌∙◌, subst, arith, inl, inr, Option, None, Some, nat_le, nat_lt}
+use Rattle.std.proofs.Common.{◌≡◌, ℕ, ◌+◌, ◌<◌, List, [], ◌∷◌, drop, length, Bool, true, false, ◌||◌, ◌&&◌, not, refl, sym, ap, ◌∙◌, subst, arith, inl, inr, Option, None, Some}
 use Rattle.std.specs.Prelude.{if◌then◌else◌, ◌⊎◌, Result, Ok, Err, slice_get}
 use Rattle.std.specs.List.{list_any}
 use Rattle.std.specs.Str.{bytes_eq}
 use Rattle.std.proofs.Math.Bool.{or-true}
 use Rattle.std.proofs.lemmas.Bool.{and_parts, and_from, true≢false}
 use Rattle.hp_elements.specs.Names.{is_among, text_of, words}
-use Rattle.hp_elements.specs.Rules.{Plan, ends, ◌⨾◌, when, unless, plan_for}
 use Rattle.hp_elements.specs.Sets.{members}
 use Rattle.hp_elements.specs.Tokens.{kind_of}
 use Rattle.hp_elements.specs.declared.act.Act.{Act}
@@ -21,18 +20,15 @@ use Rattle.hp_elements.specs.declared.kinds.Kinds.TheVariants as kinds
 use Rattle.hp_elements.specs.declared.known.Known.TheVariants as known
 use Rattle.hp_elements.specs.declared.sets.SetName.TheVariants as sets
 use Rattle.hp_elements.specs.declared.token.Kind.{Kind}
-use Rattle.hp_elements.specs.declared.token.Mode.{Mode}
 use Rattle.hp_elements.specs.declared.token.Token.{Token}
-use Rattle.hp_elements.specs.declared.token.Token.TheVariants as token
 use Rattle.hp_elements.proofs.FindLemmas.{equal_bytes}
-use Rattle.hp_rules_rest.specs.Whole.{every_mode_rows}
 use Rattle.hp_control.specs.declared.element.OpenElement.{OpenElement}
 use Rattle.hp_control.specs.declared.question.Crossing.{Crossing}
-use Rattle.hp_control.specs.Apply.{applied, shifted}
+use Rattle.hp_control.specs.Apply.{applied}
 use Rattle.hp_control.specs.Composed.{ends_of, is_one}
 use Rattle.hp_control.specs.Faithful.{Split, StandsOn, any_after, state_over}
 use Rattle.hp_control.specs.KindTests.{within}
-use Rattle.hp_control.specs.Outcome.{Outcome, Touch, after, is_older, is_touch, same_crossing, touches as touches_by, touches_any}
+use Rattle.hp_control.specs.Outcome.{Outcome, Touch, after, is_older, is_touch, same_crossing, touches_any}
 use Rattle.hp_control.specs.Plan.{end_by}
 use Rattle.hp_control.specs.States.{ControlState, AreIds, is_html, is_rooted}
 use Rattle.hp_control.specs.Truth.{answer_of}
@@ -40,35 +36,31 @@ use Rattle.hp_control.specs.Walks.{seen}
 use Rattle.hp_views.specs.OwnIds.{ids_drop}
 use Rattle.hp_views.specs.Quiet.{paged_part}
 use Rattle.hp_views.specs.StackLaws.{full_stack}
-use Rattle.hp_model.specs.Finding.{nothing_missing}
-use Rattle.hp_model.specs.Rows.{carry, carry_plan, nothing_more, rules}
 use Rattle.hp_model.specs.Steps.{holds, step}
-use Rattle.hp_model.specs.Tokens.{as_start, name_for}
-use Rattle.hp_model.specs.Turns.{Handled, Turn, goes_on, done, again, before, and_then, as_part, joined, left_by, plainly, unchanged}
+use Rattle.hp_model.specs.Tokens.{name_for}
+use Rattle.hp_model.specs.Turns.{Handled, Turn, goes_on, done, again, before, and_then, as_part, left_by}
 use Rattle.hp_model.specs.Whole.{IsRead}
 use Rattle.hp_model.proofs.Course.{Course, Along, fits, is_standing}
 use Rattle.hp_model.proofs.Course as course
 use Rattle.hp_model.proofs.Following.{act_along}
 use Rattle.hp_model.proofs.Thins.{ids_of}
-use Rattle.hp_model.proofs.Walking.{assumed, read_tag}
-use Rattle.hp_model.proofs.Passes.{Rank, fixed}
 use Rattle.hp_acts.specs.Plans.{act_plan, by_plan}
-use Rattle.hp_acts.specs.Suiting.{act_suits, plan_suits, rules_suit, while_own}
+use Rattle.hp_acts.specs.Suiting.{while_own}
 use Rattle.hp_acts.specs.Told.{is_act_told, is_test_told, reads_told}
 use Rattle.hp_acts.proofs.Matching.{MatchesAlike}
 use Rattle.hp_acts.proofs.OlderMatches.{acts_older}
 use Rattle.hp_acts.proofs.RowMatches.{is_row_act}
-use Rattle.hp_older.specs.GoesOn.{is_a, is_key, is_new, kept, own}
+use Rattle.hp_older.specs.GoesOn.{is_key, is_new}
 use Rattle.hp_older.proofs.Acting.{common-sort, name-told}
 use Rattle.hp_older.proofs.Keys.{apart-name, apart-set, named_in, not-true}
-use Rattle.hp_older.proofs.Effects.{apart-fewer, named-of, root-html}
-use Rattle.hp_older.proofs.Leading.{Over, act_did, act_reads, touching_did}
+use Rattle.hp_older.proofs.Effects.{apart-fewer}
+use Rattle.hp_older.proofs.Leading.{Over, act_did, act_reads}
 use Rattle.hp_older.proofs.Levels.{key_names}
 use Rattle.hp_older.proofs.Links.{top-short}
 use Rattle.hp_older.proofs.Moves.{with_there, with_top}
 use Rattle.hp_older.proofs.Resets.{is_sorted, sorted-over}
-use Rattle.hp_older.proofs.Steps.{Asks, act_goes, can_test, highly, is_common, is_ending, plainly as plainer, plan_goes, rules_go, there_of, touches, track_after, track_assume, track_deny, track_fits, well}
-use Rattle.hp_older.proofs.Track.{On, There, nowhere, named, among, ThereIs, Top, unknown, high, plain, made, TopIs, Track, ends_well, name_told, sort_of}
+use Rattle.hp_older.proofs.Steps.{Asks, can_test, highly, is_common, is_ending, plainly as plainer, there_of, touches, track_after, track_assume, track_deny, track_fits, well}
+use Rattle.hp_older.proofs.Track.{On, There, among, ThereIs, Top, unknown, high, plain, made, TopIs, Track, name_told, sort_of}
 
 -- a state that a view stands for, on a course and a track that pass
 pub record Here (s : ControlState) (n : ℕ) (next : Asks) (c : ControlState) : Type 0 where

@@ -1,7 +1,7 @@
 -- Each act that a track fits leads to the track after it, or touches something older; and what it reads is told.
-use Rattle.std.proofs.Common.{◌≡◌, ℕ, zero, suc, ◌+◌, ◌≤◌, ◌<◌, List, [], ◌∷◌, length, Bool, true, false, ◌||◌, ◌&&◌, not, refl, sym, ap, ◌∙◌, subst, arith, inl, inr, Option, None, Some, nat_le, nat_lt}
-use Rattle.std.specs.Prelude.{if◌then◌else◌, All, IfSome, ◌⊎◌}
-use Rattle.std.specs.List.{list_all, list_any}
+use Rattle.std.proofs.Common.{◌≡◌, ℕ, zero, suc, ◌+◌, ◌≤◌, ◌<◌, List, [], ◌∷◌, length, Bool, true, false, ◌||◌, ◌&&◌, not, refl, sym, ap, ◌∙◌, subst, arith, inr, Option, None, Some, nat_lt}
+use Rattle.std.specs.Prelude.{if◌then◌else◌}
+use Rattle.std.specs.List.{list_all}
 use Rattle.std.proofs.lemmas.Bool.{and_parts, and_from, true≢false, lt-ltb, le-ltb, le-leb}
 use Rattle.hp_elements.specs.Kinds.{is_html as is_html_space}
 use Rattle.hp_elements.specs.Names.{is_among, known_of, text_of, words}
@@ -19,7 +19,7 @@ use Rattle.hp_elements.specs.declared.token.Token.{Token}
 use Rattle.hp_elements.specs.declared.token.Token.TheVariants as token
 use Rattle.hp_elements.proofs.NameLemmas.{found_text}
 use Rattle.hp_control.specs.declared.element.OpenElement.{OpenElement}
-use Rattle.hp_control.specs.Acts.{current_id, element_for, insert, pop, through, walk}
+use Rattle.hp_control.specs.Acts.{element_for, insert, walk}
 use Rattle.hp_control.specs.Adoption.{adopt, reconstruct}
 use Rattle.hp_control.specs.Composed.{close_description, close_item, close_link, close_paragraph, end_form, flush, foster_characters, implied_thoroughly, is_white, put_characters}
 use Rattle.hp_control.specs.Foreign.{current_namespace, insert_in, opened_namespace, pop_to_point, through_foreign}
@@ -37,9 +37,8 @@ use Rattle.hp_model.proofs.Thinning.{thinning_close_description, thinning_close_
 use Rattle.hp_model.proofs.Thins.{Ready}
 use Rattle.hp_acts.specs.Told.{any_new, are_together, has_new_mode, is_first_new, reads_told}
 use Rattle.hp_acts.specs.Told as told
-use Rattle.hp_older.specs.GoesOn.{IsFree, is_a, is_key, is_new, kept, own}
+use Rattle.hp_older.specs.GoesOn.{is_a, is_new, kept, own}
 use Rattle.hp_older.proofs.Acting.{common-sort, name-told, push_sorted, unknown-name}
-use Rattle.hp_older.proofs.Adopts.{Careful}
 use Rattle.hp_older.proofs.Effects.{description-weak, foreign-strong, item-weak, paragraph-weak, thoroughly-thin, to_point-strong, walk-thin, walk-weak}
 use Rattle.hp_older.proofs.Found.{except_did, implied_did, through_did, through_first_did, to_did}
 use Rattle.hp_older.proofs.Kept.{any-kept, kept-alike}
@@ -52,7 +51,7 @@ use Rattle.hp_older.proofs.Moves.{Did, did_strong, did_thin, did_weak, pop_did, 
 use Rattle.hp_older.proofs.Pushing.{next-free, push_common}
 use Rattle.hp_older.proofs.Resets.{is_sorted, named-a}
 use Rattle.hp_older.proofs.Steps.{can_adopt, can_walk, is_common, touches, track_after, track_fits, walked}
-use Rattle.hp_older.proofs.Track.{Balance, even, over, under, BalanceIs, On, Top, unknown, high, plain, made, TopIs, Track, can_pass, can_push, is_even, is_made, name_told, pushed, common, sort_of, sort_told, strongly, thinly, weakly}
+use Rattle.hp_older.proofs.Track.{Balance, even, over, under, BalanceIs, On, Top, made, TopIs, Track, can_pass, can_push, is_even, is_made, name_told, pushed, common, sort_of, sort_told, strongly, thinly, weakly}
 
 -- a state over an older one: its new elements stand above the older ones
 pub record Over (s c : ControlState) : Type 0 where
@@ -72,9 +71,11 @@ module _ (s : ControlState) (fostering : Bool) where
 
       go : (p : Option Known) → known_of tag.name ≡ p → can_push (sort_told (Start p)) w ≡ true → Did s (insert fostering tag) (pushed (sort_told (Start p)) w) c
       go (Some x) q m =
-          let same = found_text tag.name x q in
-          (refl, inr (subst (λ name. On (pushed (sort_of name) w) s (insert fostering tag c).control) (sym same)
-          (push_sorted w s c e on (rooted_on v n c g r) (le-leb s.next c.next o.later) (ap is_html_space read) (next-free c e refl g.list_ids g.form) (subst (λ name. can_push (sort_of name) w ≡ true) same m))))
+          let same = found_text tag.name x q in (
+            refl,
+            inr (subst (λ name. On (pushed (sort_of name) w) s (insert fostering tag c).control) (sym same)
+                (push_sorted w s c e on (rooted_on v n c g r) (le-leb s.next c.next o.later) (ap is_html_space read) (next-free c e refl g.list_ids g.form) (subst (λ name. can_push (sort_of name) w ≡ true) same m))),
+          )
       go None q m = (refl, inr (push_common w s c e on (rooted_on v n c g r) (le-leb s.next c.next o.later) (and_off (is_html e) (is_among key_names tag.name) (unknown-name tag.name q))))
         where
           and_off : (a b : Bool) → b ≡ false → (a && b) ≡ false
@@ -84,7 +85,6 @@ module _ (s : ControlState) (fostering : Bool) where
 
   bare_did : (x : Known) (v : Course) (n : ℕ) (w : Track) (c : ControlState) → Over s c → Along v n c → On w s c → is_standing v.base ≡ true → is_common (sort_of (text_of x)) ≡ true → Did s (insert fostering (bare (text_of x))) (pushed common w) c
   bare_did x v n w c o g on r k = (refl, inr (push_common w s c (element_for c.next (bare (text_of x))) on (rooted_on v n c g r) (le-leb s.next c.next o.later) (common-sort (text_of x) k)))
-
 
 few_off : (few : List (List ℕ)) (name : List ℕ) → list_all (is_among key_names) few ≡ true → is_among key_names name ≡ false → is_among few name ≡ false
 few_off few name a b = not-true (is_among few name) (λ z. true≢false (sym (among-all (is_among key_names) few name a z) ∙ b))

@@ -1,35 +1,33 @@
 -- Acts on the list of formatting elements, the form pointer and the modes, on their tracks.
-use Rattle.std.proofs.Common.{◌≡◌, ℕ, zero, suc, ◌+◌, ◌≤◌, ◌<◌, List, [], ◌∷◌, drop, length, Bool, true, false, ◌||◌, ◌&&◌, not, refl, sym, ap, ◌∙◌, subst, arith, inl, inr, Option, None, Some, nat_le, nat_lt}
-use Rattle.std.specs.Prelude.{if◌then◌else◌, All, IfSome, ◌⊎◌}
-use Rattle.std.specs.List.{list_any}
+use Rattle.std.proofs.Common.{◌≡◌, ℕ, ◌+◌, ◌<◌, List, [], ◌∷◌, drop, length, Bool, true, false, ◌||◌, ◌&&◌, refl, sym, ap, subst, arith, inl, inr, Option, None, Some, nat_le, nat_lt}
+use Rattle.std.specs.Prelude.{if◌then◌else◌, All, ◌⊎◌}
 use Rattle.std.specs.Option.{is_some, unwrap_or}
-use Rattle.std.proofs.lemmas.Bool.{and_parts, and_from, true≢false, lt-ltb, le-leb, le-ltb}
+use Rattle.std.proofs.lemmas.Bool.{and_parts, and_from, true≢false, lt-ltb, le-leb}
 use Rattle.std.proofs.lemmas.List.Elements.{All-nil, All-cons, All-head, All-tail}
-use Rattle.hp_elements.specs.Names.{is_among, words}
 use Rattle.hp_elements.specs.declared.tag.Tag.{Tag}
 use Rattle.hp_elements.specs.declared.token.Mode.{Mode}
 use Rattle.hp_elements.specs.declared.token.Mode.TheVariants as mode
 use Rattle.hp_control.specs.declared.element.OpenElement.{OpenElement}
 use Rattle.hp_control.specs.declared.element.FormattingEntry.{FormattingEntry}
 use Rattle.hp_control.specs.declared.element.FormattingEntry.TheVariants.{Marker, Element}
-use Rattle.hp_control.specs.Acts.{add_marker, append_entry, append_to_list, clear, current_id, equal_ids, keep_original, last_mode, make_room, point_form, pop_template_mode, push_template_mode, remove_earliest, remove_entry, replace_template_mode, replaced_first, reset, switch_to, to_original}
-use Rattle.hp_control.specs.Outcome.{Act, is_older, nothing_done, touches_any}
-use Rattle.hp_control.specs.States.{ControlState, AreIds, IsNew, IsSettled, entry_ids, is_settled, is_template_mode}
-use Rattle.hp_control.specs.Walks.{cleared, reset_mode}
+use Rattle.hp_control.specs.Acts.{add_marker, append_entry, append_to_list, clear, current_id, equal_ids, keep_original, point_form, pop_template_mode, push_template_mode, remove_earliest, replace_template_mode, replaced_first, reset, switch_to, to_original}
+use Rattle.hp_control.specs.Outcome.{Act, nothing_done, touches_any}
+use Rattle.hp_control.specs.States.{ControlState, AreIds, IsNew, IsSettled, entry_ids, is_settled}
+use Rattle.hp_control.specs.Walks.{cleared}
 use Rattle.hp_model.specs.Finding.{is_empty}
 use Rattle.hp_model.proofs.Course.{Course, Along, OriginalIs, is_standing}
 use Rattle.hp_model.proofs.Courses.{ready}
 use Rattle.hp_model.proofs.Following.{removed_thins}
 use Rattle.hp_model.proofs.Resetting.{reset-settled}
-use Rattle.hp_model.proofs.Thins.{Thins, Thinning, ids_of, ready_after, thins_all}
+use Rattle.hp_model.proofs.Thins.{Thins, ids_of, thins_all}
 use Rattle.hp_older.specs.GoesOn.{IsFree, comes, fits_mode, is_a, is_key, is_new, kept, own}
 use Rattle.hp_older.proofs.Kept.{kept-no}
 use Rattle.hp_older.proofs.Keys.{named_in, was-not}
-use Rattle.hp_older.proofs.Levels.{Strong, core_names, fewer, key_names, own_of}
+use Rattle.hp_older.proofs.Levels.{core_names, fewer, key_names, own_of}
 use Rattle.hp_older.proofs.Moves.{Did}
 use Rattle.hp_older.proofs.Resets.{is_sorted, reset-fits}
 use Rattle.hp_older.proofs.Steps.{is_at, kept_back}
-use Rattle.hp_older.proofs.Track.{Balance, even, over, under, BackIs, BalanceIs, On, PlaceIs, Top, unknown, high, plain, made, TopIs, Track, Where, at, fitted, lost, is_even, is_made, is_over, is_under, knows, strongly}
+use Rattle.hp_older.proofs.Track.{Balance, even, over, under, BackIs, BalanceIs, On, PlaceIs, Top, made, TopIs, Track, Where, at, fitted, lost, is_made, is_over, is_under, knows, strongly}
 use Rattle.hp_older.proofs.Tracking.{on_strong}
 
 pub free_map : (l m : List FormattingEntry) (o p : Option ℕ) → ((e : OpenElement) → IsFree l o e → IsFree m p e) → (es : List OpenElement) → All (IsFree l o) es → All (IsFree m p) es
@@ -37,9 +35,22 @@ free_map l m o p f [] h = All-nil (IsFree m p)
 free_map l m o p f (e ∷ es) h = All-cons (IsFree m p) e es (f e (All-head (IsFree l o) e es h)) (free_map l m o p f es (All-tail (IsFree l o) e es h))
 
 pub marker_did : (s : ControlState) (w : Track) (c : ControlState) → On w s c → Did s add_marker w c
-marker_did s w c on = (refl, inr (record { html = on.html; balance = on.balance;
-  free = free_map c.formatting (Marker ∷ c.formatting) c.form c.form (λ e x. record { unlisted = x.unlisted; no_form = x.no_form }) (own s (is_a "template td th") c.stack) on.free;
-  top = on.top; there = on.there; cell = on.cell; select = on.select; bare = on.bare; still = on.still; back = on.back; place = on.place }))
+marker_did s w c on = (
+  refl,
+  inr (record {
+    html = on.html;
+    balance = on.balance;
+    free = free_map c.formatting (Marker ∷ c.formatting) c.form c.form (λ e x. record { unlisted = x.unlisted; no_form = x.no_form }) (own s (is_a "template td th") c.stack) on.free;
+    top = on.top;
+    there = on.there;
+    cell = on.cell;
+    select = on.select;
+    bare = on.bare;
+    still = on.still;
+    back = on.back;
+    place = on.place;
+  }),
+)
 
 cleared_new : (id : ℕ) (l : List FormattingEntry) → IsNew id (entry_ids l) → IsNew id (entry_ids (cleared l))
 cleared_new id [] h = h
@@ -47,9 +58,22 @@ cleared_new id (Marker ∷ l) h = h
 cleared_new id (Element other tag ∷ l) h = cleared_new id l h.1
 
 pub clear_did : (s : ControlState) (w : Track) (c : ControlState) → On w s c → Did s clear w c
-clear_did s w c on = (refl, inr (record { html = on.html; balance = on.balance;
-  free = free_map c.formatting (cleared c.formatting) c.form c.form (λ e x. record { unlisted = cleared_new e.id c.formatting x.unlisted; no_form = x.no_form }) (own s (is_a "template td th") c.stack) on.free;
-  top = on.top; there = on.there; cell = on.cell; select = on.select; bare = on.bare; still = on.still; back = on.back; place = on.place }))
+clear_did s w c on = (
+  refl,
+  inr (record {
+    html = on.html;
+    balance = on.balance;
+    free = free_map c.formatting (cleared c.formatting) c.form c.form (λ e x. record { unlisted = cleared_new e.id c.formatting x.unlisted; no_form = x.no_form }) (own s (is_a "template td th") c.stack) on.free;
+    top = on.top;
+    there = on.there;
+    cell = on.cell;
+    select = on.select;
+    bare = on.bare;
+    still = on.still;
+    back = on.back;
+    place = on.place;
+  }),
+)
 
 -- the elements kept track of aren't the current node, where it is plain
 apart_below : (p : OpenElement → Bool) (x : ℕ) (st : List OpenElement) → IsNew x (ids_of st) → All (λ (e : OpenElement). x ≡ e.id → ⊥) (kept p st)
@@ -72,9 +96,22 @@ both P Q R f [] h k = All-nil R
 both P Q R f (e ∷ es) h k = All-cons R e es (f e (All-head P e es h) (All-head Q e es k)) (both P Q R f es (All-tail P e es h) (All-tail Q e es k))
 
 pub form_did : (s : ControlState) (w : Track) (v : Course) (n : ℕ) (c : ControlState) → Along v n c → On w s c → is_made w.top ≡ true → Did s point_form w c
-form_did s w v n c g on h = (refl, inr (record { html = on.html; balance = on.balance;
-  free = both (IsFree c.formatting c.form) (λ (e : OpenElement). current_id c.stack ≡ e.id → ⊥) (IsFree c.formatting (Some (current_id c.stack))) (λ e x y. record { unlisted = x.unlisted; no_form = y }) (own s (is_a "template td th") c.stack) on.free (apart_top s w.top c.next c.stack h on.top g.stack_ids);
-  top = on.top; there = on.there; cell = on.cell; select = on.select; bare = on.bare; still = on.still; back = on.back; place = on.place }))
+form_did s w v n c g on h = (
+  refl,
+  inr (record {
+    html = on.html;
+    balance = on.balance;
+    free = both (IsFree c.formatting c.form) (λ (e : OpenElement). current_id c.stack ≡ e.id → ⊥) (IsFree c.formatting (Some (current_id c.stack))) (λ e x y. record { unlisted = x.unlisted; no_form = y }) (own s (is_a "template td th") c.stack) on.free (apart_top s w.top c.next c.stack h on.top g.stack_ids);
+    top = on.top;
+    there = on.there;
+    cell = on.cell;
+    select = on.select;
+    bare = on.bare;
+    still = on.still;
+    back = on.back;
+    place = on.place;
+  }),
+)
 
 -- an entry for the current node
 earliest_stack : (ids : List ℕ) (c : ControlState) → (remove_earliest ids c).control.stack ≡ c.stack
@@ -88,9 +125,19 @@ earliest_spared (id ∷ []) c = refl
 earliest_spared (id ∷ other ∷ ids) c = earliest_spared (other ∷ ids) c
 
 appended : (s : ControlState) (w : Track) (c : ControlState) (tag : Tag) → On w s c → All (λ (e : OpenElement). current_id c.stack ≡ e.id → ⊥) (own s (is_a "template td th") c.stack) → On w s (append_entry tag c).control
-appended s w c tag on a = record { html = on.html; balance = on.balance;
+appended s w c tag on a = record {
+  html = on.html;
+  balance = on.balance;
   free = both (IsFree c.formatting c.form) (λ (e : OpenElement). current_id c.stack ≡ e.id → ⊥) (IsFree (Element (current_id c.stack) tag ∷ c.formatting) c.form) (λ e x y. record { unlisted = ((λ q. y (sym q)), x.unlisted); no_form = x.no_form }) (own s (is_a "template td th") c.stack) on.free a;
-  top = on.top; there = on.there; cell = on.cell; select = on.select; bare = on.bare; still = on.still; back = on.back; place = on.place }
+  top = on.top;
+  there = on.there;
+  cell = on.cell;
+  select = on.select;
+  bare = on.bare;
+  still = on.still;
+  back = on.back;
+  place = on.place;
+}
 
 or_nothing : (b : Bool) → b ≡ false → (b || false) ≡ false
 or_nothing true h = absurd (true≢false h)
@@ -113,8 +160,22 @@ append_did s tag w v n c g on r h = go (nat_le 3 (length (equal_ids tag c.format
 
 -- modes
 pub reset_did : (s : ControlState) (w : Track) (v : Course) (n : ℕ) (c : ControlState) → is_sorted s c.stack ≡ true → Along v n c → On w s c → w.still ≡ true → Did s reset (record w { place = fitted }) c
-reset_did s w v n c srt g on h = (refl, inr (record { html = on.html; balance = on.balance; free = on.free; top = on.top; there = on.there; cell = on.cell; select = on.select; bare = on.bare; still = on.still; back = on.back;
-  place = (reset-settled c.templates (is_some c.head) c.stack g.template_modes, reset-fits s (is_some c.head) c.templates c.stack g.template_modes srt (on.still h)) }))
+reset_did s w v n c srt g on h = (
+  refl,
+  inr (record {
+    html = on.html;
+    balance = on.balance;
+    free = on.free;
+    top = on.top;
+    there = on.there;
+    cell = on.cell;
+    select = on.select;
+    bare = on.bare;
+    still = on.still;
+    back = on.back;
+    place = (reset-settled c.templates (is_some c.head) c.stack g.template_modes, reset-fits s (is_some c.head) c.templates c.stack g.template_modes srt (on.still h));
+  }),
+)
 
 -- the track tells that a mode fits
 pub knows-fits : (m : Mode) (w : Track) (s c : ControlState) → On w s c → knows m w ≡ true → fits_mode s m c.stack ≡ true

@@ -1,41 +1,33 @@
 -- Acts that pop, on their tracks.
-use Rattle.std.proofs.Common.{◌≡◌, ℕ, zero, suc, ◌+◌, ◌≤◌, ◌<◌, List, [], ◌∷◌, ◌++◌, drop, length, Bool, true, false, ◌||◌, ◌&&◌, not, refl, sym, ap, ◌∙◌, subst, arith, inl, inr, Option, None, Some, nat_le, nat_lt}
-use Rattle.std.specs.Prelude.{if◌then◌else◌, All, IfSome, ◌⊎◌}
-use Rattle.std.specs.List.{list_all, list_any}
-use Rattle.std.specs.Option.{is_some, option_map}
-use Rattle.std.specs.Str.{bytes_eq}
-use Rattle.std.proofs.lemmas.Bool.{and_parts, and_from, true≢false, lt-leb}
-use Rattle.hp_elements.specs.Names.{is_among, known_of, text_of, words}
-use Rattle.hp_elements.specs.Sets.{in_set, members}
+use Rattle.std.proofs.Common.{◌≡◌, ℕ, suc, ◌+◌, ◌<◌, List, [], ◌∷◌, drop, length, Bool, true, false, ◌||◌, ◌&&◌, not, refl, sym, ap, ◌∙◌, subst, arith, inl, inr, None, Some}
+use Rattle.std.specs.Prelude.{if◌then◌else◌, ◌⊎◌}
+use Rattle.std.specs.Option.{option_map}
+use Rattle.std.proofs.lemmas.Bool.{and_parts, true≢false}
+use Rattle.hp_elements.specs.Names.{is_among, words}
 use Rattle.hp_elements.specs.declared.act.Scope.{Scope}
 use Rattle.hp_elements.specs.declared.act.Scope.TheVariants as scope
 use Rattle.hp_elements.specs.declared.kinds.Kinds.{Kinds}
 use Rattle.hp_elements.specs.declared.kinds.Kinds.TheVariants as kinds
-use Rattle.hp_elements.specs.declared.known.Known.TheVariants as known
-use Rattle.hp_elements.specs.declared.sets.SetName.{SetName}
 use Rattle.hp_elements.specs.declared.sets.SetName.TheVariants as sets
 use Rattle.hp_elements.proofs.FindLemmas.{equal_bytes}
 use Rattle.hp_control.specs.declared.element.OpenElement.{OpenElement}
-use Rattle.hp_control.specs.Acts.{pop, pop_by, pop_run, pop_to, popped_by, through, through_named}
+use Rattle.hp_control.specs.Acts.{pop, through, through_named}
 use Rattle.hp_control.specs.Composed.{ends_of}
 use Rattle.hp_control.specs.KindTests.{within}
 use Rattle.hp_control.specs.Outcome.{Act, touches_any}
-use Rattle.hp_control.specs.States.{ControlState, is_html, is_rooted}
-use Rattle.hp_control.specs.Walks.{reach, run_of, seen}
+use Rattle.hp_control.specs.States.{ControlState, is_rooted}
+use Rattle.hp_control.specs.Walks.{reach, seen}
 use Rattle.hp_model.proofs.Course.{Course, Along, is_standing}
 use Rattle.hp_model.proofs.Courses.{ready, standing-rooted}
 use Rattle.hp_model.proofs.Stacks.{deeper}
-use Rattle.hp_model.proofs.Thinning.{thinning_pop, thinning_pop_to, thinning_through, thinning_through_named}
-use Rattle.hp_model.proofs.Thins.{Thins, Thinning, ids_of}
-use Rattle.hp_older.specs.GoesOn.{IsFree, comes, is_a, is_key, is_new, kept, own}
+use Rattle.hp_model.proofs.Thinning.{thinning_pop, thinning_through, thinning_through_named}
+use Rattle.hp_model.proofs.Thins.{Thins}
+use Rattle.hp_older.specs.GoesOn.{comes, is_a, is_key, is_new}
 use Rattle.hp_older.proofs.Kept.{kept-drop, kept-no}
-use Rattle.hp_older.proofs.Keys.{apart-name, apart-set, named-named, named-within, named_in, not-true, was-not}
-use Rattle.hp_older.proofs.Popping.{all-popped, kept-through, reach-short}
-use Rattle.hp_older.proofs.Effects.{Leaves, apart-fewer, other_name, pops-by, root-apart, root-html, shown-thin, shown-weak, through-leaves, to-thin, weak_leaves}
-use Rattle.hp_older.proofs.Levels.{Strong, Thin, Weak, core_names, fewer, key_names, own_of, strong_pop, template_names, thin_pop, weak-thin, weak_all}
-use Rattle.hp_older.proofs.Steps.{can_through, can_through_first, narrows, still_but, still_there, track_after, track_fits}
-use Rattle.hp_older.proofs.Steps as steps
-use Rattle.hp_older.proofs.Track.{BalanceIs, On, There, nowhere, named, among, ThereIs, Top, unknown, high, plain, made, TopIs, Track, can_pass, ends_at_cells, even, is_even, is_high, is_plain, is_plain_one, is_there_named, over, passed_named, scope_weak, strongly, thinly, under, weakly}
+use Rattle.hp_older.proofs.Keys.{apart-name, named-within, named_in, not-true, was-not}
+use Rattle.hp_older.proofs.Effects.{Leaves, pops-by, shown-thin, shown-weak, through-leaves}
+use Rattle.hp_older.proofs.Levels.{Strong, Thin, Weak, core_names, key_names, own_of, strong_pop, template_names, thin_pop, weak-thin, weak_all}
+use Rattle.hp_older.proofs.Track.{On, There, nowhere, named, among, ThereIs, Top, unknown, high, plain, made, TopIs, Track, can_pass, ends_at_cells, is_high, is_plain_one, is_there_named, passed_named, scope_weak, strongly, thinly, weakly}
 use Rattle.hp_older.proofs.Tracking.{on_strong, on_thin, on_weak}
 
 -- what an act did: nothing was spared, and a track is met or something older was touched

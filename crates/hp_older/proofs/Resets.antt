@@ -1,11 +1,11 @@
 -- The mode that a reset gives fits the new elements.
-use Rattle.std.proofs.Common.{◌≡◌, ℕ, ◌+◌, ◌≤◌, ◌<◌, List, [], ◌∷◌, ◌++◌, map, drop, length, Bool, true, false, ◌||◌, ◌&&◌, not, refl, sym, ap, ◌∙◌, subst, arith, Option, None, Some, nat_le}
+use Rattle.std.proofs.Common.{◌≡◌, ℕ, ◌+◌, List, [], ◌∷◌, ◌++◌, map, Bool, true, false, ◌||◌, ◌&&◌, not, refl, sym, ap, ◌∙◌, subst, arith, Option, None, Some}
 use Rattle.std.specs.Prelude.{if◌then◌else◌, All}
 use Rattle.std.specs.Option.{unwrap_or}
 use Rattle.std.specs.Str.{bytes_eq}
 use Rattle.std.proofs.lemmas.Bool.{and_parts, and_from, true≢false, lt-leb, le-leb}
 use Rattle.std.proofs.lemmas.List.Elements.{All-head}
-use Rattle.hp_elements.specs.Names.{is_among, text_of, words}
+use Rattle.hp_elements.specs.Names.{text_of, words}
 use Rattle.hp_elements.specs.declared.kinds.Kinds.TheVariants as kinds
 use Rattle.hp_elements.specs.declared.known.Known.TheVariants as known
 use Rattle.hp_elements.specs.declared.sets.SetName.TheVariants as sets
@@ -19,7 +19,7 @@ use Rattle.hp_control.specs.Walks.{html_mode, is_cell, is_last, last_template_mo
 use Rattle.hp_model.specs.Finding.{is_empty}
 use Rattle.hp_model.proofs.Thins.{ids_of}
 use Rattle.hp_older.specs.GoesOn.{comes, fits_mode, is_a, is_new, kept, no_new, own}
-use Rattle.hp_older.proofs.Kept.{kept-tail, own-older}
+use Rattle.hp_older.proofs.Kept.{kept-tail}
 use Rattle.hp_older.proofs.Keys.{named-named, named_in, not-true}
 use Rattle.hp_older.proofs.Levels.{core_names, own_of, template_names}
 use Rattle.hp_older.proofs.Pushing.{comes-one, own-more, own-same}

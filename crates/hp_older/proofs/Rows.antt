@@ -1,6 +1,6 @@
 -- A row that passes the test is told up to the first act that touches something older, and where nothing is touched it ends on a
 -- track that goes on: by each way through it, and through the rows that it uses.
-use Rattle.std.proofs.Common.{◌≡◌, ℕ, zero, suc, ◌+◌, ◌<◌, List, [], ◌∷◌, ◌++◌, drop, map, length, Bool, true, false, ◌||◌, ◌&&◌, not, refl, sym, ap, ◌∙◌, subst, arith, inl, inr, Option, None, Some}
+use Rattle.std.proofs.Common.{◌≡◌, ℕ, zero, suc, ◌<◌, drop, map, Bool, true, false, ◌||◌, ◌&&◌, not, refl, sym, ap, subst, arith, inl, inr, Option, None, Some}
 use Rattle.std.specs.Prelude.{if◌then◌else◌, ◌⊎◌}
 use Rattle.std.proofs.lemmas.Bool.{and_parts, and_from, true≢false}
 use Rattle.hp_elements.specs.Rules.{Plan, ends, ◌⨾◌, when, unless, plan_for}
@@ -20,11 +20,11 @@ use Rattle.hp_views.specs.StackLaws.{full_stack}
 use Rattle.hp_model.specs.Finding.{nothing_missing}
 use Rattle.hp_model.specs.Rows.{carry, carry_plan, nothing_more, rules}
 use Rattle.hp_model.specs.Steps.{holds, step}
-use Rattle.hp_model.specs.Turns.{Turn, goes_on, done, again, and_then, unchanged}
+use Rattle.hp_model.specs.Turns.{Turn, goes_on, and_then, unchanged}
 use Rattle.hp_model.specs.Whole.{IsRead}
 use Rattle.hp_model.proofs.Course.{Course, fits}
 use Rattle.hp_model.proofs.Course as course
-use Rattle.hp_model.proofs.Passes.{Rank, fixed}
+use Rattle.hp_model.proofs.Passes.{fixed}
 use Rattle.hp_model.proofs.Stacks.{rooted-append, rooted-drop}
 use Rattle.hp_model.proofs.Walking.{assumed}
 use Rattle.hp_acts.specs.Suiting.{act_suits, plan_suits, rules_suit, while_own}

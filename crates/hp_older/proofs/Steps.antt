@@ -1,5 +1,5 @@
 -- Which act needs what of a track, and where it leads; and the test over the table: each row, along each way that its tests leave.
-use Rattle.std.specs.Prelude.{ℕ, zero, suc, Bool, true, false, not, ◌&&◌, ◌||◌, if◌then◌else◌, List, [], ◌∷◌, Option, None, Some}
+use Rattle.std.specs.Prelude.{ℕ, zero, suc, Bool, true, false, not, ◌&&◌, ◌||◌, if◌then◌else◌, List, Option, None, Some}
 use Rattle.std.specs.Str.{bytes_eq}
 use Rattle.hp_elements.specs.Names.{is_among, text_of, words}
 use Rattle.hp_elements.specs.Rules.{Plan, ends, ◌⨾◌, when, unless, plan_for}
@@ -10,21 +10,19 @@ use Rattle.hp_elements.specs.declared.act.Scope.{Scope}
 use Rattle.hp_elements.specs.declared.act.Scope.TheVariants as scope
 use Rattle.hp_elements.specs.declared.act.Test.{Test}
 use Rattle.hp_elements.specs.declared.act.Test.TheVariants as test
-use Rattle.hp_elements.specs.declared.act.Which.{Which}
-use Rattle.hp_elements.specs.declared.act.Which.TheVariants.{Its, Named}
 use Rattle.hp_elements.specs.declared.known.Known.TheVariants as known
 use Rattle.hp_elements.specs.declared.sets.Namespace.TheVariants.{Html}
 use Rattle.hp_elements.specs.declared.sets.SetName.{SetName}
 use Rattle.hp_elements.specs.declared.sets.SetName.TheVariants as sets
 use Rattle.hp_elements.specs.declared.token.Kind.{Kind}
-use Rattle.hp_elements.specs.declared.token.Kind.TheVariants.{Start, End, EndOfInput}
+use Rattle.hp_elements.specs.declared.token.Kind.TheVariants.{End, EndOfInput}
 use Rattle.hp_elements.specs.declared.token.Mode.{Mode}
 use Rattle.hp_rules_rest.specs.Foreign.{foreign}
 use Rattle.hp_rules_rest.specs.Whole.{every_mode_rows}
 use Rattle.hp_model.specs.Rows.{is_head_mode}
 use Rattle.hp_model.proofs.Course.{Course, after, alien, assume, fits}
 use Rattle.hp_model.proofs.Passes.{base_of, goes_foreign, start}
-use Rattle.hp_older.proofs.Track.{Balance, even, There, nowhere, named, among, Top, high, plain, made, unknown, Track, Where, at, fitted, lost, Sort, common, template, begin, can_pass, can_push, ends_at_cells, ends_well, is_even, is_high, is_made, is_over, is_plain_one, is_there_named, is_under, knows, name_told, passed_named, pushed, sort_of, sort_told, strongly, thinly, under, weakly}
+use Rattle.hp_older.proofs.Track.{even, There, nowhere, named, among, Top, high, plain, made, unknown, Track, Where, at, fitted, Sort, common, begin, can_pass, can_push, ends_well, is_even, is_high, is_made, is_over, is_plain_one, is_there_named, is_under, knows, name_told, passed_named, pushed, sort_of, sort_told, strongly, thinly, under, weakly}
 
 abbrev pub is_common : Sort → Bool
 is_common common = true

@@ -1,49 +1,35 @@
 -- Acts that pop by what a test found, or through a template.
-use Rattle.std.proofs.Common.{◌≡◌, ℕ, zero, suc, ◌+◌, ◌≤◌, ◌<◌, List, [], ◌∷◌, ◌++◌, drop, length, Bool, true, false, ◌||◌, ◌&&◌, not, refl, sym, ap, ◌∙◌, subst, arith, inl, inr, Option, None, Some, nat_le, nat_lt}
-use Rattle.std.specs.Prelude.{if◌then◌else◌, All, IfSome, ◌⊎◌}
-use Rattle.std.specs.List.{list_all, list_any}
+use Rattle.std.proofs.Common.{◌≡◌, ℕ, suc, ◌+◌, ◌<◌, List, [], ◌∷◌, drop, length, Bool, true, false, ◌||◌, ◌&&◌, refl, sym, ap, ◌∙◌, subst, arith, inl, inr, Option, None, Some}
+use Rattle.std.specs.Prelude.{if◌then◌else◌, All}
 use Rattle.std.specs.Option.{is_some, option_map}
 use Rattle.std.specs.Str.{bytes_eq}
 use Rattle.std.proofs.lemmas.Bool.{and_parts, and_from, true≢false, lt-leb}
 use Rattle.std.proofs.lemmas.List.Elements.{All-drop}
-use Rattle.hp_elements.specs.Names.{is_among, known_of, text_of, words}
-use Rattle.hp_elements.specs.Sets.{in_set, is_member, members}
-use Rattle.hp_elements.specs.declared.act.Scope.{Scope}
-use Rattle.hp_elements.specs.declared.act.Scope.TheVariants as scope
-use Rattle.hp_elements.specs.declared.kinds.Kinds.{Kinds}
+use Rattle.hp_elements.specs.Names.{is_among, text_of, words}
 use Rattle.hp_elements.specs.declared.kinds.Kinds.TheVariants as kinds
-use Rattle.hp_elements.specs.declared.known.Known.{Known}
 use Rattle.hp_elements.specs.declared.known.Known.TheVariants as known
-use Rattle.hp_elements.specs.declared.sets.Namespace.TheVariants.{Html}
-use Rattle.hp_elements.specs.declared.sets.SetName.{SetName}
-use Rattle.hp_elements.specs.declared.sets.SetName.TheVariants as sets
 use Rattle.hp_elements.proofs.FindLemmas.{equal_bytes}
 use Rattle.hp_control.specs.declared.element.OpenElement.{OpenElement}
-use Rattle.hp_control.specs.Acts.{above, pop, pop_by, pop_run, pop_to, popped_by, through, through_named, with_it}
-use Rattle.hp_control.specs.Composed.{ends_of, implied, implied_but, implied_except}
+use Rattle.hp_control.specs.Acts.{pop_by, through_named, with_it}
 use Rattle.hp_control.specs.KindTests.{within}
-use Rattle.hp_control.specs.Outcome.{Act, nothing_done, touches_any}
+use Rattle.hp_control.specs.Outcome.{nothing_done}
 use Rattle.hp_control.specs.States.{ControlState, is_html, is_rooted}
-use Rattle.hp_control.specs.Walks.{reach, run_of, seen}
-use Rattle.hp_model.specs.Steps.{implied_but_for}
+use Rattle.hp_control.specs.Walks.{reach}
 use Rattle.hp_model.proofs.Course.{Course, Along, is_standing}
 use Rattle.hp_model.proofs.Courses.{ready}
-use Rattle.hp_model.proofs.Following.{implied_but_thins}
 use Rattle.hp_model.proofs.Stacks.{deeper}
-use Rattle.hp_model.proofs.Thinning.{thinning_implied, thinning_pop_to, thinning_through, thinning_through_named}
-use Rattle.hp_model.proofs.Thins.{Thins, Thinning, ids_of}
-use Rattle.hp_older.specs.GoesOn.{IsFree, comes, is_a, is_key, is_new, kept, own}
-use Rattle.hp_older.proofs.Kept.{kept-drop, kept-no, kept-part}
-use Rattle.hp_older.proofs.Keys.{apart-name, apart-set, html_space, named-named, named-within, named_in, not-true, was-not}
-use Rattle.hp_older.proofs.Popping.{all-popped, reach-root, reach-short, run-short, shown-run}
-use Rattle.hp_older.proofs.Effects.{Leaves, apart-fewer, but-apart, but_for-strong, implied-strong, named-of, other_name, pops-by, root-apart, root-html, shown-thin, shown-weak, through-leaves, to-thin}
-use Rattle.hp_older.proofs.Levels.{Strong, Thin, Weak, core_names, key_names, own_of, template_names}
-use Rattle.hp_older.proofs.Links.{top-short}
-use Rattle.hp_older.proofs.Moves.{Did, did_strong, did_thin, did_weak, rooted_on, through_coming, through_shown, with_there, with_top}
+use Rattle.hp_model.proofs.Thinning.{thinning_through_named}
+use Rattle.hp_model.proofs.Thins.{Thins}
+use Rattle.hp_older.specs.GoesOn.{IsFree, is_a, is_new, own}
+use Rattle.hp_older.proofs.Kept.{kept-drop, kept-part}
+use Rattle.hp_older.proofs.Keys.{apart-name, named_in, not-true}
+use Rattle.hp_older.proofs.Popping.{all-popped, reach-short}
+use Rattle.hp_older.proofs.Effects.{named-of, root-apart}
+use Rattle.hp_older.proofs.Levels.{core_names, own_of, template_names}
+use Rattle.hp_older.proofs.Moves.{Did, rooted_on}
 use Rattle.hp_older.proofs.Pushing.{own-more, own-same}
 use Rattle.hp_older.proofs.Resets.{below-older, is_sorted}
-use Rattle.hp_older.proofs.Steps.{can_through_first, is_context, narrows, still_but, still_there, through_first}
-use Rattle.hp_older.proofs.Track.{BalanceIs, On, There, nowhere, named, among, ThereIs, Top, unknown, high, plain, made, TopIs, Track, Where, at, fitted, lost, even, is_even, loose, over, strongly, thinly, under, weakly, PlaceIs}
+use Rattle.hp_older.proofs.Track.{BalanceIs, On, Track, even, is_even, loose, over, thinly, under, PlaceIs}
 use Rattle.hp_older.proofs.Tracking.{below-kept, free-later, place-loose}
 
 none_some : (k : ℕ) → None ≡ Some k → ⊥
