@@ -22,3 +22,4 @@ pub mod Rows
 pub mod Table
 pub mod Chunks
 pub mod Tokens
+pub mod Whole

@@ -2,11 +2,14 @@
 //! nothing.
 #![tactic(auto)]
 
+ghost use Rattle.hp_older.specs.Chunk.{ChunksHandled, ViewsBegin};
 ghost use Rattle.hp_older.specs.Laws.{Begins, ChunksStay, TokensGoOn, TokensHandled, TokensTold};
 
-/// Where a chunk begins its state goes on from the older one: it has no new elements.
+/// Where a chunk begins its state goes on from the older one: it has no new elements. So does the view over an older state that
+/// is told to be at rest.
 pub fn chunk_begins()
-    ensures { Begins }
+    ensures state { Begins }
+    ensures view { ViewsBegin }
 {}
 
 /// Over any older state, from a state that goes on from it, and for each token but the end of input: what the handling reads of
@@ -18,4 +21,10 @@ pub fn tokens_over()
     ensures goes_on { TokensGoOn }
     ensures handled { TokensHandled }
     ensures stays { ChunksStay }
+{}
+
+/// The tokens of a chunk, one after the other: they are handled as the definition says and nothing older is touched, or they
+/// cross by what is touched, or at a token that has more turns than a view takes.
+pub fn chunk_handled()
+    ensures { ChunksHandled }
 {}
