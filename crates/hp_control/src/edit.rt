@@ -3,7 +3,7 @@
 ghost use Rattle.std.specs.Prelude.{◌≡◌, ◌+◌, ◌∷◌, ◌++◌, [], length, IsTrue, ◌↔◌, IfOk, OnOk, OnErr};
 ghost use Rattle.hp_control.specs.Edits.{room_of, room_of_all};
 
-use hp_elements::{Attribute, Chain, Tag, Text};
+use hp_elements::{Attribute, Chain, Doctype, Tag, Text};
 use std::alloc::{AllocError, Global};
 use std::marker::Model;
 use std::mem;
@@ -34,11 +34,8 @@ pub enum Child<'p> {
     Element(Ref),
     Text(Text<'p>),
     Comment(Text<'p>),
-    Doctype {
-        name: Text<'p>,
-        public: Option<Text<'p>>,
-        system: Option<Text<'p>>,
-    },
+    /// Kept on the heap, so that edits stay small.
+    Doctype(Doctype<'p>),
 }
 
 /// One step in the making of a tree.

@@ -18,6 +18,7 @@ mod spelled;
 mod splice;
 mod stack;
 mod tags;
+mod telling;
 #[cfg(test)]
 mod tests;
 mod truths;

@@ -142,3 +142,15 @@ lowered_front text array array' e m =
 
 pub true_false : true ≡ false → ⊥
 true_false e = cc
+
+-- a name is the same as a known one where it is that one
+pub same_as_known : (r : Bool) (own : Known) (now other : List ℕ) → known_of now ≡ Some own
+    → (IsTrue r → other ≡ text_of own) × (other ≡ text_of own → IsTrue r) → (IsTrue r → now ≡ other) × (now ≡ other → IsTrue r)
+same_as_known r own now other e s =
+    let text : text_of own ≡ now = found_text now own e in
+    (λ h. sym text ∙ sym (s.0 h), λ h. s.1 (sym h ∙ sym text))
+
+-- a known name is no other one
+pub apart_from_known : (own : Known) (now other : List ℕ) → known_of now ≡ None → known_of other ≡ Some own
+    → (IsTrue false → now ≡ other) × (now ≡ other → IsTrue false)
+apart_from_known own now other n e = (λ h. cc, λ h. absurd (not_both own (known_of other) e (ap known_of (sym h) ∙ n)))

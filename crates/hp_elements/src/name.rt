@@ -97,6 +97,7 @@ impl Name {
     }
 
     /// The name of a text that no known name has.
+    #[inline(never)]
     fn of_other(alloc: Global, text: &str) -> Result<Name, AllocError>
         requires { known_of text.now ≡ None }
         ensures { IfOk result (λ name. name ≡ chars text.now) }
@@ -122,6 +123,7 @@ impl Name {
     }
 
     /// The name of a text that no known name has once it is lowered.
+    #[inline(never)]
     fn of_lowered(alloc: Global, text: &str) -> Result<Name, AllocError>
         requires { known_of (lowered text.now) ≡ None }
         ensures { IfOk result (λ name. name ≡ lowered (chars text.now)) }
@@ -143,7 +145,13 @@ impl Name {
     pub fn same(&self, other: &Name) -> bool
         ensures { IsTrue result ↔ (self.now ≡ other.now) }
     {
-        self.as_str() == other.as_str()
+        match self.known() {
+            Some(own) => other.is(own),
+            None => match other.known() {
+                Some(_) => false,
+                None => self.as_str() == other.as_str(),
+            },
+        }
     }
 
     /// Whether two names have the same text but for the case of ASCII letters.
@@ -154,7 +162,19 @@ impl Name {
     }
 
     /// A name of the same text.
+    #[inline]
     pub fn copy(&self, alloc: Global) -> Result<Name, AllocError>
+        ensures { IfOk result (λ copy. copy ≡ self.now) }
+    {
+        match &self.spelling {
+            Spelling::Named(known) => Ok(Name::of_known(*known)),
+            _ => self.copy_spelling(alloc),
+        }
+    }
+
+    /// The same, also for a name that is no known one.
+    #[inline(never)]
+    fn copy_spelling(&self, alloc: Global) -> Result<Name, AllocError>
         ensures { IfOk result (λ copy. copy ≡ self.now) }
     {
         let spelling = match &self.spelling {

@@ -16,9 +16,8 @@ printed_of_bytes bytes page text is printed = subst (λ (p : List ℕ). IsPrinte
 pub takes_page : (bytes text : List ℕ) (old new : Option (List ℕ)) → IsPageText bytes text → new ≡ append_known old text → TakesPage bytes old new
 takes_page bytes text old new tree took = (tree.0, tree.1, took ∙ ap (append_known old) tree.2)
 
-pub takes_page_part : (bytes text : List ℕ) (old new : Option (List ℕ)) (n : ℕ) → IsPageText bytes text → n < length text
-    → new ≡ append_known old (take n text) → TakesPagePart bytes old new
-takes_page_part bytes text old new n tree within took = (tree.0, tree.1, subst (λ t. TakesPart t old new) tree.2 (n, within, took))
+pub takes_page_part : (bytes text : List ℕ) (old new : Option (List ℕ)) → IsPageText bytes text → TakesPart text old new → TakesPagePart bytes old new
+takes_page_part bytes text old new tree part = (tree.0, tree.1, subst (λ t. TakesPart t old new) tree.2 part)
 
 -- it is the text of a tree
 pub takes_tree : (bytes : List ℕ) (old new : Option (List ℕ)) → TakesPage bytes old new → TakesTree old new

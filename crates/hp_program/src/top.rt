@@ -1,9 +1,10 @@
 //! The top call.
 ghost use Rattle.std.specs.Prelude.{◌≡◌, ◌≢◌, ◌⊎◌, ◌↔◌, ◌+◌, ◌≤◌, Some, Ok, Err, [], false, length, IfOk, OnOk, IfErr, IfSome, IsUtf8};
 ghost use Rattle.hp_text.specs.Device.{Rose, Gives};
-ghost use Rattle.hp_program.specs.Answers.{IsTooLarge, IsNotText, IsText, IsPageText, IsPrinted, ComesExactly, TakesTree, TakesTreePart, TakesPage, TakesPagePart};
+ghost use Rattle.hp_program.specs.Answers.{IsTooLarge, IsNotText, IsText, IsPageText, IsPrinted, ComesExactly, TakesPart, TakesTree, TakesTreePart, TakesPage, TakesPagePart};
 ghost use Rattle.hp_text.specs.Page.{text_of};
 ghost use Rattle.std.specs.Str.{chars};
+ghost use Rattle.std.specs.Io.KnownBytes.{append_known};
 
 use crate::gate::Gate;
 use crate::status::Status;
@@ -56,6 +57,19 @@ fn answer(alloc: Global, bytes: &[u8]) -> Result<Vec<u8>, Status>
     }
 }
 
+/// Writes a text to `out`.
+fn write_text<K: Sink>(text: &[u8], out: &mut K) -> Status
+    ensures answers { (result ≡ Status.Done) ⊎ (result ≡ Status.WriteFault) }
+    ensures done { result ≡ Status.Done → K.taken out.new ≡ append_known (K.taken out.old) text.now }
+    ensures write_fault { result ≡ Status.WriteFault → Rose (K.faults out.old) (K.faults out.new) }
+    ensures part { result ≡ Status.WriteFault → TakesPart text.now (K.taken out.old) (K.taken out.new) }
+{
+    match write_whole(out, text) {
+        Ok(()) => Status::Done,
+        Err(_) => Status::WriteFault,
+    }
+}
+
 /// Writes the printed tree of the page of these bytes to `out`.
 #[tactic(auto, using(crate::proofs::Written::takes_page, crate::proofs::Written::takes_page_part))]
 fn put_tree<K: Sink>(alloc: Global, bytes: &[u8], out: &mut K) -> Status
@@ -73,10 +87,7 @@ fn put_tree<K: Sink>(alloc: Global, bytes: &[u8], out: &mut K) -> Status
         Ok(text) => text,
         Err(status) => return status,
     };
-    match write_whole(out, &text) {
-        Ok(()) => Status::Done,
-        Err(_) => Status::WriteFault,
-    }
+    write_text(&text, out)
 }
 
 /// Reads the page, and writes its printed tree to `out`. The first refusal decides, in the order reading, UTF-8, writing.

@@ -144,6 +144,9 @@ module _ (p : ℕ → Bool) (low : (c : ℕ) → p c ≡ true → c < 128) where
     low-ReadsRun = cut-ReadsRun p text at count is run low-inside
         (ap (λ (xs : List ℕ). list_all p xs) (chars-IsAscii (take count (drop at text)) (all_ascii (take count (drop at text)) run.passes)) ∙ run.passes)
 
+    pub low-length : length (chars (take count (drop at text))) ≡ count
+    low-length = ap length (chars-IsAscii (take count (drop at text)) (all_ascii (take count (drop at text)) run.passes)) ∙ length-take-le count (drop at text) run.within
+
 -- only ASCII is white space
 pub blank_low : (c : ℕ) → is_blank c ≡ true → c < 128
 blank_low c h = grind arith

@@ -24,7 +24,7 @@ built-single (building.EndTag name) = (tt, tt)
 built-single (building.Comment text) = (tt, tt)
 built-single (building.Doctype d) = (tt, tt)
 
-characters-single : (xs : List ℕ) → AreSingle (map character xs)
+pub characters-single : (xs : List ℕ) → AreSingle (map character xs)
 characters-single [] = tt
 characters-single (x ∷ xs) = ((x, refl, refl), characters-single xs)
 

@@ -1,7 +1,10 @@
 pub mod Characters
 pub mod Texts
+pub mod Fronts
 pub mod Pieces
 pub mod Stepping
 pub mod OneByOne
 pub mod FineRows
 pub mod PlainRuns
+pub mod WholeTexts
+pub mod Searching

@@ -44,7 +44,7 @@ cleared m = record m { after_cr = false }
 abbrev pub rested_at : Machine → ℕ → ℕ → ℕ
 rested_at m p r = cond (is_resting m.state) p r
 
-same_rest : (m : Machine) (q p r : ℕ) (u : List ℕ) → standing m q (rested_at m p r) u ≡ standing m q r u
+pub same_rest : (m : Machine) (q p r : ℕ) (u : List ℕ) → standing m q (rested_at m p r) u ≡ standing m q r u
 same_rest m q p r u = by_cases (is_resting m.state) refl
   where
     by_cases : (b : Bool) → is_resting m.state ≡ b → standing m q (rested_at m p r) u ≡ standing m q r u
@@ -136,7 +136,7 @@ module _ (has : State → Bool) (row : Machine → Option ℕ → Row) (next : L
         ∙ (ap (λ (b : Bool). makes (standing (record m { after_cr = b }) (p + len_utf8 c) (rested_at m p r) u) (begins (rested_at m p r) c ∷ [])) cr
         ∙ ap (λ (x : Lexing). makes x (begins (rested_at m p r) c ∷ [])) (same_rest (cleared m) (p + len_utf8 c) p r u))))
 
-    text_leads : (m : Machine) (p r : ℕ) (cs u : List ℕ) → m.state ≡ s → list_all passes cs ≡ true
+    pub text_leads : (m : Machine) (p r : ℕ) (cs u : List ℕ) → m.state ≡ s → list_all passes cs ≡ true
         → Leads next (standing (cleared m) p r (cs ++ u)) (run_of m p r cs) (standing (cleared m) (p + sum_by len_utf8 cs) r u)
     text_leads m p r [] u e h =
         let P : ℕ → Type 0 = λ q. Leads next (standing (cleared m) p r u) [] (standing (cleared m) q r u) in

@@ -79,6 +79,10 @@ self_closed b = b
 abbrev pub has_name : List ℕ → List Attribute → Bool
 has_name name attributes = list_any (λ a. bytes_eq a.name name) attributes
 
+-- the attribute goes behind the others, unless one of them has its name already
+abbrev pub joined : List Attribute → Attribute → List Attribute
+joined attributes a = if has_name a.name attributes then attributes else attributes ++ a ∷ []
+
 -- The attribute under construction is finished: it goes behind the others, unless the tag has its name already;
 -- then it is dropped with its value.
 abbrev pub added : List Attribute → Option NewAttribute → List Attribute

@@ -39,6 +39,14 @@ plaintext_stops = 0 ∷ 9 ∷ 10 ∷ 12 ∷ 13 ∷ 32 ∷ []
 abbrev pub escaped_stops : List ℕ
 escaped_stops = 0 ∷ 9 ∷ 10 ∷ 12 ∷ 13 ∷ 32 ∷ 45 ∷ 60 ∷ []
 
+-- What ends a text that is emitted as it stands, each code point in its own class: U+0000, CR, and what a state's row does not
+-- emit: `&` and `<`; `<`.
+abbrev pub whole_data_stops : List ℕ
+whole_data_stops = 0 ∷ 13 ∷ 38 ∷ 60 ∷ []
+
+abbrev pub whole_raw_stops : List ℕ
+whole_raw_stops = 0 ∷ 13 ∷ 60 ∷ []
+
 abbrev pub cdata_stops : List ℕ
 cdata_stops = 0 ∷ 9 ∷ 10 ∷ 12 ∷ 13 ∷ 32 ∷ 93 ∷ []
 

@@ -283,3 +283,29 @@ pub(crate) fn copied_part(
         Some(part) => Ok(Some(part.copy(alloc)?)),
     }
 }
+
+ghost use Rattle.hp_tokens.specs.Parts.{joined};
+
+/// Whether one of the attributes has that name.
+#[inline]
+fn are_named(attributes: &Chain<Attribute>, name: &Name) -> bool
+    ensures { result ≡ has_name name.now attributes.now }
+{
+    attributes.iter().any(|attribute| attribute.name.same(name))
+}
+
+/// An attribute goes behind the others, unless one of them has its name.
+#[inline]
+pub fn add(
+    alloc: Global,
+    attributes: &mut Chain<Attribute>,
+    attribute: Attribute,
+) -> Result<(), NoMemory>
+    ensures { OnOk result (attributes.new ≡ joined attributes.old attribute) }
+{
+    if !attributes.is_empty() && are_named(attributes, &attribute.name) {
+        return Ok(());
+    }
+    attributes.push(alloc, attribute)?;
+    Ok(())
+}

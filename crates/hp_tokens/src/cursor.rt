@@ -2,7 +2,9 @@
 ghost use Rattle.std.specs.Prelude.{◌≡◌, ℕ, List, [], ◌∷◌, ◌++◌, length, drop, take, IsUtf8, ◌+◌, ◌<◌, ◌≤◌, ◌^◌, MatchOption, true, false, slice_index, Bool};
 ghost use Rattle.std.specs.List.{list_all};
 
+use crate::plain::WholeDataText;
 use hp_elements::Text;
+use memchr::{memchr, memchr3};
 use std::marker::Model;
 
 /// The place of a text's first byte. Places count from here, so that the few code points that stood before a text, and
@@ -44,7 +46,9 @@ impl<'p> Model for Cursor<'p> {
 
 impl<'p> Cursor<'p> {
     ghost use Rattle.std.specs.Str.{chars};
-    ghost use Rattle.hp_tokens.specs.Reading.{Unread, first, Reads, ReadsRun};
+    ghost use Rattle.hp_tokens.specs.Reading.{Unread, first, Reads, ReadsRun, StopsRun, ReadsAscii, SkipsRun, SkipsPairCr, IsFront, IsAsciiFront, opens_start_tag, opens_end_tag};
+    ghost use Rattle.std.specs.Prelude.{◌≢◌, Some, IsUtf8};
+    ghost use Rattle.hp_tokens.specs.Plain.{none_of, whole_data_stops, whole_raw_stops};
     ghost use Rattle.hp_tokens.specs.Rows.{is_blank};
 
     /// A cursor at the start of a text.
@@ -92,10 +96,99 @@ impl<'p> Cursor<'p> {
         Some(c)
     }
 
+    /// The unread bytes.
+    #[inline(always)]
+    fn rest(&self) -> &'p [u8]
+        ensures chars { chars result.now ≡ self.now.text }
+        ensures utf8 { IsUtf8 result.now }
+    {
+        &self.text.as_bytes()[self.at..]
+    }
+
+    /// The first byte of the next code point, which is the code point where that is ASCII.
+    #[inline(always)]
+    pub fn front(&self) -> Option<u8>
+        ensures { IsFront self.now.text result }
+    {
+        self.rest().first().copied()
+    }
+
+    /// Whether the next two code points are `<` and an ASCII letter.
+    #[inline(always)]
+    pub fn opens_start_tag(&self) -> bool
+        ensures { result ≡ opens_start_tag self.now.text }
+    {
+        opens_start(self.rest())
+    }
+
+    /// Whether the next three code points are `<`, `/` and an ASCII letter.
+    #[inline(always)]
+    pub fn opens_end_tag(&self) -> bool
+        ensures { result ≡ opens_end_tag self.now.text }
+    {
+        opens_end(self.rest())
+    }
+
+    /// Takes the next code point if it is this one, which is ASCII, and answers whether it is.
+    #[inline(always)]
+    pub fn take_byte(&mut self, byte: u8) -> bool
+        requires ascii { byte < 128 }
+        ensures taken { result ≡ true → Reads self.old byte self.new }
+        ensures left { result ≡ false → (self.new ≡ self.old) × (first self.old.text ≢ Some byte) }
+    {
+        let bytes = self.text.as_bytes();
+        if self.at < bytes.len() && bytes[self.at] == byte {
+            self.at += 1;
+            return true;
+        }
+        false
+    }
+
+    /// Takes the tabs, line feeds, form feeds and spaces at the front, and answers whether there are any.
+    #[inline(always)]
+    pub fn skip_blanks(&mut self) -> bool
+        ensures run { SkipsRun is_blank self.old self.new result }
+        ensures stops { StopsRun is_blank self.new }
+    {
+        let count = blanks_len(self.text.as_bytes(), self.at);
+        self.at += count;
+        count > 0
+    }
+
+    /// Takes the CR of a CR LF pair at the front, if there is one.
+    #[inline(always)]
+    pub fn skip_pair_cr(&mut self)
+        ensures { SkipsPairCr self.old self.new }
+    {
+        if is_pair(self.rest()) {
+            self.at += 1;
+        }
+    }
+
+    /// The bytes behind the next code point, which is ASCII.
+    #[inline(always)]
+    pub fn behind_front(&self) -> &'p [u8]
+        requires front { IsAsciiFront 1 self.now.text }
+        ensures chars { chars result.now ≡ drop 1 self.now.text }
+        ensures utf8 { IsUtf8 result.now }
+    {
+        &self.rest()[1..]
+    }
+
+    /// Takes so many code points, which are ASCII.
+    #[inline(always)]
+    pub fn skip_ascii(&mut self, count: usize)
+        requires front { IsAsciiFront count self.old.text }
+        ensures { ReadsAscii count self.old self.new }
+    {
+        self.at += count;
+    }
+
     /// Takes the run of code points at the front that pass.
     #[inline(always)]
     pub fn take_run<R: Run>(&mut self) -> &'p str
         ensures run { ReadsRun R.passes self.old (chars result.now) self.new }
+        ensures stops { StopsRun R.passes self.new }
     {
         let count = run_len::<R>(self.text.as_bytes(), self.at);
         let from = self.at;
@@ -107,8 +200,33 @@ impl<'p> Cursor<'p> {
     #[inline(always)]
     pub fn take_text<R: Run>(&mut self) -> Text<'p>
         ensures run { ReadsRun R.passes self.old result self.new }
+        ensures stops { StopsRun R.passes self.new }
     {
         let count = run_len::<R>(self.text.as_bytes(), self.at);
+        let from = self.at;
+        self.at += count;
+        Text::of_page(self.text, from, self.at)
+    }
+
+    /// Takes the text at the front up to the next `<`, `&`, CR or U+0000, as a part of the text.
+    #[inline]
+    pub fn take_data(&mut self) -> Text<'p>
+        ensures run { ReadsRun (none_of whole_data_stops) self.old result self.new }
+        ensures stops { StopsRun (none_of whole_data_stops) self.new }
+    {
+        let count = data_len(self.text.as_bytes(), self.at);
+        let from = self.at;
+        self.at += count;
+        Text::of_page(self.text, from, self.at)
+    }
+
+    /// Takes the text at the front up to the next `<`, CR or U+0000, as a part of the text.
+    #[inline]
+    pub fn take_raw(&mut self) -> Text<'p>
+        ensures run { ReadsRun (none_of whole_raw_stops) self.old result self.new }
+        ensures stops { StopsRun (none_of whole_raw_stops) self.new }
+    {
+        let count = raw_len(self.text.as_bytes(), self.at);
         let from = self.at;
         self.at += count;
         Text::of_page(self.text, from, self.at)
@@ -118,6 +236,7 @@ impl<'p> Cursor<'p> {
     #[inline(always)]
     pub fn take_blanks(&mut self) -> Text<'p>
         ensures run { ReadsRun is_blank self.old result self.new }
+        ensures stops { StopsRun is_blank self.new }
     {
         let count = blanks_len(self.text.as_bytes(), self.at);
         let from = self.at;
@@ -156,4 +275,78 @@ fn blanks_len(bytes: &[u8], at: usize) -> usize
         }
     }
     bytes.len() - at
+}
+
+ghost use Rattle.hp_tokens.specs.Reading.{opens_start_tag as spec_opens_start, opens_end_tag as spec_opens_end, begins_with_pair};
+
+/// Whether a text begins with `<` and an ASCII letter.
+#[inline(always)]
+fn opens_start(rest: &[u8]) -> bool
+    ensures { result ≡ spec_opens_start rest.now }
+{
+    match rest {
+        [b'<', letter, ..] => letter.is_ascii_alphabetic(),
+        _ => false,
+    }
+}
+
+/// Whether a text begins with `<`, `/` and an ASCII letter.
+#[inline(always)]
+fn opens_end(rest: &[u8]) -> bool
+    ensures { result ≡ spec_opens_end rest.now }
+{
+    match rest {
+        [b'<', b'/', letter, ..] => letter.is_ascii_alphabetic(),
+        _ => false,
+    }
+}
+
+/// Whether a text begins with CR LF.
+#[inline(always)]
+fn is_pair(rest: &[u8]) -> bool
+    ensures { result ≡ begins_with_pair rest.now }
+{
+    match rest {
+        [b'\r', b'\n', ..] => true,
+        _ => false,
+    }
+}
+
+ghost use Rattle.hp_tokens.specs.Plain.{none_of, whole_data_stops, whole_raw_stops};
+
+/// How many bytes are looked at one by one, before a search by vectors begins.
+const NEAR: usize = 24;
+
+/// How many bytes from `at` on stand before the next `<`, `&`, CR or U+0000.
+#[inline]
+fn data_len(bytes: &[u8], at: usize) -> usize
+    requires { at ≤ length bytes.now }
+    ensures { PassesFrom (none_of whole_data_stops) bytes.now at result }
+{
+    let rest = &bytes[at..];
+    let near = &rest[..rest.len().min(NEAR)];
+    let count = run_len::<WholeDataText>(near, 0);
+    if count < near.len() {
+        return count;
+    }
+    far_data_len(rest)
+}
+
+/// The same of a long text.
+#[inline(never)]
+fn far_data_len(rest: &[u8]) -> usize
+    ensures { PassesFrom (none_of whole_data_stops) rest.now 0 result }
+{
+    let count = memchr3(b'<', b'&', b'\r', rest).unwrap_or(rest.len());
+    memchr(b'\0', &rest[..count]).unwrap_or(count)
+}
+
+/// How many bytes from `at` on stand before the next `<`, CR or U+0000.
+#[inline]
+fn raw_len(bytes: &[u8], at: usize) -> usize
+    requires { at ≤ length bytes.now }
+    ensures { PassesFrom (none_of whole_raw_stops) bytes.now at result }
+{
+    let rest = &bytes[at..];
+    memchr3(b'<', b'\r', b'\0', rest).unwrap_or(rest.len())
 }

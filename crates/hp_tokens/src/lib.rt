@@ -16,7 +16,7 @@ mod same;
 pub mod state;
 pub mod steps;
 
-pub use building::{Building, NewAttribute, NewDoctype, NewTag, Part};
+pub use building::{Building, NewAttribute, NewDoctype, NewTag, Part, add};
 pub use combinators::{
     again, back, buffer_emitted, buffer_emitted_at_end, emitted, emitted_again, emitted_at_end,
     emitted_char, ended, flushed, go, is_blank, put, put_lowered, replaced,
@@ -27,11 +27,14 @@ pub use lexing::LexState;
 pub use machine::{Machine, push_char, push_text};
 pub use owned::OwnedText;
 pub use plain::{
-    AttributeNameText, BogusCommentText, CdataText, CommentText, DataText, DoubleQuotedText,
-    EscapedText, PlaintextText, RawText, SingleQuotedText, TagNameText, UnquotedText,
+    AnyAttributeNameText, AnyTagNameText, AttributeNameText, BogusCommentText, CdataText,
+    CommentText, DataText, DoubleQuotedText, EscapedText, PlaintextText, RawText, SingleQuotedText,
+    TagNameText, UnquotedText,
 };
 pub use rows::{EndStep, Reads, Step, Turn};
-pub use runs::{TextRun, next_text, put_run, step_in_part, step_in_text, text_run};
+pub use runs::{
+    TextRun, next_data, next_raw, next_text, put_run, step_in_part, step_in_text, text_run,
+};
 pub use state::{Return, State};
 pub use std::alloc::AllocError as NoMemory;
 pub use steps::{Lexes, Table, advance, at_end, end_by_row, step_by_row};

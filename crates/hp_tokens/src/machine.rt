@@ -29,6 +29,7 @@ pub struct Machine {
 }
 
 impl Machine {
+    ghost use Rattle.hp_tokens.specs.declared.building.Building.TheVariants.{Nothing as nothing_built};
     ghost use Rattle.hp_tokens.specs.States.{enter, state_of_rest};
     ghost use Rattle.hp_tokens.specs.Rows.{resting, putting, putting_text, new_start_tag, new_end_tag, new_comment, new_doctype, new_attribute, self_closing, quirky, EmitsBuilt, Flushes};
     ghost use Rattle.std.specs.Str.{chars};
@@ -70,7 +71,7 @@ impl Machine {
     {
         self.state = state;
         if !state.uses_token() {
-            self.building = Building::Nothing;
+            self.build_nothing();
         }
         if !state.uses_buffer() {
             self.buffer.clear();
@@ -80,6 +81,17 @@ impl Machine {
         }
         if !state.uses_value() {
             self.value = 0;
+        }
+    }
+
+    /// Drops what is built. Where nothing is, nothing is written, since to write it takes long.
+    #[inline]
+    fn build_nothing(&mut self)
+        ensures { self.new ≡ record self.old { building = nothing_built } }
+    {
+        match &self.building {
+            Building::Nothing => {}
+            _ => self.building = Building::Nothing,
         }
     }
 

@@ -1,6 +1,6 @@
 // What the runs go over, one type a class of text.
 ghost use Rattle.std.specs.Prelude.{◌≡◌, [], ◌∷◌, refl};
-ghost use Rattle.hp_tokens.specs.Plain.{none_of, in_name, data_stops, raw_stops, plaintext_stops, escaped_stops, cdata_stops, comment_stops, bogus_comment_stops, double_quoted_stops, single_quoted_stops, unquoted_stops, tag_name_stops, attribute_name_stops};
+ghost use Rattle.hp_tokens.specs.Plain.{none_of, in_name, whole_data_stops, data_stops, raw_stops, plaintext_stops, escaped_stops, cdata_stops, comment_stops, bogus_comment_stops, double_quoted_stops, single_quoted_stops, unquoted_stops, tag_name_stops, attribute_name_stops};
 ghost use Rattle.hp_tokens.specs.PlainLaws.{none-high, name-high, text-other};
 
 use crate::cursor::Run;
@@ -267,6 +267,69 @@ impl Run for AttributeNameText {
     }
 
     ghost high = { name-high attribute_name_stops refl };
+
+    ghost no_cr = { refl };
+}
+
+/// The name of a tag, in any case: up to white space, U+0000, CR, `/` or `>`.
+#[derive(Drop)]
+pub struct AnyTagNameText;
+
+impl Run for AnyTagNameText {
+    ghost passes = { none_of tag_name_stops };
+
+    #[inline]
+    fn passes(byte: u8) -> bool
+        ensures { result ≡ none_of tag_name_stops byte }
+    {
+        !matches!(
+            byte,
+            b'\0' | b'\t' | b'\n' | b'\x0c' | b'\r' | b' ' | b'/' | b'>'
+        )
+    }
+
+    ghost high = { none-high tag_name_stops refl };
+
+    ghost no_cr = { refl };
+}
+
+/// The name of an attribute, in any case: up to white space, U+0000, CR, `/`, `=` or `>`.
+#[derive(Drop)]
+pub struct AnyAttributeNameText;
+
+impl Run for AnyAttributeNameText {
+    ghost passes = { none_of attribute_name_stops };
+
+    #[inline]
+    fn passes(byte: u8) -> bool
+        ensures { result ≡ none_of attribute_name_stops byte }
+    {
+        !matches!(
+            byte,
+            b'\0' | b'\t' | b'\n' | b'\x0c' | b'\r' | b' ' | b'/' | b'=' | b'>'
+        )
+    }
+
+    ghost high = { none-high attribute_name_stops refl };
+
+    ghost no_cr = { refl };
+}
+
+/// Text in the data state and in RCDATA, whatever its class: up to U+0000, CR, `&` or `<`.
+#[derive(Drop)]
+pub struct WholeDataText;
+
+impl Run for WholeDataText {
+    ghost passes = { none_of whole_data_stops };
+
+    #[inline]
+    fn passes(byte: u8) -> bool
+        ensures { result ≡ none_of whole_data_stops byte }
+    {
+        !matches!(byte, b'\0' | b'\r' | b'&' | b'<')
+    }
+
+    ghost high = { none-high whole_data_stops refl };
 
     ghost no_cr = { refl };
 }

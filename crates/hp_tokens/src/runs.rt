@@ -174,3 +174,70 @@ pub fn next_text<'p, T: Table, R: TextRun>(
     *rested = place;
     Some(token)
 }
+
+ghost use Rattle.std.specs.Prelude.{map, length, ◌<◌};
+ghost use Rattle.std.specs.List.{list_all};
+ghost use Rattle.hp_tokens.specs.Rows.{character};
+ghost use Rattle.hp_tokens.specs.Plain.{none_of, whole_data_stops, whole_raw_stops};
+
+/// The text at the front up to the next `<`, `&`, CR or U+0000, where a CR LF pair that comes first is LF, in a resting state, where
+/// `rested` becomes the place of its start; `None` where there is none, and then nothing changes. It is what calls of `advance` do there, with each code point
+/// in a token of its own.
+#[inline]
+pub fn next_data<'p, T: Table>(
+    state: &LexState,
+    input: &mut Cursor<'p>,
+    rested: &mut u64,
+) -> Option<Text<'p>>
+    requires row { IsTrue (T.has_row state.now.machine.state) }
+    requires plain { EmitsPlain T.row_of (none_of whole_data_stops) state.now.machine.state }
+    requires resting { is_resting state.now.machine.state ≡ true }
+    requires held { held state.now ≤ input.old.place }
+    ensures turn { IfSome result (λ text. (rules : Rules) (here : State → Bool) → HasRows rules T.has_row T.row_of → Turned rules here (lexing state.now input.old rested.old) [] (lexing state.now input.new rested.new) (map character text) rested.new turns.Emitted) }
+    ensures no_nul { IfSome result (λ text. list_all (none_of (0 ∷ [])) text ≡ true) }
+    ensures long { IfSome result (λ text. 0 < length text) }
+    ensures none { IfNone result ((input.new ≡ input.old) × (rested.new ≡ rested.old)) }
+    ensures held { held state.now ≤ input.new.place }
+{
+    if state.machine.after_cr || !state.ahead.is_empty() {
+        return None;
+    }
+    let place = input.place();
+    input.skip_pair_cr();
+    let text = input.take_data();
+    if text.is_empty() {
+        return None;
+    }
+    *rested = place;
+    Some(text)
+}
+
+/// The same up to the next `<`, CR or U+0000.
+#[inline]
+pub fn next_raw<'p, T: Table>(
+    state: &LexState,
+    input: &mut Cursor<'p>,
+    rested: &mut u64,
+) -> Option<Text<'p>>
+    requires row { IsTrue (T.has_row state.now.machine.state) }
+    requires plain { EmitsPlain T.row_of (none_of whole_raw_stops) state.now.machine.state }
+    requires resting { is_resting state.now.machine.state ≡ true }
+    requires held { held state.now ≤ input.old.place }
+    ensures turn { IfSome result (λ text. (rules : Rules) (here : State → Bool) → HasRows rules T.has_row T.row_of → Turned rules here (lexing state.now input.old rested.old) [] (lexing state.now input.new rested.new) (map character text) rested.new turns.Emitted) }
+    ensures no_nul { IfSome result (λ text. list_all (none_of (0 ∷ [])) text ≡ true) }
+    ensures long { IfSome result (λ text. 0 < length text) }
+    ensures none { IfNone result ((input.new ≡ input.old) × (rested.new ≡ rested.old)) }
+    ensures held { held state.now ≤ input.new.place }
+{
+    if state.machine.after_cr || !state.ahead.is_empty() {
+        return None;
+    }
+    let place = input.place();
+    input.skip_pair_cr();
+    let text = input.take_raw();
+    if text.is_empty() {
+        return None;
+    }
+    *rested = place;
+    Some(text)
+}

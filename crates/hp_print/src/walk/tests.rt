@@ -3,7 +3,10 @@
 use crate::print_tree;
 use hp_arena::Tree;
 use hp_control::{Child, Edit, Edits, Place, Ref};
-use hp_elements::{Attribute, AttributeSpace, Chain, Known, Name, Namespace, NoMemory, Tag, Text};
+use hp_elements::{
+    Attribute, AttributeSpace, Chain, Doctype, DoctypeParts, Known, Name, Namespace, NoMemory, Tag,
+    Text,
+};
 use std::alloc::Global;
 use std::mem;
 use std::process::Abort;
@@ -116,12 +119,14 @@ fn edit_of(alloc: Global, step: Step) -> Result<Edit<'static>, NoMemory> {
             let name = Text::from_str(alloc, "html")?;
             let public = identifier(alloc, public)?;
             let system = identifier(alloc, system)?;
-            let child = Child::Doctype {
-                name,
+            let parts = DoctypeParts {
+                name: Some(name),
                 public,
                 system,
+                force_quirks: false,
             };
-            (child, Place::Into(Ref::Fixed(0)))
+            let doctype = Doctype::new(alloc, parts)?;
+            (Child::Doctype(doctype), Place::Into(Ref::Fixed(0)))
         }
         Step::Put(id, parent) => (
             Child::Element(Ref::Fixed(id)),
