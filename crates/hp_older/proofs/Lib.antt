@@ -23,3 +23,4 @@ pub mod Table
 pub mod Chunks
 pub mod Tokens
 pub mod Whole
+pub mod Deep

@@ -1,6 +1,6 @@
 -- A chunk's tokens, by induction; and where its view begins.
-use Rattle.std.proofs.Common.{◌≡◌, List, [], ◌∷◌, ◌++◌, Bool, true, false, refl, sym, ap, ◌∙◌, subst, inl, inr, append-nil, None}
-use Rattle.std.specs.Prelude.{◌⊎◌, Result, Ok, Err, map}
+use Rattle.std.proofs.Common.{◌≡◌, List, [], ◌∷◌, true, refl, sym, ap, ◌∙◌, subst, inl, inr, append-nil, None}
+use Rattle.std.specs.Prelude.{Result, Ok, Err, map}
 use Rattle.hp_elements.specs.declared.token.Token.{Token}
 use Rattle.hp_control.specs.declared.question.Crossing.{Crossing}
 use Rattle.hp_control.specs.declared.question.Question.{Question}
@@ -8,7 +8,7 @@ use Rattle.hp_control.specs.declared.question.Question.TheVariants as ask
 use Rattle.hp_control.specs.declared.question.Answer.{Answer}
 use Rattle.hp_control.specs.Agree.{AllTrue, ends_alike, true_alike}
 use Rattle.hp_control.specs.Apply.{named_edit}
-use Rattle.hp_control.specs.Faithful.{Split, StandsOn, state_over}
+use Rattle.hp_control.specs.Faithful.{Split, state_over}
 use Rattle.hp_control.specs.Outcome.{touches}
 use Rattle.hp_control.specs.Plan.{Heard, Runs, asked_by, end_by, noting}
 use Rattle.hp_control.specs.Running.{on_end, end_then}

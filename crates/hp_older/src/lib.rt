@@ -3,6 +3,7 @@
 #![tactic(auto)]
 
 ghost use Rattle.hp_older.specs.Chunk.{ChunksHandled, ViewsBegin};
+ghost use Rattle.hp_older.specs.Examples.{TurnsRunOut};
 ghost use Rattle.hp_older.specs.Laws.{Begins, ChunksStay, TokensGoOn, TokensHandled, TokensTold};
 
 /// Where a chunk begins its state goes on from the older one: it has no new elements. So does the view over an older state that
@@ -27,4 +28,9 @@ pub fn tokens_over()
 /// cross by what is touched, or at a token that has more turns than a view takes.
 pub fn chunk_handled()
     ensures { ChunksHandled }
+{}
+
+/// A view's turns may run out where nothing older is touched: not over a state of a page, but over a valid one.
+pub fn turns_by_example()
+    ensures { TurnsRunOut }
 {}
