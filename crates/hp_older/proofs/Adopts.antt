@@ -1,27 +1,24 @@
 -- Adoption, links and forms leave templates and cells as they are.
-use Rattle.std.proofs.Common.{◌≡◌, ℕ, zero, suc, ◌+◌, ◌-◌, ◌≤◌, ◌<◌, ◌==◌, List, [], ◌∷◌, ◌++◌, take, drop, length, Bool, true, false, ◌||◌, ◌&&◌, not, refl, sym, ap, ◌∙◌, subst, arith, append_assoc, append-nil, Option, None, Some, nat_le, nat_lt}
+use Rattle.std.proofs.Common.{◌≡◌, ℕ, zero, suc, ◌+◌, ◌<◌, ◌==◌, List, [], ◌∷◌, ◌++◌, take, drop, length, Bool, true, false, ◌&&◌, not, refl, sym, ap, ◌∙◌, subst, arith, append-nil, Option, None, Some, nat_lt}
 use Rattle.std.specs.Prelude.{if◌then◌else◌, All, IfSome}
 use Rattle.std.specs.List.{list_all}
-use Rattle.std.specs.Option.{is_some, option_map}
-use Rattle.std.specs.Str.{bytes_eq}
-use Rattle.std.proofs.lemmas.Bool.{and_parts, and_from, true≢false, lt-leb, eqb-true}
+use Rattle.std.specs.Option.{option_map}
+use Rattle.std.proofs.lemmas.Bool.{true≢false, eqb-true}
 use Rattle.std.proofs.lemmas.List.{length-drop}
 use Rattle.std.proofs.lemmas.List.Elements.{All-nil, All-cons, All-head, All-tail}
-use Rattle.hp_elements.specs.Names.{is_among, text_of, words}
+use Rattle.hp_elements.specs.Names.{is_among, words}
 use Rattle.hp_elements.specs.Sets.{in_set, members}
 use Rattle.hp_elements.specs.declared.kinds.Kinds.TheVariants as kinds
-use Rattle.hp_elements.specs.declared.known.Known.TheVariants as known
 use Rattle.hp_elements.specs.declared.sets.SetName.TheVariants as sets
 use Rattle.hp_elements.specs.declared.tag.Tag.{Tag}
 use Rattle.hp_control.specs.declared.edit.Ref.TheVariants.{Fixed}
 use Rattle.hp_control.specs.declared.element.OpenElement.{OpenElement}
-use Rattle.hp_control.specs.declared.element.FormattingEntry.{FormattingEntry}
-use Rattle.hp_control.specs.declared.element.FormattingEntry.TheVariants.{Marker, Element}
-use Rattle.hp_control.specs.Acts.{element_for, pop, pop_by, popped_by, take_off, taken_off, without}
-use Rattle.hp_control.specs.Adoption.{Climbed, Seat, Spot, adopt, adopt_once, at_block, between, block_case, edit_at, entry_case, find_id, find_name, furthest, goes_on, Hidden, hides, is_plain, nearer, open_case, pass, pass_all, pass_listed, renewed, strike, turn, turn_in, turns}
+use Rattle.hp_control.specs.declared.element.FormattingEntry.TheVariants.{Element}
+use Rattle.hp_control.specs.Acts.{element_for, pop_by, popped_by, take_off, taken_off, without}
+use Rattle.hp_control.specs.Adoption.{Climbed, Seat, Spot, adopt_once, at_block, between, block_case, edit_at, entry_case, find_id, find_name, furthest, Hidden, hides, nearer, open_case, pass, pass_all, pass_listed, renewed, strike, turn, turn_in}
 use Rattle.hp_control.specs.KindTests.{within}
-use Rattle.hp_control.specs.Outcome.{Act, and_then, choose, nothing_done}
-use Rattle.hp_control.specs.States.{ControlState, IsFormatting, IsNew, entry_ids, is_html, is_rooted}
+use Rattle.hp_control.specs.Outcome.{and_then}
+use Rattle.hp_control.specs.States.{ControlState, IsFormatting, entry_ids, is_html, is_rooted}
 use Rattle.hp_control.specs.Walks.{open_at}
 use Rattle.hp_model.proofs.Adopting.{IsEntry, entry-id, id-found, name-found}
 use Rattle.hp_model.proofs.Ids.{is_id, new-none}
@@ -29,7 +26,7 @@ use Rattle.hp_model.proofs.Stacks.{deeper, refused, rooted-some, rooted-under}
 use Rattle.hp_model.proofs.Tally.{tally}
 use Rattle.hp_model.proofs.Thinning.{edited-formatting, not_root, one_entry}
 use Rattle.hp_model.proofs.Thins.{Ready, Thins, entry_is, ready_after, tally-entries}
-use Rattle.hp_older.specs.GoesOn.{IsFree, is_new, kept}
+use Rattle.hp_older.specs.GoesOn.{IsFree, is_new}
 use Rattle.hp_older.proofs.Kept.{kept-append, kept-no}
 use Rattle.hp_older.proofs.Keys.{named-within, named_in, not-true}
 use Rattle.hp_older.proofs.Effects.{Leaves, leaves_then, nothing_leaves, pops-by, walk-weak}

@@ -1,15 +1,15 @@
 -- A valid state goes on from itself: it has no new elements.
-use Rattle.std.proofs.Common.{◌≡◌, ◌+◌, List, [], ◌∷◌, length, Bool, true, false, refl, sym, ap, ◌∙◌, subst, arith}
+use Rattle.std.proofs.Common.{◌≡◌, List, [], ◌∷◌, length, Bool, true, refl, sym, ap, subst, arith}
 use Rattle.std.specs.Prelude.{All}
 use Rattle.std.proofs.lemmas.Bool.{lt-leb}
 use Rattle.std.proofs.lemmas.List.Elements.{All-nil}
 use Rattle.hp_elements.specs.declared.token.Mode.{Mode}
 use Rattle.hp_elements.specs.declared.token.Mode.TheVariants as mode
 use Rattle.hp_control.specs.declared.element.OpenElement.{OpenElement}
-use Rattle.hp_control.specs.States.{ControlState, AreIds, IsValid}
+use Rattle.hp_control.specs.States.{ControlState, AreIds}
 use Rattle.hp_model.specs.Finding.{is_empty}
 use Rattle.hp_model.proofs.Thins.{ids_of}
-use Rattle.hp_older.specs.GoesOn.{GoesOn, IsFree, back_mode, comes, fits_mode, is_a, is_key, is_new, is_plain_top, no_new, own, top_fits}
+use Rattle.hp_older.specs.GoesOn.{IsFree, back_mode, fits_mode, is_a, is_plain_top, own, top_fits}
 use Rattle.hp_older.specs.Laws.{Begins}
 use Rattle.hp_older.proofs.Kept.{own-older}
 

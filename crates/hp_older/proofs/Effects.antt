@@ -1,10 +1,9 @@
 -- The acts that pop leave so much of the new elements, and never pop the only element.
-use Rattle.std.proofs.Common.{◌≡◌, ℕ, zero, suc, ◌+◌, ◌≤◌, ◌<◌, List, [], ◌∷◌, take, drop, length, Bool, true, false, ◌||◌, ◌&&◌, not, refl, sym, ap, ◌∙◌, subst, arith, Option, None, Some, nat_le}
+use Rattle.std.proofs.Common.{◌≡◌, ℕ, ◌+◌, ◌<◌, List, [], ◌∷◌, length, Bool, true, false, ◌||◌, ◌&&◌, not, refl, sym, ap, ◌∙◌, subst, arith, Option, None, Some}
 use Rattle.std.specs.Prelude.{if◌then◌else◌}
 use Rattle.std.specs.List.{list_all}
-use Rattle.std.specs.Option.{is_some, option_map}
+use Rattle.std.specs.Option.{is_some}
 use Rattle.std.specs.Str.{bytes_eq}
-use Rattle.std.proofs.Math.Bool.{or-true}
 use Rattle.std.proofs.lemmas.Bool.{and_parts, and_from, true≢false, lt-leb}
 use Rattle.hp_elements.specs.Names.{is_among, lowered, text_of, words}
 use Rattle.hp_elements.specs.Sets.{members}
@@ -13,7 +12,6 @@ use Rattle.hp_elements.specs.declared.kinds.Kinds.{Kinds}
 use Rattle.hp_elements.specs.declared.kinds.Kinds.TheVariants as kinds
 use Rattle.hp_elements.specs.declared.known.Known.{Known}
 use Rattle.hp_elements.specs.declared.known.Known.TheVariants as known
-use Rattle.hp_elements.specs.declared.sets.SetName.{SetName}
 use Rattle.hp_elements.specs.declared.sets.SetName.TheVariants as sets
 use Rattle.hp_control.specs.declared.element.OpenElement.{OpenElement}
 use Rattle.hp_control.specs.Acts.{above, pop_by, pop_run, pop_to, popped_by, through, through_named, walk, with_it}
@@ -27,12 +25,12 @@ use Rattle.hp_model.specs.Steps.{implied_but_for}
 use Rattle.hp_elements.proofs.FindLemmas.{equal_bytes}
 use Rattle.hp_model.proofs.Courses.{bytes_eq-same}
 use Rattle.hp_model.proofs.Stacks.{rooted-drop}
-use Rattle.hp_older.specs.GoesOn.{is_new, kept, own}
+use Rattle.hp_older.specs.GoesOn.{is_new}
 use Rattle.hp_older.proofs.Keys.{apart-foreign, apart-name, apart-set, named-named, named-within, named_in, not-true}
 use Rattle.hp_older.proofs.Popping.{all-popped, kept-run, kept-through, kept-to, reach-root, reach-short, run-short, shown-reach, shown-run}
-use Rattle.hp_older.proofs.Levels.{Strong, Thin, Weak, core_names, key_names, own_of, strong-weak, strong_pop, template_names, thin_pop, weak-thin, weak_all, weak_pop, weak_then}
+use Rattle.hp_older.proofs.Levels.{Strong, Thin, Weak, core_names, key_names, strong-weak, strong_pop, template_names, thin_pop, weak-thin, weak_all, weak_pop, weak_then}
 
-or_left : (b : Bool) → b ≡ true → (b || false) ≡ true
+pub or_left : (b : Bool) → b ≡ true → (b || false) ≡ true
 or_left true h = refl
 or_left false h = absurd (true≢false (sym h))
 
@@ -184,7 +182,7 @@ strong_leaves s f c h = (strong-weak s c.stack (f c).control.stack h.0, h.1)
 pub weak_leaves : (s : ControlState) (f : Act) (c : ControlState) → Leaves (Weak s c.stack) f c → Leaves (Thin s c.stack) f c
 weak_leaves s f c h = (weak-thin s c.stack (f c).control.stack h.0, h.1)
 
-run_rooted : (names : Kinds) (c : ControlState) → is_rooted c.stack ≡ true → run_of names c.stack < length c.stack → is_rooted (pop_run names c).control.stack ≡ true
+pub run_rooted : (names : Kinds) (c : ControlState) → is_rooted c.stack ≡ true → run_of names c.stack < length c.stack → is_rooted (pop_run names c).control.stack ≡ true
 run_rooted names c r l = subst (λ es. is_rooted es ≡ true) (sym (all-popped (run_of names c.stack) c.stack l)) (rooted-drop (run_of names c.stack) c.stack l r)
 
 pub close-weak : (s : ControlState) (k : Known) (ends : Kinds) (c : ControlState) → is_rooted c.stack ≡ true → is_among (words "html") (text_of k) ≡ false → is_among core_names (text_of k) ≡ false

@@ -1,14 +1,14 @@
 -- The elements of a stack that pass a test.
-use Rattle.std.proofs.Common.{◌≡◌, ℕ, zero, suc, ◌+◌, ◌≤◌, ◌<◌, List, [], ◌∷◌, ◌++◌, take, drop, length, map, Bool, true, false, ◌||◌, ◌&&◌, not, refl, sym, ap, ◌∙◌, subst, arith, Option, None, Some, nat_le, nat_lt}
+use Rattle.std.proofs.Common.{◌≡◌, ℕ, zero, suc, List, [], ◌∷◌, ◌++◌, drop, length, Bool, true, false, ◌||◌, ◌&&◌, refl, sym, ap, ◌∙◌, arith, nat_lt}
 use Rattle.std.specs.Prelude.{if◌then◌else◌, All}
 use Rattle.std.specs.List.{list_any}
-use Rattle.std.proofs.lemmas.Bool.{and_parts, and_from, true≢false, lt-leb, le-leb, lt-ltb, le-ltb}
-use Rattle.std.proofs.lemmas.List.Elements.{All-nil, All-cons, All-head, All-tail}
+use Rattle.std.proofs.lemmas.Bool.{true≢false, lt-leb, lt-ltb}
+use Rattle.std.proofs.lemmas.List.Elements.{All-nil, All-cons}
 use Rattle.hp_control.specs.declared.element.OpenElement.{OpenElement}
-use Rattle.hp_control.specs.States.{ControlState, AreIds, is_template}
+use Rattle.hp_control.specs.States.{ControlState, AreIds}
 use Rattle.hp_model.specs.Finding.{is_empty}
 use Rattle.hp_model.proofs.Thins.{ids_of}
-use Rattle.hp_older.specs.GoesOn.{comes, is_new, kept, no_new, own}
+use Rattle.hp_older.specs.GoesOn.{is_new, kept, own}
 
 pub kept-no : (p : OpenElement → Bool) (e : OpenElement) (es : List OpenElement) → p e ≡ false → kept p (e ∷ es) ≡ kept p es
 kept-no p e es h = ap (λ b. if b then e ∷ kept p es else kept p es) h

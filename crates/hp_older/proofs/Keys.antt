@@ -1,12 +1,11 @@
 -- Elements of some names, against the sets and kinds that the rules name.
 use Rattle.std.proofs.Common.{◌≡◌, ℕ, List, [], ◌∷◌, Bool, true, false, ◌||◌, ◌&&◌, not, refl, sym, ap, ◌∙◌, subst}
-use Rattle.std.specs.List.{list_all, list_any}
+use Rattle.std.specs.List.{list_all}
 use Rattle.std.specs.Str.{bytes_eq}
 use Rattle.std.proofs.lemmas.Bool.{and_parts, and_from, true≢false}
 use Rattle.hp_elements.specs.Kinds.{is_html as is_html_space}
-use Rattle.hp_elements.specs.Names.{text_of, is_among}
-use Rattle.hp_elements.specs.Sets.{in_set, is_member, members}
-use Rattle.hp_elements.specs.declared.kinds.Kinds.{Kinds}
+use Rattle.hp_elements.specs.Names.{is_among}
+use Rattle.hp_elements.specs.Sets.{in_set, is_member}
 use Rattle.hp_elements.specs.declared.kinds.Kinds.TheVariants as kinds
 use Rattle.hp_elements.specs.declared.sets.Namespace.{Namespace}
 use Rattle.hp_elements.specs.declared.sets.Namespace.TheVariants.{Html, MathMl, Svg}

@@ -1,14 +1,14 @@
 -- How much of the new elements an act leaves as they are.
-use Rattle.std.proofs.Common.{◌≡◌, ℕ, zero, suc, ◌+◌, ◌≤◌, ◌<◌, List, [], ◌∷◌, ◌++◌, take, drop, length, Bool, true, false, ◌||◌, ◌&&◌, not, refl, sym, ap, ◌∙◌, subst, arith, Option, None, Some}
-use Rattle.std.specs.Prelude.{if◌then◌else◌, All}
+use Rattle.std.proofs.Common.{◌≡◌, ℕ, ◌<◌, List, [], ◌∷◌, drop, length, Bool, true, false, ◌&&◌, refl, sym, ap, ◌∙◌}
+use Rattle.std.specs.Prelude.{if◌then◌else◌}
 use Rattle.std.specs.List.{list_all}
-use Rattle.std.proofs.lemmas.Bool.{and_parts, and_from, true≢false}
+use Rattle.std.proofs.lemmas.Bool.{true≢false}
 use Rattle.hp_elements.specs.Names.{is_among, words}
 use Rattle.hp_control.specs.declared.element.OpenElement.{OpenElement}
 use Rattle.hp_control.specs.Acts.{popped_by}
 use Rattle.hp_control.specs.States.{ControlState}
-use Rattle.hp_older.specs.GoesOn.{is_a, is_key, is_new, kept, own}
-use Rattle.hp_older.proofs.Kept.{kept-drop, kept-no, kept-of, kept-part}
+use Rattle.hp_older.specs.GoesOn.{is_new, kept}
+use Rattle.hp_older.proofs.Kept.{kept-drop, kept-part}
 use Rattle.hp_older.proofs.Keys.{named-named, named_in}
 use Rattle.hp_older.proofs.Popping.{all-popped}
 

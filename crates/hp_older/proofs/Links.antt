@@ -1,15 +1,13 @@
 -- Whole adoptions, links and forms, and what is made anew.
-use Rattle.std.proofs.Common.{◌≡◌, ℕ, zero, suc, ◌+◌, ◌≤◌, ◌<◌, List, [], ◌∷◌, ◌++◌, drop, length, Bool, true, false, ◌||◌, ◌&&◌, not, refl, sym, ap, ◌∙◌, subst, arith, Option, None, Some, nat_le}
-use Rattle.std.specs.Prelude.{if◌then◌else◌, All, IfSome, slice_get}
+use Rattle.std.proofs.Common.{◌≡◌, ℕ, zero, suc, ◌<◌, List, [], ◌∷◌, drop, length, Bool, true, false, ◌||◌, ◌&&◌, refl, sym, ap, ◌∙◌, subst, arith, Option, None, Some}
+use Rattle.std.specs.Prelude.{if◌then◌else◌, IfSome, slice_get}
 use Rattle.std.specs.List.{list_all}
-use Rattle.std.specs.Option.{is_some}
 use Rattle.std.specs.Str.{bytes_eq}
-use Rattle.std.proofs.lemmas.Bool.{and_parts, and_from, true≢false, lt-leb}
+use Rattle.std.proofs.lemmas.Bool.{and_parts, true≢false, lt-leb}
 use Rattle.hp_elements.specs.Kinds.{is_html as is_html_space}
 use Rattle.hp_elements.specs.Names.{is_among, text_of, words}
 use Rattle.hp_elements.specs.Sets.{members}
 use Rattle.hp_elements.specs.declared.act.Scope.TheVariants as scope
-use Rattle.hp_elements.specs.declared.kinds.Kinds.{Kinds}
 use Rattle.hp_elements.specs.declared.kinds.Kinds.TheVariants as kinds
 use Rattle.hp_elements.specs.declared.known.Known.TheVariants as known
 use Rattle.hp_elements.specs.declared.sets.Namespace.{Namespace}
@@ -19,29 +17,24 @@ use Rattle.hp_control.specs.declared.edit.Child.TheVariants as child
 use Rattle.hp_control.specs.declared.element.OpenElement.{OpenElement}
 use Rattle.hp_control.specs.declared.element.FormattingEntry.{FormattingEntry}
 use Rattle.hp_control.specs.declared.element.FormattingEntry.TheVariants.{Marker, Element}
-use Rattle.hp_control.specs.Acts.{element_for, empty_form, insert, pop, pop_run, popped_by, put_here, frameset_not_ok, remove_entry, take_off, through_named}
-use Rattle.hp_control.specs.Adoption.{Spot, adopt, find_name, goes_on, is_plain, plain_top, reconstruct, relist, renew, renew_down, renew_entry, stale, turn, turns}
-use Rattle.hp_control.specs.Composed.{close_link, close_link_of, drop_entry, end_form, end_form_in_template, end_form_of, flush, foster_character, foster_characters, implied, is_open_form, is_white, named_in_scope, put_characters, template_in_stack}
+use Rattle.hp_control.specs.Acts.{element_for, empty_form, insert, pop, pop_run, put_here, frameset_not_ok, remove_entry, take_off, through_named}
+use Rattle.hp_control.specs.Adoption.{Spot, adopt, find_name, goes_on, is_plain, plain_top, reconstruct, renew, renew_down, renew_entry, stale, turn, turns}
+use Rattle.hp_control.specs.Composed.{close_link, close_link_of, drop_entry, end_form, end_form_in_template, end_form_of, foster_character, foster_characters, implied, is_open_form, is_white, named_in_scope, put_characters, template_in_stack}
 use Rattle.hp_control.specs.Foreign.{insert_in, tag_in}
 use Rattle.hp_control.specs.KindTests.{within}
 use Rattle.hp_control.specs.Outcome.{Act, and_then, choose, nothing_done}
-use Rattle.hp_control.specs.States.{ControlState, IsFormatting, is_html, is_rooted}
+use Rattle.hp_control.specs.States.{ControlState, is_html, is_rooted}
 use Rattle.hp_control.specs.Walks.{has_entry, run_of, seen}
-use Rattle.hp_model.proofs.Adopting.{IsEntry, entry-id, name-found, thinning_adopt}
+use Rattle.hp_model.proofs.Adopting.{entry-id, name-found, thinning_adopt, thinning_turn}
 use Rattle.hp_model.proofs.Stacks.{rooted-some}
 use Rattle.hp_model.proofs.Thinning.{got-formatting, thinning_drop_entry, thinning_empty_form, thinning_implied, thinning_reconstruct, thinning_renew}
-use Rattle.hp_model.proofs.Thins.{Ready, Thins, Thinning, ready_after, thins_all}
-use Rattle.hp_older.specs.GoesOn.{IsFree, is_new, kept}
-use Rattle.hp_older.proofs.Kept.{kept-no}
-use Rattle.hp_older.proofs.Keys.{apart-foreign, apart-name, apart-set, named-within, named_in, not-true}
+use Rattle.hp_model.proofs.Thins.{Ready, ready_after}
+use Rattle.hp_older.proofs.Keys.{apart-foreign, apart-name, apart-set, named-within, named_in}
 use Rattle.hp_older.proofs.Popping.{all-popped, run-short, shown-run}
-use Rattle.hp_older.proofs.Effects.{Leaves, apart-fewer, choose_leaves, implied-strong, leaves_then, named-of, nothing_leaves, other_name, pops-by, root-apart, root-html, run_rooted, shown-weak, strong_leaves}
+use Rattle.hp_older.proofs.Effects.{Leaves, choose_leaves, implied-strong, leaves_then, nothing_leaves, other_name, pops-by, root-apart, root-html, run_rooted, shown-weak, strong_leaves}
 use Rattle.hp_older.proofs.Levels.{Strong, Weak, core_names, fewer, key_names, own_of, weak_all, weak_pop}
 use Rattle.hp_older.proofs.Adopts.{Apart, Careful, careful_after, formatting_plain, listed-apart, off-weak, pointed-apart, turn-weak}
 use Rattle.hp_older.proofs.Pushing.{own-same}
-
-thinning_turn : (fostering : Bool) (name : List ℕ) → Thinning (turn fostering name)
-thinning_turn fostering name = ?
 
 pub turns-weak : (n : ℕ) (s : ControlState) (fostering : Bool) (name : List ℕ) (c : ControlState) → is_among (words "html") name ≡ false → is_among core_names name ≡ false → Careful s c → Leaves (Weak s c.stack) (turns n fostering name) c
 unfolding turns
@@ -61,9 +54,7 @@ top-short e (f ∷ es) r h = omega arith
 plain-pop : (s : ControlState) (name : List ℕ) (c : ControlState) (st : List OpenElement) → c.stack ≡ st → is_rooted c.stack ≡ true → is_among (words "html") name ≡ false → is_among core_names name ≡ false → plain_top name st c.formatting ≡ true → Leaves (Weak s c.stack) pop c
 plain-pop s name c [] q r nh nc h = absurd (true≢false (sym h))
 plain-pop s name c (e ∷ es) q r nh nc h =
-    let first = and_parts (is_html e) _ h in
-    let inner = and_parts (bytes_eq name e.name) _ first.1 in
-    let one : within (kinds.Html name) e ≡ true = and_from (is_html e) (bytes_eq name e.name) first.0 inner.0 in
+    let one : within (kinds.Html name) e ≡ true = (and_parts (is_html e && bytes_eq name e.name) _ h).0 in
     let short : 1 < length c.stack = subst (λ x. 1 < length x) (sym q) (top-short e es (subst (λ x. is_rooted x ≡ true) q r) (apart-name (words "html") name nh e one)) in
     let same : own_of s core_names (drop 1 c.stack) ≡ own_of s core_names c.stack = subst (λ x. own_of s core_names (drop 1 x) ≡ own_of s core_names x) (sym q) (sym (own-same s core_names e es (apart-name core_names name nc e one))) in
     pops-by (Weak s c.stack) 1 c short (weak_pop s 1 c.stack short same)

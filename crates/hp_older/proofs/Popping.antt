@@ -1,18 +1,18 @@
 -- What pops leave of the new elements of some test.
-use Rattle.std.proofs.Common.{◌≡◌, ℕ, zero, suc, ◌+◌, ◌-◌, ◌≤◌, ◌<◌, ◌==◌, List, [], ◌∷◌, ◌++◌, take, drop, length, min, Bool, true, false, ◌||◌, ◌&&◌, not, refl, sym, ap, ◌∙◌, subst, arith, Option, None, Some, nat_le}
+use Rattle.std.proofs.Common.{◌≡◌, ℕ, suc, ◌+◌, ◌-◌, ◌<◌, List, [], ◌∷◌, drop, length, min, Bool, true, false, refl, sym, ap, ◌∙◌, subst, arith, Option, None, Some}
 use Rattle.std.specs.Prelude.{if◌then◌else◌}
 use Rattle.std.specs.Option.{is_some, option_map}
-use Rattle.std.proofs.lemmas.Bool.{and_parts, and_from, true≢false, lt-leb, le-leb}
+use Rattle.std.proofs.lemmas.Bool.{true≢false}
 use Rattle.hp_elements.specs.declared.kinds.Kinds.{Kinds}
 use Rattle.hp_elements.specs.declared.kinds.Kinds.TheVariants as kinds
 use Rattle.hp_control.specs.declared.element.OpenElement.{OpenElement}
-use Rattle.hp_control.specs.Acts.{above, popped_by, with_it, without}
+use Rattle.hp_control.specs.Acts.{above, popped_by}
 use Rattle.hp_control.specs.KindTests.{within}
 use Rattle.hp_control.specs.States.{is_rooted}
-use Rattle.hp_control.specs.Walks.{open_at, reach, run_of, seen}
-use Rattle.hp_model.proofs.Stacks.{deeper, rooted-some}
+use Rattle.hp_control.specs.Walks.{reach, run_of, seen}
+use Rattle.hp_model.proofs.Stacks.{deeper}
 use Rattle.hp_older.specs.GoesOn.{kept}
-use Rattle.hp_older.proofs.Kept.{kept-append, kept-no}
+use Rattle.hp_older.proofs.Kept.{kept-no}
 
 -- as many are popped as asked, where more elements are there
 pub all-popped : (k : ℕ) (es : List OpenElement) → k < length es → popped_by k es ≡ drop k es

@@ -1,22 +1,18 @@
 -- What a new element on the stack does to a track.
-use Rattle.std.proofs.Common.{◌≡◌, ℕ, zero, suc, ◌+◌, ◌≤◌, ◌<◌, List, [], ◌∷◌, drop, length, Bool, true, false, ◌||◌, ◌&&◌, not, refl, sym, ap, ◌∙◌, subst, arith, inl, inr, Option, None, Some, nat_le}
-use Rattle.std.specs.Prelude.{if◌then◌else◌, All, IfSome, ◌⊎◌}
-use Rattle.std.proofs.lemmas.Bool.{and_parts, and_from, true≢false, le-leb}
-use Rattle.std.proofs.lemmas.List.Elements.{All-nil, All-cons, All-head, All-tail}
-use Rattle.hp_elements.specs.Names.{is_among, words}
-use Rattle.hp_elements.specs.declared.token.Mode.{Mode}
+use Rattle.std.proofs.Common.{◌≡◌, ℕ, suc, ◌+◌, ◌<◌, List, ◌∷◌, length, Bool, true, false, ◌||◌, ◌&&◌, not, refl, sym, ap, ◌∙◌, subst, arith, Option, None, Some}
+use Rattle.std.specs.Prelude.{All, IfSome}
+use Rattle.std.proofs.lemmas.Bool.{and_from, true≢false}
+use Rattle.std.proofs.lemmas.List.Elements.{All-cons}
+use Rattle.hp_elements.specs.Names.{words}
 use Rattle.hp_control.specs.declared.element.OpenElement.{OpenElement}
-use Rattle.hp_control.specs.declared.element.FormattingEntry.{FormattingEntry}
-use Rattle.hp_control.specs.States.{ControlState, AreIds, IsId, IsNew, entry_ids, is_html, is_rooted}
+use Rattle.hp_control.specs.States.{ControlState, AreIds, IsId, IsNew, entry_ids, is_rooted}
 use Rattle.hp_model.proofs.Courses.{new-above}
 use Rattle.hp_model.proofs.Stacks.{rooted-some}
-use Rattle.hp_model.proofs.Thins.{ids_of}
-use Rattle.hp_older.specs.GoesOn.{IsFree, comes, fits_mode, is_a, is_key, is_new, kept, own}
+use Rattle.hp_older.specs.GoesOn.{IsFree, comes, is_a, is_key, is_new, own}
 use Rattle.hp_older.proofs.Kept.{kept-no, kept-yes}
 use Rattle.hp_older.proofs.Keys.{named-named, named_in}
-use Rattle.hp_older.proofs.Effects.{apart-fewer}
 use Rattle.hp_older.proofs.Levels.{Strong, core_names, fewer, key_names, own_of, template_names}
-use Rattle.hp_older.proofs.Track.{Balance, even, over, under, BackIs, BalanceIs, Meeting, On, PlaceIs, Sort, common, template, cell, select, frames, Top, TopIs, Track, Where, is_even, loose, pushed, can_push}
+use Rattle.hp_older.proofs.Track.{Balance, even, over, under, BalanceIs, On, common, template, cell, select, frames, Track, is_even, pushed}
 use Rattle.hp_older.proofs.Tracking.{back-strong, place-loose}
 
 -- a new element of one of the names, and one of none of them
@@ -87,7 +83,7 @@ push_template w s c e g n h b f nf nh =
       place = place-loose w.place s c.mode c.stack (e ∷ c.stack) g.place;
     }
 
-comes-one : (test : OpenElement → Bool) (e : OpenElement) (es : List OpenElement) → test e ≡ true → comes test (e ∷ es) ≡ true
+pub comes-one : (test : OpenElement → Bool) (e : OpenElement) (es : List OpenElement) → test e ≡ true → comes test (e ∷ es) ≡ true
 comes-one test e es h = ap (λ b. b || (not (is_a "template" e) && comes test es)) h
 
 -- a cell

@@ -1,5 +1,5 @@
 -- Which act needs what of a track, and where it leads; and the test over the table: each row, along each way that its tests leave.
-use Rattle.std.specs.Prelude.{ℕ, zero, suc, Bool, true, false, not, ◌&&◌, ◌||◌, if◌then◌else◌, List, [], ◌∷◌, Option, None, Some}
+use Rattle.std.specs.Prelude.{ℕ, zero, suc, Bool, true, false, not, ◌&&◌, ◌||◌, if◌then◌else◌, List, Option, None, Some}
 use Rattle.std.specs.Str.{bytes_eq}
 use Rattle.hp_elements.specs.Names.{is_among, text_of, words}
 use Rattle.hp_elements.specs.Rules.{Plan, ends, ◌⨾◌, when, unless, plan_for}
@@ -10,21 +10,19 @@ use Rattle.hp_elements.specs.declared.act.Scope.{Scope}
 use Rattle.hp_elements.specs.declared.act.Scope.TheVariants as scope
 use Rattle.hp_elements.specs.declared.act.Test.{Test}
 use Rattle.hp_elements.specs.declared.act.Test.TheVariants as test
-use Rattle.hp_elements.specs.declared.act.Which.{Which}
-use Rattle.hp_elements.specs.declared.act.Which.TheVariants.{Its, Named}
 use Rattle.hp_elements.specs.declared.known.Known.TheVariants as known
 use Rattle.hp_elements.specs.declared.sets.Namespace.TheVariants.{Html}
 use Rattle.hp_elements.specs.declared.sets.SetName.{SetName}
 use Rattle.hp_elements.specs.declared.sets.SetName.TheVariants as sets
 use Rattle.hp_elements.specs.declared.token.Kind.{Kind}
-use Rattle.hp_elements.specs.declared.token.Kind.TheVariants.{Start, End, EndOfInput}
+use Rattle.hp_elements.specs.declared.token.Kind.TheVariants.{End, EndOfInput}
 use Rattle.hp_elements.specs.declared.token.Mode.{Mode}
 use Rattle.hp_rules_rest.specs.Foreign.{foreign}
 use Rattle.hp_rules_rest.specs.Whole.{every_mode_rows}
 use Rattle.hp_model.specs.Rows.{is_head_mode}
 use Rattle.hp_model.proofs.Course.{Course, after, alien, assume, fits}
 use Rattle.hp_model.proofs.Passes.{base_of, goes_foreign, start}
-use Rattle.hp_older.proofs.Track.{Balance, even, There, nowhere, named, among, Top, high, plain, made, unknown, Track, Where, at, fitted, lost, Sort, common, template, begin, can_pass, can_push, ends_at_cells, ends_well, is_even, is_high, is_made, is_over, is_plain_one, is_there_named, is_under, knows, name_told, passed_named, pushed, sort_of, sort_told, strongly, thinly, under, weakly}
+use Rattle.hp_older.proofs.Track.{even, There, nowhere, named, among, Top, high, plain, made, unknown, Track, Where, at, fitted, Sort, common, begin, can_pass, can_push, ends_well, is_even, is_high, is_made, is_over, is_plain_one, is_there_named, is_under, knows, name_told, passed_named, pushed, sort_of, sort_told, strongly, thinly, under, weakly}
 
 abbrev pub is_common : Sort → Bool
 is_common common = true
@@ -103,8 +101,8 @@ still_there _ = nowhere
 
 abbrev pub still_but : Option (List ℕ) → There → There
 still_but None there = nowhere
-still_but (Some but) (named where_ name) = if bytes_eq but name then named where_ name else still_there (named where_ name)
-still_but (Some but) there = still_there there
+still_but (Some but) (named where_ name) = if bytes_eq but name && is_among (words "dd dt li") but then named where_ name else nowhere
+still_but (Some but) there = nowhere
 
 abbrev pub is_at : Where → Bool
 is_at (at m) = true
@@ -144,6 +142,7 @@ track_fits kind act.PopToFirst w = false
 track_fits kind act.TakeHeadOff w = false
 track_fits kind (act.TakeOff which) w = false
 track_fits kind act.HeadPointer w = false
+track_fits kind act.QuirksOfDoctype w = false
 track_fits kind (act.If x otherwise) w = false
 track_fits kind (act.Unless x otherwise) w = false
 track_fits kind _ w = true
@@ -171,6 +170,7 @@ track_after kind act.EndForm w = weakly w
 track_after kind act.CloseLink w = weakly w
 track_after kind (act.Adopt which) w = weakly w
 track_after kind act.Walk w = walked kind w
+track_after kind act.AppendToList w = strongly w
 track_after kind act.Reset w = record w { place = fitted }
 track_after kind act.KeepOriginal w = kept_back w.place w
 track_after kind act.ToOriginal w = record w { place = fitted; back = false }
@@ -203,6 +203,11 @@ abbrev pub track_deny : Test → Track → Track
 track_deny (test.CurrentIs known.Html) w = record w { top = highly w.top }
 track_deny _ w = w
 
+-- whether a new template mode is there is asked at the end of input alone
+abbrev pub can_test : Test → Bool
+can_test test.HasTemplateModes = false
+can_test _ = true
+
 abbrev pub Asks : Type 0
 Asks = Course → Track → Bool
 
@@ -222,9 +227,9 @@ module _ (kind : Kind) where
   plan_goes follow present ends v w next last = next v w
   plan_goes follow present (a ⨾ plan) v w next last = act_goes follow present a v w (λ x y. plan_goes follow present plan x y next last) last
   plan_goes follow present (when test plan rest) v w next last =
-      plan_goes follow present plan (assume test v) (track_assume kind test w) (λ x y. plan_goes follow present rest x y next last) last && plan_goes follow present rest v (track_deny test w) next last
+      can_test test && (plan_goes follow present plan (assume test v) (track_assume kind test w) (λ x y. plan_goes follow present rest x y next last) last && plan_goes follow present rest v (track_deny test w) next last)
   plan_goes follow present (unless test plan rest) v w next last =
-      plan_goes follow present rest (assume test v) (track_assume kind test w) next last && plan_goes follow present plan v (track_deny test w) (λ x y. plan_goes follow present rest x y next last) last
+      can_test test && (plan_goes follow present rest (assume test v) (track_assume kind test w) next last && plan_goes follow present plan v (track_deny test w) (λ x y. plan_goes follow present rest x y next last) last)
 
   unfoldable pub rules_go : ℕ → Mode → Course → Track → Asks → Bool
   rules_go zero m v w next = next v w

@@ -1,23 +1,16 @@
 -- What is known along a row over an older state, as data: of the new elements, and of the mode. Each act leads from one track to
 -- another, unless it touches something older.
-use Rattle.std.specs.Prelude.{◌≡◌, ℕ, ◌+◌, ◌<◌, List, [], ◌∷◌, length, Bool, true, false, not, ◌&&◌, ◌||◌, if◌then◌else◌, Option, None, Some, ◌⊎◌, All, nat_le}
+use Rattle.std.specs.Prelude.{◌≡◌, ℕ, ◌+◌, ◌<◌, List, [], ◌∷◌, length, Bool, true, false, not, ◌&&◌, ◌||◌, if◌then◌else◌, Option, None, Some, ◌⊎◌, All}
 use Rattle.std.specs.Str.{bytes_eq}
 use Rattle.hp_elements.specs.Names.{is_among, text_of, words}
-use Rattle.hp_elements.specs.declared.act.Act.{Act}
-use Rattle.hp_elements.specs.declared.act.Act.TheVariants as act
-use Rattle.hp_elements.specs.declared.act.Test.{Test}
-use Rattle.hp_elements.specs.declared.act.Test.TheVariants as test
 use Rattle.hp_elements.specs.declared.act.Scope.{Scope}
 use Rattle.hp_elements.specs.declared.act.Scope.TheVariants as scope
 use Rattle.hp_elements.specs.declared.act.Which.{Which}
 use Rattle.hp_elements.specs.declared.act.Which.TheVariants.{Its, Named}
-use Rattle.hp_elements.specs.declared.kinds.Kinds.{Kinds}
 use Rattle.hp_elements.specs.declared.kinds.Kinds.TheVariants as kinds
-use Rattle.hp_elements.specs.declared.known.Known.TheVariants as known
 use Rattle.hp_elements.specs.declared.sets.SetName.{SetName}
-use Rattle.hp_elements.specs.declared.sets.SetName.TheVariants as sets
 use Rattle.hp_elements.specs.declared.token.Kind.{Kind}
-use Rattle.hp_elements.specs.declared.token.Kind.TheVariants.{Start, End, EndOfInput}
+use Rattle.hp_elements.specs.declared.token.Kind.TheVariants.{Start, End}
 use Rattle.hp_elements.specs.declared.token.Mode.{Mode}
 use Rattle.hp_elements.specs.declared.token.Mode.TheVariants as mode
 use Rattle.hp_control.specs.declared.element.OpenElement.{OpenElement}
@@ -25,7 +18,7 @@ use Rattle.hp_control.specs.declared.element.FormattingEntry.{FormattingEntry}
 use Rattle.hp_control.specs.Composed.{ends_of}
 use Rattle.hp_control.specs.States.{ControlState, is_settled}
 use Rattle.hp_control.specs.Walks.{seen}
-use Rattle.hp_older.specs.GoesOn.{IsFree, comes, fits_mode, is_a, is_key, is_new, own, top_fits}
+use Rattle.hp_older.specs.GoesOn.{IsFree, comes, fits_mode, is_a, is_key, is_new, own}
 
 -- new template modes beside new templates: as many; one fewer; one more, or none of both
 pub data Balance : Type 0 where

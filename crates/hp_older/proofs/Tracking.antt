@@ -1,22 +1,20 @@
 -- What an act that leaves so much of the new elements does to a track.
-use Rattle.std.proofs.Common.{◌≡◌, ℕ, zero, suc, ◌+◌, ◌≤◌, ◌<◌, List, [], ◌∷◌, drop, length, Bool, true, false, ◌||◌, ◌&&◌, not, refl, sym, ap, ◌∙◌, subst, arith, inl, inr, Option, None, Some}
-use Rattle.std.specs.Prelude.{if◌then◌else◌, All, IfSome, ◌⊎◌}
-use Rattle.std.proofs.lemmas.Bool.{and_parts, and_from, true≢false}
+use Rattle.std.proofs.Common.{◌≡◌, ℕ, ◌+◌, ◌≤◌, ◌<◌, List, [], ◌∷◌, drop, length, Bool, true, false, ◌&&◌, refl, sym, ap, ◌∙◌, subst, arith, Option, None, Some}
+use Rattle.std.specs.Prelude.{if◌then◌else◌, All, IfSome}
+use Rattle.std.proofs.lemmas.Bool.{true≢false}
 use Rattle.std.proofs.lemmas.List.Elements.{All-nil, All-cons, All-head, All-tail, All-drop}
-use Rattle.hp_elements.specs.Names.{is_among, words}
+use Rattle.hp_elements.specs.Names.{words}
 use Rattle.hp_elements.specs.declared.token.Mode.{Mode}
 use Rattle.hp_elements.specs.declared.token.Mode.TheVariants as mode
 use Rattle.hp_control.specs.declared.element.OpenElement.{OpenElement}
-use Rattle.hp_control.specs.declared.element.FormattingEntry.{FormattingEntry}
-use Rattle.hp_control.specs.States.{ControlState, AreIds, IsNew, entry_ids, is_settled}
+use Rattle.hp_control.specs.States.{ControlState, AreIds, IsNew, entry_ids}
 use Rattle.hp_model.specs.Finding.{is_empty}
 use Rattle.hp_model.proofs.Ids.{between, between-below, is_id, new-none, none-new}
 use Rattle.hp_model.proofs.Tally.{tally}
 use Rattle.hp_model.proofs.Thins.{Thins, entry_is, ids_of, tally-entries}
 use Rattle.hp_older.specs.GoesOn.{IsFree, comes, fits_mode, is_a, is_new, kept, no_new, own}
-use Rattle.hp_older.proofs.Keys.{named_in}
-use Rattle.hp_older.proofs.Levels.{Strong, Thin, Weak, core_names, fewer, key_names, own_of, strong-weak, template_names, weak-thin}
-use Rattle.hp_older.proofs.Track.{Balance, even, over, under, BackIs, BalanceIs, Meeting, On, PlaceIs, Track, Where, at, fitted, lost, loose, strongly, thinly, weakly}
+use Rattle.hp_older.proofs.Levels.{Strong, Thin, Weak, core_names, fewer, key_names, own_of, template_names}
+use Rattle.hp_older.proofs.Track.{BackIs, BalanceIs, On, PlaceIs, Track, Where, at, fitted, lost, loose, strongly, thinly, weakly}
 
 -- the ids of a stack's elements are used
 pub below-kept : (p : OpenElement → Bool) (low next : ℕ) (st : List OpenElement) → AreIds low next (ids_of st) → All (λ e. e.id < next) (kept p st)

@@ -27,7 +27,7 @@ fn make_room(alloc: Global, tree: &mut Tree<'_>, count: usize) -> Result<(), All
     tree.reserve(alloc, &edits)
 }
 
-fn element(known: Known) -> Edit<'static> {
+fn element<'p>(known: Known) -> Edit<'p> {
     Edit::NewElement {
         tag: Tag {
             namespace: Namespace::Html,
