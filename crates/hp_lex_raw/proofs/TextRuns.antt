@@ -7,7 +7,7 @@ use Rattle.hp_tokens.specs.declared.machine.Machine.{Machine}
 use Rattle.hp_tokens.specs.Rows.{Row, is_blank, replaced, stay, plus}
 use Rattle.hp_tokens.specs.Moves.{Lexing, read_as, row_move, row_end, needs_more}
 use Rattle.hp_tokens.specs.Advancing.{HasRows}
-use Rattle.hp_tokens.specs.Plain.{none_of, data_stops, raw_stops, plaintext_stops, escaped_stops, EmitsPlain}
+use Rattle.hp_tokens.specs.Plain.{none_of, data_stops, raw_stops, whole_data_stops, whole_raw_stops, plaintext_stops, escaped_stops, EmitsPlain}
 use Rattle.hp_tokens.specs.PlainLaws.{apart, blank-apart}
 use Rattle.hp_lex_raw.specs.Rows.{has_row, row, row_of, ends_name, rcdata, raw_text, plaintext, escaped, double_escaped}
 use Rattle.hp_lex_raw.specs.Fine.{text_here}
@@ -80,6 +80,28 @@ module _ (s : State) where
     stays = λ m c is h.
         let a = apart raw_stops c h in
         row_there m c s ScriptData is e ∙ raw_emits _ m c a.1.1.1.1.1.1.0 a.0;
+  }
+
+  -- up to the next markup, in any class
+  pub rcdata_whole : s ≡ Rcdata → EmitsPlain row (none_of whole_data_stops) s
+  rcdata_whole e = record {
+    stays = λ m c is h.
+        let a = apart whole_data_stops c h in
+        row_there m c s Rcdata is e ∙ rcdata_emits m c a.1.1.0 a.1.1.1.0 a.0;
+  }
+
+  pub rawtext_whole : s ≡ Rawtext → EmitsPlain row (none_of whole_raw_stops) s
+  rawtext_whole e = record {
+    stays = λ m c is h.
+        let a = apart whole_raw_stops c h in
+        row_there m c s Rawtext is e ∙ raw_emits _ m c a.1.1.0 a.0;
+  }
+
+  pub script_whole : s ≡ ScriptData → EmitsPlain row (none_of whole_raw_stops) s
+  script_whole e = record {
+    stays = λ m c is h.
+        let a = apart whole_raw_stops c h in
+        row_there m c s ScriptData is e ∙ raw_emits _ m c a.1.1.0 a.0;
   }
 
   pub plaintext_blanks : s ≡ Plaintext → EmitsPlain row is_blank s

@@ -4,8 +4,10 @@ ghost use Rattle.hp_tokens.specs.declared.rows.Turn.TheVariants as turns;
 ghost use Rattle.hp_tokens.specs.declared.machine.Machine.{Machine};
 ghost use Rattle.hp_tokens.specs.declared.state.State.{State};
 ghost use Rattle.hp_tokens.specs.Reading.{first};
-ghost use Rattle.hp_tokens.specs.Rows.{Follows, is_blank};
-ghost use Rattle.hp_tokens.specs.Plain.{EmitsPlain};
+ghost use Rattle.std.specs.Prelude.{◌<◌, length, map};
+ghost use Rattle.std.specs.List.{list_all};
+ghost use Rattle.hp_tokens.specs.Rows.{Follows, character, is_blank};
+ghost use Rattle.hp_tokens.specs.Plain.{EmitsPlain, none_of};
 ghost use Rattle.hp_tokens.specs.Ranks.{IsFine};
 ghost use Rattle.hp_tokens.specs.Advancing.{held, unread, lexing, end_of_text, ReadsOne, Steps, EndSteps, Turned, EndTurned};
 ghost use Rattle.hp_tokens.specs.Moves.{move, read_as as spec_read_as};
@@ -21,7 +23,7 @@ use crate::script::{
     double_escaped_less_than_sign, escape_start, escaped, escaped_dash, escaped_dash_dash,
     escaped_less_than_sign, script_less_than_sign,
 };
-use hp_elements::{Token, Tokens};
+use hp_elements::{Text, Token, Tokens};
 use hp_tokens::{
     Cursor, DataText, EndStep, EscapedText, LexState, Lexes, Machine, NoMemory, PlaintextText,
     RawText, Reads, State, Step, Table, TextRun, Turn, end_by_row, step_in_text,
@@ -427,6 +429,40 @@ pub fn next_text<'p>(
         State::ScriptData => {
             let token = hp_tokens::next_text::<TextRows, RawText>(state, input, rested)?;
             Some(token)
+        }
+        _ => None,
+    }
+}
+
+/// In RCDATA, RAWTEXT and script data, the text at the front up to the next `<`, CR or U+0000, in RCDATA also `&`, where `rested`
+/// becomes the place of its start; otherwise `None`, and nothing changes. It is what calls of `advance` do there, with each
+/// code point in a token of its own.
+#[inline]
+pub fn next_plain<'p>(
+    state: &LexState,
+    input: &mut Cursor<'p>,
+    rested: &mut u64,
+) -> Option<Text<'p>>
+    requires held { held state.now ≤ input.old.place }
+    ensures turn { IfSome result (λ text. Turned raw_rules spec_is_here (lexing state.now input.old rested.old) [] (lexing state.now input.new rested.new) (map character text) rested.new turns.Emitted) }
+    ensures here { IfSome result (λ text. spec_is_here state.now.machine.state ≡ true) }
+    ensures no_nul { IfSome result (λ text. list_all (none_of (0 ∷ [])) text ≡ true) }
+    ensures long { IfSome result (λ text. 0 < length text) }
+    ensures none { IfNone result ((input.new ≡ input.old) × (rested.new ≡ rested.old)) }
+    ensures held { held state.now ≤ input.new.place }
+{
+    match state.machine.state {
+        State::Rcdata => {
+            let text = hp_tokens::next_data::<TextRows>(state, input, rested)?;
+            Some(text)
+        }
+        State::Rawtext => {
+            let text = hp_tokens::next_raw::<TextRows>(state, input, rested)?;
+            Some(text)
+        }
+        State::ScriptData => {
+            let text = hp_tokens::next_raw::<TextRows>(state, input, rested)?;
+            Some(text)
         }
         _ => None,
     }

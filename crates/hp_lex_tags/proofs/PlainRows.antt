@@ -7,13 +7,18 @@ use Rattle.hp_tokens.specs.declared.machine.Machine.{Machine}
 use Rattle.hp_tokens.specs.declared.building.Part.{Part}
 use Rattle.hp_tokens.specs.declared.building.Part.TheVariants.{Name, AttributeName as NameOfAttribute, Value}
 use Rattle.hp_tokens.specs.Rows.{is_blank, stay, putting, replaced, lowered}
-use Rattle.hp_tokens.specs.Plain.{EmitsPlain, PutsPlain, none_of, in_name, data_stops, double_quoted_stops, single_quoted_stops, unquoted_stops, tag_name_stops, attribute_name_stops}
+use Rattle.hp_tokens.specs.Plain.{EmitsPlain, PutsPlain, none_of, in_name, data_stops, whole_data_stops, double_quoted_stops, single_quoted_stops, unquoted_stops, tag_name_stops, attribute_name_stops}
 use Rattle.hp_tokens.specs.PlainLaws.{apart, blank-apart, name-apart, not-replaced, name-stays}
 use Rattle.hp_lex_tags.specs.Rows.{row, row_of, tag_name, attribute_name, quoted_value, unquoted_value}
 
 pub data_others : EmitsPlain row (none_of data_stops) Data
 data_others = record {
   stays = λ m c e h. let a = apart data_stops c h in rw (e, a.1.1.1.1.1.1.0, a.1.1.1.1.1.1.1.0) refl;
+}
+
+pub data_whole : EmitsPlain row (none_of whole_data_stops) Data
+data_whole = record {
+  stays = λ m c e h. let a = apart whole_data_stops c h in rw (e, a.1.1.0, a.1.1.1.0) refl;
 }
 
 pub data_blanks : EmitsPlain row is_blank Data

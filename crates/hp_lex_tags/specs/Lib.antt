@@ -4,3 +4,5 @@ pub mod Named
 pub mod Held
 pub mod Tags
 pub mod Fine
+pub mod Straight
+pub mod Usual

@@ -1,9 +1,13 @@
 -- The moves in text, tags and character references.
-use Rattle.std.specs.Prelude.{ℕ, List, Bool, true, if◌then◌else◌}
+use Rattle.std.specs.Prelude.{ℕ, List, [], ◌∷◌, ◌≡◌, Option, Some, None, Bool, true, false, if◌then◌else◌}
+use Rattle.hp_elements.specs.declared.token.Token.{Token}
+use Rattle.hp_tokens.specs.declared.rows.Turn.TheVariants as turns
+use Rattle.hp_tokens.specs.Advancing.{Advances, Turned}
 use Rattle.hp_names.specs.References.{Reference}
 use Rattle.hp_tokens.specs.declared.state.State.{State}
 use Rattle.hp_tokens.specs.declared.state.State.TheVariants.{NamedCharacterReference}
-use Rattle.hp_tokens.specs.Moves.{Lexing, Move, Rules, needs_more, row_move, row_end}
+use Rattle.hp_tokens.specs.Runs.{Leads}
+use Rattle.hp_tokens.specs.Moves.{Lexing, Move, Rules, needs_more, makes, move, row_move, row_end}
 use Rattle.hp_lex_tags.specs.Rows.{has_row, row}
 use Rattle.hp_lex_tags.specs.Named.{named_move, named_end}
 
@@ -26,3 +30,15 @@ tag_rules names = record {
   on = λ l c cs. on_state l.machine.state names l c cs;
   last = λ l text. last_state l.machine.state names l text;
 }
+
+-- moves emitted a token by the last of them, and nothing before it
+pub record EmitsLast (rules : Rules) (old : Lexing) (token : Token) (new : Lexing) (rested : ℕ) : Type 0 where
+  pub mid : Lexing
+  pub leads : Leads (move rules) old [] mid
+  pub last : move rules mid ≡ makes new (record { began = rested; token = token } ∷ [])
+
+-- A tag was emitted by moves from one rest to the next, by the last of them; or moves were made that emit nothing.
+abbrev pub TagTurned : List Reference → Lexing → Option Token → Lexing → ℕ → Type 0
+TagTurned names old (Some tag) new rested =
+    Turned (tag_rules names) is_here old [] new (tag ∷ []) rested turns.Emitted × EmitsLast (tag_rules names) old tag new rested
+TagTurned names old None new rested = Advances (tag_rules names) old [] new [] rested false

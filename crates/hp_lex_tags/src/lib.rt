@@ -4,8 +4,12 @@
 mod named;
 mod references;
 mod rows;
+mod straight;
 mod tags;
 #[cfg(test)]
 mod tests;
+mod usual_reference;
 
-pub use tags::{advance, any_pieces, at_end, is_here, next_text};
+pub use straight::next_tag;
+pub use tags::{advance, any_pieces, at_end, is_here, next_plain, next_text};
+pub use usual_reference::next_reference;

@@ -3,7 +3,10 @@ ghost use Rattle.std.specs.Prelude.{◌≡◌, ◌≤◌, ◌^◌, ℕ, [], ◌�
 ghost use Rattle.hp_tokens.specs.declared.rows.Turn.TheVariants as turns;
 ghost use Rattle.hp_tokens.specs.declared.machine.Machine.{Machine};
 ghost use Rattle.hp_tokens.specs.declared.state.State.{State};
-ghost use Rattle.hp_tokens.specs.Rows.{Follows};
+ghost use Rattle.std.specs.Prelude.{◌<◌, length, map};
+ghost use Rattle.std.specs.List.{list_all};
+ghost use Rattle.hp_tokens.specs.Plain.{none_of};
+ghost use Rattle.hp_tokens.specs.Rows.{Follows, character};
 ghost use Rattle.hp_tokens.specs.Ranks.{IsFine};
 ghost use Rattle.hp_tokens.specs.Advancing.{held, lexing, end_of_text, HasRows, Steps, EndSteps, Turned, EndTurned};
 ghost use Rattle.hp_tokens.specs.Moves.{Rules, move};
@@ -20,7 +23,7 @@ use crate::rows::{
     before_attribute_value, data, end_tag_open, quoted_value, self_closing_start_tag, tag_name,
     tag_open, unquoted_value,
 };
-use hp_elements::{Token, Tokens};
+use hp_elements::{Text, Token, Tokens};
 use hp_names::Names;
 use hp_tokens::{
     AttributeNameText, Cursor, DataText, DoubleQuotedText, EndStep, LexState, Lexes, Machine,
@@ -267,6 +270,34 @@ pub fn next_text<'p>(
         State::Data => {
             let token = hp_tokens::next_text::<Rows, DataText>(state, input, rested)?;
             Some(token)
+        }
+        _ => None,
+    }
+}
+
+/// In the data state, the text at the front up to the next `<`, `&`, CR or U+0000, where a CR LF pair that comes first is LF, and where
+/// `rested` becomes the place of its start; otherwise `None`, and nothing changes. It is what calls of `advance` do there, with each
+/// code point in a token of its own.
+#[inline]
+pub fn next_plain<'p>(
+    state: &LexState,
+    input: &mut Cursor<'p>,
+    names: &Names,
+    rested: &mut u64,
+) -> Option<Text<'p>>
+    requires held { held state.now ≤ input.old.place }
+    ensures turn { IfSome result (λ text. Turned (tag_rules names.now) spec_is_here (lexing state.now input.old rested.old) [] (lexing state.now input.new rested.new) (map character text) rested.new turns.Emitted) }
+    ensures here { IfSome result (λ text. spec_is_here state.now.machine.state ≡ true) }
+    ensures no_nul { IfSome result (λ text. list_all (none_of (0 ∷ [])) text ≡ true) }
+    ensures long { IfSome result (λ text. 0 < length text) }
+    ensures none { IfNone result ((input.new ≡ input.old) × (rested.new ≡ rested.old)) }
+    ensures held { held state.now ≤ input.new.place }
+{
+    let _names = names;
+    match state.machine.state {
+        State::Data => {
+            let text = hp_tokens::next_data::<Rows>(state, input, rested)?;
+            Some(text)
         }
         _ => None,
     }

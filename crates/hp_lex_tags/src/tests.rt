@@ -1,5 +1,5 @@
 //! The tokens of short texts, whole and cut at each place, as an independent lexer gives them.
-use crate::{advance, at_end, is_here};
+use crate::{advance, at_end, is_here, next_tag};
 use hp_elements::{Rest, Token, Tokens};
 use hp_names::Names;
 use hp_tokens::{Cursor, LexState, NoMemory, ORIGIN, Turn};
@@ -169,10 +169,12 @@ struct Run {
     teller: Teller,
     rested: u64,
     start: u64,
+    /// Whether tags are read straight, where they can be.
+    straight: bool,
 }
 
 impl Run {
-    fn new(alloc: Global) -> Run {
+    fn new(alloc: Global, straight: bool) -> Run {
         Run {
             state: LexState::at_rest(Rest::Data, false),
             names: Names::built_in(),
@@ -182,7 +184,20 @@ impl Run {
             },
             rested: ORIGIN,
             start: 0,
+            straight,
         }
+    }
+
+    /// Reads a tag straight, if one comes next.
+    fn read_tag(&mut self, alloc: Global, input: &mut Cursor<'_>) -> Result<(), NoMemory> {
+        if !self.straight || self.state.ahead.len_bytes() > input.place() {
+            return Ok(());
+        }
+        if let Some(tag) = next_tag(alloc, &mut self.state, input, &mut self.rested)? {
+            let began = self.rested.wrapping_sub(ORIGIN).wrapping_add(self.start);
+            self.teller.tell(&tag, began)?;
+        }
+        Ok(())
     }
 
     /// Lexes a piece, and answers whether the state is still one of this part's.
@@ -192,6 +207,7 @@ impl Run {
         }
         let mut input = Cursor::of_str(piece);
         for _ in 0..1000 {
+            self.read_tag(alloc, &mut input)?;
             let state = &mut self.state;
             if !is_here(state.machine.state) || state.ahead.len_bytes() > input.place() {
                 return Ok(false);
@@ -226,9 +242,9 @@ impl Run {
 }
 
 /// Whether the tokens of a text that is handed over in two pieces are those that are wanted.
-fn agrees(alloc: Global, case: &Case, cut: usize) -> Result<bool, NoMemory> {
+fn agrees(alloc: Global, case: &Case, cut: usize, straight: bool) -> Result<bool, NoMemory> {
     let (text, wanted) = *case;
-    let mut run = Run::new(alloc);
+    let mut run = Run::new(alloc, straight);
     let (first, second) = text.split_at_checked(cut).unwrap_or((text, ""));
     if run.lex(alloc, first)? && run.lex(alloc, second)? {
         run.end(alloc)?;
@@ -240,7 +256,11 @@ fn agrees(alloc: Global, case: &Case, cut: usize) -> Result<bool, NoMemory> {
 fn lexes_as_the_standard_says(rt: HostRuntime) -> Result<(), Fail> {
     for case in CASES {
         let text = case.0;
-        assert!(rt; agrees(rt.alloc(), case, text.len())?, "{text}");
+        assert!(rt; agrees(rt.alloc(), case, text.len(), false)?, "{text}");
+        assert!(rt;
+            agrees(rt.alloc(), case, text.len(), true)?,
+            "{text} straight"
+        );
     }
     Ok(())
 }
@@ -250,7 +270,10 @@ fn lexes_the_same_cut_at_each_place(rt: HostRuntime) -> Result<(), Fail> {
     for case in CASES {
         let text = case.0;
         for (cut, _) in text.char_indices() {
-            assert!(rt; agrees(rt.alloc(), case, cut)?, "{text} cut at {cut}");
+            assert!(rt;
+                agrees(rt.alloc(), case, cut, cut % 2 == 0)?,
+                "{text} cut at {cut}"
+            );
         }
     }
     Ok(())

@@ -81,6 +81,20 @@ steps_fall old new old_input new_input steps.AskCdata s =
 steps_fall old new old_input new_input steps.AskLastTag s = named_falls old.names _ _ _ _ _ s.0 s.1
 steps_fall old new old_input new_input steps.AtCut s = tt
 
+-- moves that emit nothing
+owed-one : (o : Option (List ℕ)) → owed o ≤ 1
+owed-one None = omega arith
+owed-one (Some name) = omega arith
+
+silent-load : (names : List Reference) {l k : Lexing} {es : List Emitted} → Leads (move (table names)) l es k
+    → 2 * weight k + owed k.machine.last_tag ≤ 2 * weight l + owed l.machine.last_tag
+silent-load names here = omega arith
+silent-load names {l} {k} (onward {m = m} {es = es} e r) =
+    omega (arith, made_smaller names l m es e, at_most names r, owed-one k.machine.last_tag)
+
+pub silent_fall : (old new : Lexer) (old_input new_input : Unread) → Reaches old old_input new new_input [] false → load new new_input ≤ load old old_input
+silent_fall old new old_input new_input s = silent-load old.names s.leads
+
 rank-rest : (to : Rest) (symbol : Option ℕ) → rank (state_of_rest to) symbol ≡ 0
 rank-rest rest.Data symbol = refl
 rank-rest _ symbol = refl

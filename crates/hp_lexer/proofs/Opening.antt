@@ -19,7 +19,7 @@ use Rattle.hp_lexer.specs.Running.{Passed, Led, Ran, emits}
 use Rattle.hp_lexer.specs.Standing.{opened, behind_cdata, stands, stands_answered, Stepped}
 use Rattle.hp_lexer.proofs.Falling.{FallsTo, AsksCdata, move_falls}
 
-at_nothing : (l : Lexer) (input : Unread) → l.asked ≡ asked.Nothing → stands l input ≡ lexing l.lex input l.rested
+pub at_nothing : (l : Lexer) (input : Unread) → l.asked ≡ asked.Nothing → stands l input ≡ lexing l.lex input l.rested
 at_nothing l input e = ap (λ (a : Asked). lexing (record l.lex { machine = opened a l.lex.machine }) input l.rested) e
 
 module _ (old o mid : Lexer) (old_input mid_input : Unread) (tokens : List Token) (turn : Turn)
@@ -62,8 +62,8 @@ module _ (old o mid : Lexer) (old_input mid_input : Unread) (tokens : List Token
       let Q : List Token → Type 0 = λ ts. Advances (table old.names) (stands old old_input) [] (lexing mid.lex mid_input mid.rested) ts mid.rested false in
       subst Q none (subst P f (advanced t e))
 
-  pub at_cut : turn ≡ turns.NeedsMore → (new : Lexer) → new ≡ record mid { rested = 2 ^ 32 } → held mid.lex ≤ 2 ^ 32 → Stepped old old_input new mid_input steps.AtCut
-  at_cut e new is_new few =
+  pub at_cut : turn ≡ turns.NeedsMore → (new : Lexer) → new ≡ record mid { rested = 2 ^ 32 } → held mid.lex ≤ 2 ^ 32 → mid_input.text ≡ [] → Stepped old old_input new mid_input steps.AtCut
+  at_cut e new is_new few used =
       let l = led turns.NeedsMore e in
       let P : Lexing → Type 0 = λ x. Advances (table old.names) (stands old old_input) [] x [] mid.rested false in
       let Q : Lexing → Type 0 = λ x. move (table old.names) x ≡ needs_more in
@@ -75,6 +75,7 @@ module _ (old o mid : Lexer) (old_input mid_input : Unread) (tokens : List Token
         asked = nothing;
         start = refl;
         held = few;
+        used = used;
       } in
       subst R (sym is_new) done
 

@@ -144,17 +144,20 @@ module _ (rules : Rules) (here : State → Bool) (names : List Reference) (part 
       at (inl h) = sym (same_end l h) ∙ e
       at (inr h) = away l.unread h e
 
-  made : (l : Lexing) (m : Lexing) (es : List Emitted) → move rules l ≡ makes m es → move (table names) l ≡ makes m es
-  made l m es e = said l (makes m es) (λ h. cc) e
+  pub part_made : (l : Lexing) (m : Lexing) (es : List Emitted) → move rules l ≡ makes m es → move (table names) l ≡ makes m es
+  part_made l m es e = said l (makes m es) (λ h. cc) e
 
   end_made : (l : Lexing) (m : Lexing) (es : List Emitted) → end_move rules l ≡ makes m es → end_move (table names) l ≡ makes m es
   end_made l m es e = said_at_end l (makes m es) (λ h. cc) e
 
-  advances : (old : Lexing) (old_tokens : List Token) (new : Lexing) (new_tokens : List Token) (rested : ℕ) (emitted : Bool)
+  pub part_leads : {l k : Lexing} {es : List Emitted} → Leads (move rules) l es k → Leads (move (table names)) l es k
+  part_leads r = Leads-by part_made r
+
+  pub advances : (old : Lexing) (old_tokens : List Token) (new : Lexing) (new_tokens : List Token) (rested : ℕ) (emitted : Bool)
       → Advances rules old old_tokens new new_tokens rested emitted → Advances (table names) old old_tokens new new_tokens rested emitted
   advances old old_tokens new new_tokens rested emitted a = record {
     es = a.es;
-    leads = Leads-by made a.leads;
+    leads = Leads-by part_made a.leads;
     appends = a.appends;
     began = a.began;
     says = a.says;

@@ -1,3 +1,4 @@
 pub mod Table
 pub mod Standing
 pub mod Running
+pub mod Places

@@ -1,7 +1,11 @@
 -- Where a lexer stands in a text, and what its calls promise.
-use Rattle.std.specs.Prelude.{◌≡◌, ℕ, ◌+◌, ◌*◌, ◌-◌, ◌<◌, ◌≤◌, ◌^◌, Bool, true, false, List, [], if◌then◌else◌}
+use Rattle.std.specs.Prelude.{◌≡◌, ℕ, ◌+◌, ◌*◌, ◌-◌, ◌<◌, ◌≤◌, ◌^◌, Bool, true, false, List, [], ◌∷◌, length, map, Option, Some, None, if◌then◌else◌}
+use Rattle.std.specs.List.{list_all}
+use Rattle.hp_tokens.specs.Plain.{none_of}
+use Rattle.hp_tokens.specs.Rows.{character}
 use Rattle.hp_elements.specs.declared.token.Token.{Token}
 use Rattle.hp_tokens.specs.declared.state.State.{State}
+use Rattle.hp_tokens.specs.declared.state.State.TheVariants.{Data}
 use Rattle.hp_tokens.specs.declared.machine.Machine.{Machine}
 use Rattle.hp_tokens.specs.Reading.{Unread}
 use Rattle.hp_tokens.specs.Moves.{Lexing, needs_more, asks_cdata, asks_last_tag, move}
@@ -10,6 +14,7 @@ use Rattle.hp_tokens.specs.Ranks.{weight}
 use Rattle.hp_tokens.specs.States.{enter, state_of_rest}
 use Rattle.hp_elements.specs.declared.token.Rest.{Rest}
 use Rattle.hp_lex_raw.specs.Raw.{is_untold}
+use Rattle.hp_lex_tags.specs.Tags.{EmitsLast}
 use Rattle.hp_lex_markup.specs.declared.words.Word.TheVariants.{Cdata as CdataWord}
 use Rattle.hp_lex_markup.specs.Markup.{in_section, after_word}
 use Rattle.hp_lexer.specs.declared.lexer.Asked.{Asked}
@@ -55,7 +60,7 @@ pub record ReachesCdata (old : Lexer) (old_input : Unread) (new : Lexer) (new_in
   pub asks : move (table old.names) there ≡ asks_cdata (stands_answered true new new_input) (stands_answered false new new_input)
   pub asked : new.asked ≡ asked.Cdata
 
--- moves that emit nothing led to where more input is needed; in the next text the lexer rested nowhere yet
+-- moves that emit nothing led to where more input is needed; the text is used up, and in the next one the lexer rested nowhere yet
 pub record ReachesCut (old : Lexer) (old_input : Unread) (new : Lexer) (new_input : Unread) : Type 0 where
   pub rested : ℕ
   pub advances : Advances (table old.names) (stands old old_input) [] (stands (record new { rested = rested }) new_input) [] rested false
@@ -63,6 +68,7 @@ pub record ReachesCut (old : Lexer) (old_input : Unread) (new : Lexer) (new_inpu
   pub asked : new.asked ≡ asked.Nothing
   pub start : new.rested ≡ 2 ^ 32
   pub held : held new.lex ≤ 2 ^ 32
+  pub used : new_input.text ≡ []
 
 -- The promise of `next`. The tokens are those of moves from one rest to the next, or to where no move is made or the state is in
 -- another part of the table; more input is needed; a question is asked.
@@ -77,6 +83,27 @@ Stepped old old_input new new_input steps.AskLastTag =
     × (move (table old.names) (stands new new_input) ≡ asks_last_tag) × (new.asked ≡ asked.LastTag)
 Stepped old old_input new new_input steps.AtCut = ReachesCut old old_input new new_input
 
+-- the lexer rests in the data state, with nothing read ahead and no question asked
+pub record RestsInData (l : Lexer) : Type 0 where
+  pub state : l.lex.machine.state ≡ Data
+  pub ahead : l.lex.ahead ≡ []
+  pub asked : l.asked ≡ asked.Nothing
+
+-- The promise of `next_plain`: the text's code points, each in a token of its own, were emitted by moves from one rest to the next;
+-- none of them is U+0000.
+pub record PlainStepped (old : Lexer) (old_input : Unread) (new : Lexer) (new_input : Unread) (text : List ℕ) : Type 0 where
+  pub stepped : Stepped old old_input new new_input (steps.Tokens (new.rested - 2 ^ 32) (map character text))
+  pub no_nul : list_all (none_of (0 ∷ [])) text ≡ true
+  pub long : 0 < length text
+
+-- The promise of `next_tag`: a tag was emitted by moves from one rest to the next, by the last of them; or moves were made that emit
+-- nothing.
+abbrev pub TagStepped : Lexer → Unread → Lexer → Unread → Option Token → Type 0
+TagStepped old old_input new new_input (Some tag) =
+    Stepped old old_input new new_input (steps.Tokens (new.rested - 2 ^ 32) (tag ∷ []))
+    × EmitsLast (table old.names) (stands old old_input) tag (stands new new_input) new.rested
+TagStepped old old_input new new_input None = Reaches old old_input new new_input [] false
+
 -- What falls with each step of a run over a text: twice the weight of what is unread and of the state, and one where the last
 -- start tag's name isn't told.
 abbrev pub load : Lexer → Unread → ℕ
@@ -88,6 +115,10 @@ Falls old old_input new new_input (steps.Tokens began tokens) = 2 * weight (stan
 Falls old old_input new new_input steps.AskCdata = (foreign : Bool) → 2 * weight (stands_answered foreign new new_input) + 1 < load old old_input
 Falls old old_input new new_input steps.AskLastTag = 2 * weight (stands new new_input) < load old old_input
 Falls old old_input new new_input steps.AtCut = Unit {0}
+
+-- it is no larger behind moves that emit nothing
+abbrev pub SilentFall : Type 0
+SilentFall = (old new : Lexer) (old_input new_input : Unread) → Reaches old old_input new new_input [] false → load new new_input ≤ load old old_input
 
 abbrev pub StepsFall : Type 0
 StepsFall = (old new : Lexer) (old_input new_input : Unread) (step : Step) → Stepped old old_input new new_input step → Falls old old_input new new_input step

@@ -1,10 +1,10 @@
 // The lexer that a run over a page holds.
-ghost use Rattle.std.specs.Prelude.{◌≡◌, ◌-◌, ◌≤◌, ◌^◌, ℕ, IfOk, OnOk, IfSome, IfNone, IsTrue, false, Bool, [], ◌∷◌, Some, length};
+ghost use Rattle.std.specs.Prelude.{◌≡◌, ◌-◌, ◌≤◌, ◌^◌, ℕ, IfOk, OnOk, IfSome, IfNone, IsTrue, true, false, Bool, [], ◌∷◌, Some, length};
 ghost use Rattle.hp_tokens.specs.declared.rows.Turn.TheVariants as turns;
 ghost use Rattle.hp_lexer.specs.Standing.{behind_cdata};
 
-use crate::turns::{make_end_moves, make_moves, next_text};
-use hp_elements::{Name, Rest, Token, Tokens};
+use crate::turns::{make_end_moves, make_moves, next_plain, next_text};
+use hp_elements::{Name, Rest, Text, Token, Tokens};
 use hp_names::Names;
 pub use hp_tokens::NoMemory;
 use hp_tokens::{Cursor, LexState, Machine, ORIGIN, OwnedText, Part, State, Turn};
@@ -55,7 +55,8 @@ impl Lexer {
     ghost use Rattle.hp_tokens.specs.Advancing.{held, unread, rest_state, end_of_text, lexing, Ends};
     ghost use Rattle.hp_tokens.specs.States.{enter, state_of_rest};
     ghost use Rattle.hp_lexer.specs.declared.lexer.Asked.TheVariants as asked;
-    ghost use Rattle.hp_lexer.specs.Standing.{is_answered, opened, Stepped};
+    ghost use Rattle.hp_lexer.specs.declared.lexer.Step.TheVariants as steps;
+    ghost use Rattle.hp_lexer.specs.Standing.{is_answered, opened, Stepped, RestsInData, PlainStepped, TagStepped};
     ghost use Rattle.hp_lexer.specs.Running.{Ran, Passed};
     ghost use Rattle.hp_lexer.specs.Table.{table};
 
@@ -123,6 +124,100 @@ impl Lexer {
         Ok(())
     }
 
+    /// Whether the text is used up and the lexer rests in the data state; then it stands before the next text, as `next` would
+    /// leave it at the cut. Otherwise nothing changes.
+    #[inline]
+    pub fn pass_cut(&mut self, input: &Cursor<'_>) -> bool
+        ensures cut { result ≡ true → Stepped self.old input.now self.new input.now steps.AtCut }
+        ensures left { result ≡ false → self.new ≡ self.old }
+        ensures names { self.new.names ≡ self.old.names }
+    {
+        if input.front().is_some() || !self.rests_in_data() {
+            return false;
+        }
+        self.rested = ORIGIN;
+        true
+    }
+
+    /// Whether the lexer rests in the data state, with nothing read ahead and no question asked.
+    #[inline]
+    fn rests_in_data(&self) -> bool
+        ensures { result ≡ true → RestsInData self.now }
+    {
+        match self.asked {
+            Asked::Nothing => self.lex.machine.state == State::Data && self.lex.ahead.is_empty(),
+            _ => false,
+        }
+    }
+
+    /// The text at the front that the table emits as it stands: in the data state and RCDATA up to the next `<`, `&`, CR or U+0000, in
+    /// RAWTEXT and script data up to the next `<`, CR or U+0000, where a CR LF pair that comes first is LF. Where the lexer rests in
+    /// another state, or no such text comes first: `None`, and nothing changes. It is what calls of `next` do there, with each code
+    /// point in a token of its own.
+    #[inline]
+    pub fn next_plain<'p>(&mut self, input: &mut Cursor<'p>) -> Option<Text<'p>>
+        requires held { held self.old.lex ≤ input.old.place }
+        ensures text { IfSome result (λ text. PlainStepped self.old input.old self.new input.new text) }
+        ensures none { IfNone result ((self.new ≡ self.old) × (input.new ≡ input.old)) }
+        ensures held { held self.new.lex ≤ input.new.place }
+        ensures names { self.new.names ≡ self.old.names }
+    {
+        match self.asked {
+            Asked::Nothing => {
+                let text = next_plain(&self.lex, input, &self.names, &mut self.rested)?;
+                Some(text)
+            }
+            _ => None,
+        }
+    }
+
+    /// What a named reference with a semicolon at the front stands for, in the data state, where that is one code point; otherwise
+    /// `None`, and nothing changes. It is what calls of `next` do there.
+    #[inline]
+    pub fn next_reference<'p>(&mut self, input: &mut Cursor<'p>) -> Option<Text<'p>>
+        requires held { held self.old.lex ≤ input.old.place }
+        ensures text { IfSome result (λ text. PlainStepped self.old input.old self.new input.new text) }
+        ensures none { IfNone result ((self.new ≡ self.old) × (input.new ≡ input.old)) }
+        ensures held { held self.new.lex ≤ input.new.place }
+        ensures names { self.new.names ≡ self.old.names }
+    {
+        match self.asked {
+            Asked::Nothing => {
+                let text = hp_lex_tags::next_reference(
+                    &mut self.lex,
+                    input,
+                    &self.names,
+                    &mut self.rested,
+                )?;
+                Some(text)
+            }
+            _ => None,
+        }
+    }
+
+    /// A tag at the front, where the lexer rests in the data state and the tag is a usual one. It is what `next` does there. With
+    /// `None` some moves were made, which emit nothing, or none.
+    #[inline]
+    pub fn next_tag<'p>(
+        &mut self,
+        alloc: Global,
+        input: &mut Cursor<'p>,
+    ) -> Result<Option<Token<'p>>, NoMemory>
+        requires held { held self.old.lex ≤ input.old.place }
+        ensures tag { IfOk result (λ token. TagStepped self.old input.old self.new input.new token) }
+        ensures held { IfOk result (λ token. held self.new.lex ≤ input.new.place) }
+        ensures asked { self.new.asked ≡ self.old.asked }
+        ensures names { self.new.names ≡ self.old.names }
+    {
+        match self.asked {
+            Asked::Nothing => {
+                let token = hp_lex_tags::next_tag(alloc, &mut self.lex, input, &mut self.rested)?;
+                Ok(token)
+            }
+            _ => Ok(None),
+        }
+    }
+
     /// The next tokens that the table emits at once, a question, or that the text is used up.
     pub fn next<'p>(&mut self, alloc: Global, input: &mut Cursor<'p>) -> Result<Step<'p>, NoMemory>
         requires answered { IsTrue (is_answered self.old.asked) }
@@ -145,7 +240,7 @@ impl Lexer {
                 tokens,
             }),
             Turn::NeedsMore => {
-                self.reach_cut()?;
+                self.reach_cut(input)?;
                 Ok(Step::AtCut)
             }
             Turn::AskCdata => {
@@ -228,11 +323,12 @@ impl Lexer {
     }
 
     /// The text is used up: what stood in it is before the next one.
-    fn reach_cut(&mut self) -> Result<(), NoMemory>
+    fn reach_cut(&mut self, input: &Cursor<'_>) -> Result<(), NoMemory>
         ensures cut { OnOk result ((self.new ≡ record self.old { rested = 2 ^ 32 }) × (held self.old.lex ≤ 2 ^ 32)) }
+        ensures used { OnOk result (input.now.text ≡ []) }
         ensures names { self.new.names ≡ self.old.names }
     {
-        if self.lex.ahead.len_bytes() > ORIGIN {
+        if self.lex.ahead.len_bytes() > ORIGIN || input.peek().is_some() {
             return Err(NoMemory);
         }
         self.rested = ORIGIN;

@@ -10,5 +10,5 @@ mod tests;
 mod turns;
 
 pub use hp_tokens::{Cursor, LexState};
-pub use laws::{any_pieces, steps_fall};
+pub use laws::{any_pieces, places, steps_fall};
 pub use lexer::{Asked, Lexer, NoMemory, Step};

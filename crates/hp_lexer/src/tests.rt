@@ -4,7 +4,7 @@ ghost use Rattle.hp_lexer.specs.Standing.{is_answered};
 
 use crate::cases::{CASES, Case};
 use crate::{Asked, Cursor, Lexer, NoMemory, Step};
-use hp_elements::{Known, Name, Token};
+use hp_elements::{CharClass, Known, Name, Token};
 use hp_tokens::ORIGIN;
 use std::alloc::Global;
 use std::test::Fail;
@@ -16,6 +16,8 @@ struct Teller {
     in_run: bool,
     /// Whether places are told.
     places: bool,
+    /// Whether texts and tags are read without the table, where they can be.
+    straight: bool,
 }
 
 impl Teller {
@@ -96,6 +98,37 @@ impl Teller {
     }
 }
 
+/// Reads a text or a tag without the table and tells it, and answers whether there was one.
+fn tell_straight(
+    alloc: Global,
+    lexer: &mut Lexer,
+    input: &mut Cursor<'_>,
+    teller: &mut Teller,
+) -> Result<bool, NoMemory> {
+    if lexer.lex.ahead.len_bytes() > input.place() {
+        return Err(NoMemory);
+    }
+    let text = match lexer.next_plain(input) {
+        Some(text) => Some(text),
+        None => lexer.next_reference(input),
+    };
+    if let Some(text) = text {
+        teller.tell(&Token::Characters {
+            class: CharClass::Other,
+            text,
+        })?;
+        return Ok(true);
+    }
+    match lexer.next_tag(alloc, input)? {
+        None => Ok(false),
+        Some(token) => {
+            teller.tell(&token)?;
+            teller.tell_place(&token, lexer.rested.saturating_sub(ORIGIN))?;
+            Ok(true)
+        }
+    }
+}
+
 /// Tells the tokens of a piece of a text.
 fn tell_piece(
     alloc: Global,
@@ -109,6 +142,9 @@ fn tell_piece(
     }
     let mut input = Cursor::of_str(piece);
     for _ in 0..1000 {
+        if teller.straight && tell_straight(alloc, lexer, &mut input, teller)? {
+            continue;
+        }
         if is_asking(lexer) || lexer.lex.ahead.len_bytes() > input.place() {
             return Err(NoMemory);
         }
@@ -161,13 +197,21 @@ fn tell_end(alloc: Global, lexer: Lexer, teller: &mut Teller) -> Result<(), NoMe
     }
 }
 
-/// The tokens of a text in two pieces, with or without their places; another lexer goes on with the second piece.
-fn lexed(alloc: Global, case: &Case, cut: usize, places: bool) -> Result<String, NoMemory> {
+/// The tokens of a text in two pieces, with or without their places, and straight where they can be read so; another lexer goes
+/// on with the second piece.
+fn lexed(
+    alloc: Global,
+    case: &Case,
+    cut: usize,
+    places: bool,
+    straight: bool,
+) -> Result<String, NoMemory> {
     let (rest, foreign, text, _) = *case;
     let mut teller = Teller {
         text: String::new(alloc),
         in_run: false,
         places,
+        straight,
     };
     let mut lexer = Lexer::at_rest(rest, false);
     let (first, second) = text.split_at_checked(cut).unwrap_or((text, ""));
@@ -179,21 +223,25 @@ fn lexed(alloc: Global, case: &Case, cut: usize, places: bool) -> Result<String,
 }
 
 /// Whether the tokens of a text are those that are wanted.
-fn agrees(alloc: Global, case: &Case) -> Result<bool, NoMemory> {
-    Ok(lexed(alloc, case, case.2.len(), true)?.as_str() == case.3)
+fn agrees(alloc: Global, case: &Case, straight: bool) -> Result<bool, NoMemory> {
+    Ok(lexed(alloc, case, case.2.len(), true, straight)?.as_str() == case.3)
 }
 
 /// Whether the tokens of a text that is cut there are those of the text in one piece.
 fn agrees_cut(alloc: Global, case: &Case, cut: usize) -> Result<bool, NoMemory> {
-    let whole = lexed(alloc, case, case.2.len(), false)?;
-    Ok(lexed(alloc, case, cut, false)?.as_str() == whole.as_str())
+    let whole = lexed(alloc, case, case.2.len(), false, false)?;
+    Ok(
+        lexed(alloc, case, cut, false, true)?.as_str() == whole.as_str()
+            && lexed(alloc, case, cut, false, false)?.as_str() == whole.as_str(),
+    )
 }
 
 #[test]
 fn lexes_as_the_standard_says(rt: HostRuntime) -> Result<(), Fail> {
     for case in CASES {
         let text = case.2;
-        assert!(rt; agrees(rt.alloc(), case)?, "{text}");
+        assert!(rt; agrees(rt.alloc(), case, false)?, "{text}");
+        assert!(rt; agrees(rt.alloc(), case, true)?, "{text} straight");
     }
     Ok(())
 }

@@ -1,6 +1,10 @@
 // One call of the part of the table that the state is in.
 ghost use Rattle.std.specs.Prelude.{◌≡◌, ◌≤◌, ◌^◌, ℕ, [], ◌∷◌, IfOk, IfSome, IfNone, IsTrue, false, if◌then◌else◌, Bool};
 ghost use Rattle.hp_tokens.specs.Advancing.{held, lexing, end_of_text, Turned, EndTurned};
+ghost use Rattle.std.specs.Prelude.{◌<◌, true, length, map};
+ghost use Rattle.std.specs.List.{list_all};
+ghost use Rattle.hp_tokens.specs.Plain.{none_of};
+ghost use Rattle.hp_tokens.specs.Rows.{character};
 ghost use Rattle.hp_tokens.specs.declared.rows.Turn.{Turn};
 ghost use Rattle.hp_tokens.specs.declared.rows.Turn.TheVariants as turns;
 ghost use Rattle.hp_lexer.specs.Table.{table, part_of};
@@ -11,7 +15,7 @@ ghost use Rattle.hp_lex_markup.specs.Rows as markup_rows;
 ghost use Rattle.hp_lexer.specs.Table.{gone_on as spec_gone_on};
 
 use crate::NoMemory;
-use hp_elements::{Token, Tokens};
+use hp_elements::{Text, Token, Tokens};
 use hp_names::Names;
 use hp_tokens::{Cursor, LexState, State, Turn};
 use std::alloc::Global;
@@ -133,6 +137,35 @@ pub(crate) fn next_text<'p>(
         _ => {
             let token = hp_lex_raw::next_text(state, input, rested)?;
             Some(token)
+        }
+    }
+}
+
+/// The text at the front that is emitted as it stands, where the lexer rests in a state of text and `rested` becomes the place of
+/// its start; otherwise `None`, and nothing changes. It is what calls of `make_moves` do there, with each code point in a token
+/// of its own.
+#[inline]
+pub(crate) fn next_plain<'p>(
+    state: &LexState,
+    input: &mut Cursor<'p>,
+    names: &Names,
+    rested: &mut u64,
+) -> Option<Text<'p>>
+    requires held { held state.now ≤ input.old.place }
+    ensures turn { IfSome result (λ text. Turned (table names.now) (part_of state.now.machine.state) (lexing state.now input.old rested.old) [] (lexing state.now input.new rested.new) (map character text) rested.new turns.Emitted) }
+    ensures no_nul { IfSome result (λ text. list_all (none_of (0 ∷ [])) text ≡ true) }
+    ensures long { IfSome result (λ text. 0 < length text) }
+    ensures none { IfNone result ((input.new ≡ input.old) × (rested.new ≡ rested.old)) }
+    ensures held { held state.now ≤ input.new.place }
+{
+    match state.machine.state {
+        State::Data => {
+            let text = hp_lex_tags::next_plain(state, input, names, rested)?;
+            Some(text)
+        }
+        _ => {
+            let text = hp_lex_raw::next_plain(state, input, rested)?;
+            Some(text)
         }
     }
 }

@@ -1,0 +1,152 @@
+-- The usual tag read straight from the page: where the rows stand at what was read of it so far.
+use Rattle.std.specs.Prelude.{◌≡◌, ℕ, ◌<◌, ◌≤◌, ◌&&◌, not, Bool, true, false, List, [], ◌∷◌, length, Option, Some, None, IsTrue, ◌==◌}
+use Rattle.hp_names.specs.References.{Reference}
+use Rattle.hp_elements.specs.Names.{lowered}
+use Rattle.hp_elements.specs.declared.token.Token.{Token}
+use Rattle.hp_elements.specs.declared.token.Token.TheVariants as token
+use Rattle.hp_tokens.specs.declared.state.State.{State}
+use Rattle.hp_tokens.specs.declared.state.State.TheVariants.{Data, TagName, BeforeAttributeName, AttributeName, AfterAttributeName, AfterAttributeValueQuoted}
+use Rattle.hp_tokens.specs.declared.state.Return.TheVariants as returns
+use Rattle.hp_tokens.specs.declared.building.Building.{Building}
+use Rattle.hp_tokens.specs.declared.building.Building.TheVariants.{Nothing, StartTag}
+use Rattle.hp_tokens.specs.declared.building.NewAttribute.{NewAttribute}
+use Rattle.hp_tokens.specs.declared.building.NewTag.{NewTag}
+use Rattle.hp_tokens.specs.declared.machine.Machine.{Machine}
+use Rattle.hp_tokens.specs.declared.building.Part.TheVariants.{Value}
+use Rattle.hp_tokens.specs.Reading.{Unread, ReadsRun}
+use Rattle.hp_tokens.specs.Rows.{go}
+use Rattle.hp_tokens.specs.Plain.{none_of, tag_name_stops, PutsPlain}
+use Rattle.hp_lex_tags.specs.Rows.{has_row, row}
+use Rattle.hp_tokens.specs.States.{uses_token, uses_buffer, uses_return, uses_value, is_resting}
+use Rattle.hp_tokens.specs.Parts.{finished_tag}
+use Rattle.hp_tokens.specs.Moves.{Lexing, makes, move}
+use Rattle.hp_tokens.specs.Runs.{Leads}
+use Rattle.hp_lex_tags.specs.Tags.{tag_rules, EmitsLast}
+use Rattle.hp_lex_tags.specs.declared.straight.Way.{Way}
+use Rattle.hp_lex_tags.specs.declared.straight.Way.TheVariants as way
+use Rattle.hp_lex_tags.specs.declared.straight.Reading.{Reading}
+use Rattle.hp_lex_tags.specs.declared.straight.ReadAttribute.{ReadAttribute}
+
+-- the machine in a state of tags, which uses nothing but what is built
+abbrev pub tagging : Option (List ℕ) → State → Building → Machine
+tagging last s b = record {
+  state = s;
+  building = b;
+  buffer = [];
+  return_to = returns.Data;
+  value = 0;
+  last_tag = last;
+  after_cr = false;
+}
+
+-- a lexer that stands there, and rested last at the start of the tag
+abbrev pub within : Option (List ℕ) → ℕ → State → Building → Unread → Lexing
+within last start s b input = record { machine = tagging last s b; place = input.place; rested = start; unread = input.text }
+
+-- a lexer that rests behind the tag
+abbrev pub behind_tag : Option (List ℕ) → Unread → Lexing
+behind_tag last input = record { machine = tagging last Data Nothing; place = input.place; rested = input.place; unread = input.text }
+
+-- the attribute read last is the one under construction
+abbrev pub begun : Option ReadAttribute → Option NewAttribute
+begun None = None
+begun (Some a) = Some (record { name = a.name; value = a.value })
+
+-- the start tag as the rows have it under construction
+abbrev pub tag_of : Reading → NewTag
+tag_of reading = record { name = reading.name; attributes = reading.attributes; attribute = begun reading.last; self_closing = false }
+
+-- the same with this attribute under construction
+abbrev pub naming : Reading → List ℕ → List ℕ → Building
+naming reading name value =
+    StartTag (record { name = reading.name; attributes = reading.attributes; attribute = Some (record { name = name; value = value }); self_closing = false })
+
+-- the states between two attributes
+abbrev pub is_between : State → Bool
+is_between BeforeAttributeName = true
+is_between AfterAttributeName = true
+is_between _ = false
+
+-- the states in which `/` and `>` end what was read before
+abbrev pub ends_part : State → Bool
+ends_part TagName = true
+ends_part BeforeAttributeName = true
+ends_part AttributeName = true
+ends_part AfterAttributeName = true
+ends_part AfterAttributeValueQuoted = true
+ends_part _ = false
+
+-- the state behind white space
+abbrev pub behind_blanks : State → State
+behind_blanks AttributeName = AfterAttributeName
+behind_blanks AfterAttributeName = AfterAttributeName
+behind_blanks _ = BeforeAttributeName
+
+-- the states that use nothing but what is built
+abbrev pub uses_token_alone : State → Bool
+uses_token_alone s = uses_token s && not (uses_buffer s) && not (uses_return s) && not (uses_value s) && not (is_resting s)
+
+-- moves that emit nothing led from one state to another
+pub record Onto (s : State) (b : Building) (old : Unread) (n : State) (d : Building) (new : Unread) : Type 0 where
+  pub leads : (names : List Reference) (last : Option (List ℕ)) (start : ℕ)
+      → Leads (move (tag_rules names)) (within last start s b old) [] (within last start n d new)
+  pub shorter : length new.text ≤ length old.text
+
+-- moves led behind the tag, and the last of them emitted it
+pub record Closes (s : State) (b : Building) (old : Unread) (tag : Token) (name : Option (List ℕ) → Option (List ℕ)) (new : Unread) : Type 0 where
+  pub n : State
+  pub d : Building
+  pub mid : Unread
+  pub onto : Onto s b old n d mid
+  pub last : (names : List Reference) (last : Option (List ℕ)) (start : ℕ)
+      → move (tag_rules names) (within last start n d mid) ≡ makes (behind_tag (name last) new) (record { began = start; token = tag } ∷ [])
+
+-- a start tag is whole
+abbrev pub ClosesStart : State → Building → Unread → Bool → Reading → Unread → Type 0
+ClosesStart s b old closing reading new =
+    Closes s b old (token.Start closing (finished_tag (tag_of reading))) (λ last. Some reading.name) new
+
+-- how far a start tag was read
+abbrev pub Arrives : State → Building → Unread → Reading → Unread → Way → Type 0
+Arrives s b old reading new (way.At n) =
+    Onto s b old n (StartTag (tag_of reading)) new × (is_between n ≡ true) × (length new.text < length old.text)
+Arrives s b old reading new (way.Whole closing) = ClosesStart s b old closing reading new
+Arrives s b old reading new (way.Left n) = Onto s b old n (StartTag (tag_of reading)) new × (uses_token_alone n ≡ true)
+
+-- the text begins with a code point that passes
+pub record BeginsBy (passes : ℕ → Bool) (text : List ℕ) : Type 0 where
+  pub c : ℕ
+  pub rest : List ℕ
+  pub begins : text ≡ c ∷ rest
+  pub passed : passes c ≡ true
+
+-- in this state a value in such quotes is read
+pub record IsQuoted (passes : ℕ → Bool) (mark : ℕ) (s : State) : Type 0 where
+  pub has : IsTrue (has_row s)
+  pub alone : uses_token_alone s ≡ true
+  pub plain : PutsPlain row passes Value s
+  pub no_cr : passes 13 ≡ false
+  pub ends : (m : Machine) → m.state ≡ s → row m (Some mark) ≡ go AfterAttributeValueQuoted m
+  pub apart : (mark == 13) ≡ false
+
+-- the name of a tag was taken, and lowered
+pub record NameTaken (old : Unread) (name : List ℕ) (new : Unread) : Type 0 where
+  pub run : List ℕ
+  pub reads : ReadsRun (none_of tag_name_stops) old run new
+  pub is : name ≡ lowered run
+
+-- a lexer that rested last at the start of the tag
+abbrev pub standing_at : Machine → Unread → ℕ → Lexing
+standing_at m input start = record { machine = m; place = input.place; rested = start; unread = input.text }
+
+abbrev pub is_tag : Token → Bool
+is_tag (token.Start closing tag) = true
+is_tag (token.EndTag name) = true
+is_tag _ = false
+
+-- a tag was read, from one rest to the next; or its front was, and emitted nothing
+abbrev pub TagRead : Machine → Unread → Machine → Unread → Option Token → Type 0
+TagRead m old n new (Some tag) =
+    ((names : List Reference) → EmitsLast (tag_rules names) (standing_at m old old.place) tag (standing_at n new new.place) old.place) × (n.state ≡ Data) × (is_tag tag ≡ true)
+TagRead m old n new None =
+    ((names : List Reference) → Leads (move (tag_rules names)) (standing_at m old old.place) [] (standing_at n new old.place)) × (is_resting n.state ≡ false)

@@ -1,0 +1,496 @@
+// The usual tag, read straight from the page: what the rows do code point by code point, at once.
+ghost use Rattle.std.specs.Prelude.{◌≡◌, ◌≤◌, ◌<◌, List, [], Some, None, OnOk, IfOk, true, false};
+ghost use Rattle.hp_elements.specs.declared.token.Token.TheVariants as tokens;
+ghost use Rattle.std.specs.Str.{chars};
+ghost use Rattle.hp_names.specs.References.{Reference};
+ghost use Rattle.hp_tokens.specs.declared.state.State.TheVariants as states;
+ghost use Rattle.hp_tokens.specs.declared.building.Building.TheVariants as building;
+ghost use Rattle.hp_tokens.specs.Reading.{opens_start_tag, opens_end_tag};
+ghost use Rattle.hp_tokens.specs.Parts.{added, finished_tag};
+ghost use Rattle.hp_tokens.specs.Advancing.{held, lexing};
+ghost use Rattle.hp_lex_tags.specs.Tags.{TagTurned};
+ghost use Rattle.hp_lex_tags.specs.Straight.{tagging, begun, tag_of, naming, ends_part, is_between, behind_blanks as spec_behind_blanks, uses_token_alone, IsQuoted, BeginsBy, NameTaken, Arrives, TagRead};
+ghost use Rattle.hp_tokens.specs.Plain.{none_of, attribute_name_stops, unquoted_stops};
+
+use hp_elements::{Attribute, AttributeSpace, Chain, Name, Namespace, Tag, Text, Token};
+use hp_tokens::{
+    AnyAttributeNameText, AnyTagNameText, Building, Cursor, DoubleQuotedText, LexState, Machine,
+    NewAttribute, NewTag, NoMemory, OwnedText, Run, SingleQuotedText, State, UnquotedText, add,
+};
+use std::alloc::Global;
+
+/// How far a tag was read.
+#[derive(Clone, Copy)]
+enum Way {
+    /// On, in this state, which stands between two attributes.
+    At(State),
+    /// To the end.
+    Whole { self_closing: bool },
+    /// So far that the rows go on, in this state.
+    Left(State),
+}
+
+/// An attribute that was read.
+#[derive(Drop)]
+struct ReadAttribute {
+    name: Name,
+    value: Text<'static>,
+}
+
+/// The start tag that is read: its name, its finished attributes, and the one read last.
+#[derive(Drop)]
+struct Reading {
+    name: Name,
+    attributes: Chain<Attribute>,
+    last: Option<ReadAttribute>,
+}
+
+/// A text of its own.
+fn owned(alloc: Global, text: &str) -> Result<OwnedText, NoMemory>
+    ensures { IfOk result (λ own. own ≡ chars text.now) }
+{
+    let mut own = OwnedText::new();
+    own.push_str(alloc, text)?;
+    Ok(own)
+}
+
+/// The attribute read last goes behind the finished ones.
+#[inline]
+fn fold(alloc: Global, reading: &mut Reading) -> Result<(), NoMemory>
+    ensures { OnOk result (reading.new ≡ record reading.old { attributes = added reading.old.attributes (begun reading.old.last); last = None }) }
+{
+    match reading.last.take() {
+        Some(ReadAttribute { name, value }) => {
+            let space = AttributeSpace::Plain;
+            add(
+                alloc,
+                &mut reading.attributes,
+                Attribute { space, name, value },
+            )
+        }
+        None => Ok(()),
+    }
+}
+
+/// The attribute with that name and value is the one read last.
+#[inline]
+fn keep(alloc: Global, reading: &mut Reading, name: Name, value: &str) -> Result<(), NoMemory>
+    ensures { OnOk result (reading.new ≡ record reading.old { last = Some (record { name = name; value = chars value.now }) }) }
+{
+    let value = Text::from_str(alloc, value)?;
+    reading.last = Some(ReadAttribute { name, value });
+    Ok(())
+}
+
+/// What ends the tag, if it comes next: `>`, or `/` and `>`.
+#[inline]
+fn close(input: &mut Cursor<'_>, state: State) -> Way
+    requires { ends_part state ≡ true }
+    ensures { (reading : Reading) → Arrives state (building.StartTag (tag_of reading)) input.old reading input.new result }
+{
+    if input.take_byte(b'>') {
+        return Way::Whole {
+            self_closing: false,
+        };
+    }
+    if !input.take_byte(b'/') {
+        return Way::Left(state);
+    }
+    if input.take_byte(b'>') {
+        return Way::Whole { self_closing: true };
+    }
+    Way::Left(State::SelfClosingStartTag)
+}
+
+/// The state behind blanks.
+#[inline]
+fn behind_blanks(state: State) -> State
+    ensures { result ≡ spec_behind_blanks state }
+{
+    match state {
+        State::AttributeName | State::AfterAttributeName => State::AfterAttributeName,
+        _ => State::BeforeAttributeName,
+    }
+}
+
+/// What stands behind a name or a value in quotes: blanks, or what ends the tag.
+#[inline]
+fn behind(input: &mut Cursor<'_>, state: State) -> Way
+    requires { ends_part state ≡ true }
+    ensures { (reading : Reading) → Arrives state (building.StartTag (tag_of reading)) input.old reading input.new result }
+{
+    if input.skip_blanks() {
+        return Way::At(behind_blanks(state));
+    }
+    close(input, state)
+}
+
+/// The same behind a value without quotes, where `/` ends nothing.
+#[inline]
+fn behind_unquoted(input: &mut Cursor<'_>) -> Way
+    ensures { (reading : Reading) → Arrives states.AttributeValueUnquoted (building.StartTag (tag_of reading)) input.old reading input.new result }
+{
+    if input.skip_blanks() {
+        return Way::At(State::BeforeAttributeName);
+    }
+    if input.take_byte(b'>') {
+        return Way::Whole {
+            self_closing: false,
+        };
+    }
+    Way::Left(State::AttributeValueUnquoted)
+}
+
+/// A value in quotes, behind the first of them.
+#[inline]
+fn read_quoted<R: Run>(
+    alloc: Global,
+    reading: &mut Reading,
+    name: Name,
+    input: &mut Cursor<'_>,
+    mark: u8,
+    state: State,
+) -> Result<Way, NoMemory>
+    requires ascii { mark < 128 }
+    requires quoted { IsQuoted R.passes mark state }
+    ensures { IfOk result (Arrives state (naming reading.old name []) input.old reading.new input.new) }
+{
+    keep(alloc, reading, name, input.take_run::<R>())?;
+    if input.take_byte(mark) {
+        return Ok(behind(input, State::AfterAttributeValueQuoted));
+    }
+    Ok(Way::Left(state))
+}
+
+/// A value without quotes.
+#[inline]
+fn read_unquoted(
+    alloc: Global,
+    reading: &mut Reading,
+    name: Name,
+    input: &mut Cursor<'_>,
+) -> Result<Way, NoMemory>
+    ensures { IfOk result (Arrives states.AttributeValueUnquoted (naming reading.old name []) input.old reading.new input.new) }
+{
+    keep(alloc, reading, name, input.take_run::<UnquotedText>())?;
+    Ok(behind_unquoted(input))
+}
+
+/// Whether the next code point begins a value without quotes, where it is no quotation mark.
+#[inline]
+fn begins_value(input: &Cursor<'_>) -> bool
+    ensures { result ≡ true → BeginsBy (none_of unquoted_stops) input.now.text }
+{
+    match input.front() {
+        Some(byte) => UnquotedText::passes(byte),
+        None => false,
+    }
+}
+
+/// The value of an attribute, behind its `=`.
+#[inline]
+fn read_value(
+    alloc: Global,
+    reading: &mut Reading,
+    name: Name,
+    input: &mut Cursor<'_>,
+) -> Result<Way, NoMemory>
+    ensures { IfOk result (Arrives states.BeforeAttributeValue (naming reading.old name []) input.old reading.new input.new) }
+{
+    if input.take_byte(b'"') {
+        let state = State::AttributeValueDoubleQuoted;
+        let double = read_quoted::<DoubleQuotedText>(alloc, reading, name, input, b'"', state)?;
+        return Ok(double);
+    }
+    if input.take_byte(b'\'') {
+        let state = State::AttributeValueSingleQuoted;
+        let single = read_quoted::<SingleQuotedText>(alloc, reading, name, input, b'\'', state)?;
+        return Ok(single);
+    }
+    if begins_value(input) {
+        let unquoted = read_unquoted(alloc, reading, name, input)?;
+        return Ok(unquoted);
+    }
+    keep(alloc, reading, name, "")?;
+    Ok(Way::Left(State::BeforeAttributeValue))
+}
+
+/// Whether the next code point begins the name of an attribute.
+#[inline]
+fn begins_name(input: &Cursor<'_>) -> bool
+    ensures { result ≡ true → BeginsBy (none_of attribute_name_stops) input.now.text }
+{
+    match input.front() {
+        Some(byte) => AnyAttributeNameText::passes(byte),
+        None => false,
+    }
+}
+
+/// An attribute, whose name begins here.
+#[inline(never)]
+fn read_attribute(
+    alloc: Global,
+    reading: &mut Reading,
+    input: &mut Cursor<'_>,
+    state: State,
+) -> Result<Way, NoMemory>
+    requires between { is_between state ≡ true }
+    requires name { BeginsBy (none_of attribute_name_stops) input.old.text }
+    ensures { IfOk result (Arrives state (building.StartTag (tag_of reading.old)) input.old reading.new input.new) }
+{
+    let _state = state;
+    fold(alloc, reading)?;
+    let name = Name::from_lowered(alloc, input.take_run::<AnyAttributeNameText>())?;
+    if input.take_byte(b'=') {
+        let way = read_value(alloc, reading, name, input)?;
+        return Ok(way);
+    }
+    keep(alloc, reading, name, "")?;
+    Ok(behind(input, State::AttributeName))
+}
+
+/// An attribute, or what ends the tag.
+#[inline]
+fn read_on(
+    alloc: Global,
+    reading: &mut Reading,
+    input: &mut Cursor<'_>,
+    state: State,
+) -> Result<Way, NoMemory>
+    requires { is_between state ≡ true }
+    ensures { IfOk result (Arrives state (building.StartTag (tag_of reading.old)) input.old reading.new input.new) }
+{
+    if begins_name(input) {
+        let way = read_attribute(alloc, reading, input, state)?;
+        return Ok(way);
+    }
+    Ok(close(input, state))
+}
+
+/// The attributes, and what ends the tag.
+fn read_attributes(
+    alloc: Global,
+    reading: &mut Reading,
+    input: &mut Cursor<'_>,
+    state: State,
+) -> Result<Way, NoMemory>
+    requires { is_between state ≡ true }
+    ensures { IfOk result (Arrives state (building.StartTag (tag_of reading.old)) input.old reading.new input.new) }
+{
+    let mut now = state;
+    'attributes: loop {
+        let way = read_on(alloc, reading, input, now)?;
+        match way {
+            Way::At(next) => now = next,
+            _ => return Ok(way),
+        }
+    }
+}
+
+/// What follows the name of a start tag.
+#[inline]
+fn read_rest(alloc: Global, reading: &mut Reading, input: &mut Cursor<'_>) -> Result<Way, NoMemory>
+    ensures { IfOk result (Arrives states.TagName (building.StartTag (tag_of reading.old)) input.old reading.new input.new) }
+{
+    let way = behind(input, State::TagName);
+    match way {
+        Way::At(state) => {
+            let end = read_attributes(alloc, reading, input, state)?;
+            Ok(end)
+        }
+        _ => Ok(way),
+    }
+}
+
+/// The tag is whole.
+#[inline]
+fn whole<'p>(
+    alloc: Global,
+    machine: &mut Machine,
+    mut reading: Reading,
+    self_closing: bool,
+) -> Result<Token<'p>, NoMemory>
+    requires clear { machine.old.after_cr ≡ false }
+    ensures token { IfOk result (λ token. token ≡ tokens.Start self_closing (finished_tag (tag_of reading))) }
+    ensures machine { OnOk result (machine.new ≡ tagging (Some reading.name) states.Data building.Nothing) }
+{
+    fold(alloc, &mut reading)?;
+    machine.last_tag = Some(owned(alloc, reading.name.as_str())?);
+    machine.enter(State::Data);
+    let tag = Tag {
+        namespace: Namespace::Html,
+        name: reading.name,
+        attributes: reading.attributes,
+    };
+    Ok(Token::Start { self_closing, tag })
+}
+
+/// The attribute as one under construction.
+fn under_construction(
+    alloc: Global,
+    attribute: Option<ReadAttribute>,
+) -> Result<Option<NewAttribute>, NoMemory>
+    ensures { IfOk result (λ new. new ≡ begun attribute) }
+{
+    match attribute {
+        None => Ok(None),
+        Some(attribute) => Ok(Some(NewAttribute {
+            name: owned(alloc, attribute.name.as_str())?,
+            value: owned(alloc, attribute.value.as_str())?,
+        })),
+    }
+}
+
+/// The tag is left to the rows, in this state.
+#[inline(never)]
+fn leave(
+    alloc: Global,
+    machine: &mut Machine,
+    reading: Reading,
+    state: State,
+) -> Result<(), NoMemory>
+    requires clear { machine.old.after_cr ≡ false }
+    requires alone { uses_token_alone state ≡ true }
+    ensures { OnOk result (machine.new ≡ tagging machine.old.last_tag state (building.StartTag (tag_of reading))) }
+{
+    machine.enter(state);
+    machine.building = Building::StartTag(NewTag {
+        name: owned(alloc, reading.name.as_str())?,
+        attributes: reading.attributes,
+        attribute: under_construction(alloc, reading.last)?,
+        self_closing: false,
+    });
+    Ok(())
+}
+
+/// The name of a tag, in lower case.
+#[inline]
+fn read_name(alloc: Global, input: &mut Cursor<'_>) -> Result<Name, NoMemory>
+    ensures { IfOk result (λ name. NameTaken input.old name input.new) }
+{
+    let name = Name::from_lowered(alloc, input.take_run::<AnyTagNameText>())?;
+    Ok(name)
+}
+
+/// A start tag, of which `<` comes next and then a letter; `None` where the rows go on.
+#[inline(never)]
+fn read_start_tag<'p>(
+    alloc: Global,
+    machine: &mut Machine,
+    input: &mut Cursor<'p>,
+) -> Result<Option<Token<'p>>, NoMemory>
+    requires data { machine.old.state ≡ states.Data }
+    requires clear { machine.old.after_cr ≡ false }
+    requires opens { opens_start_tag input.old.text ≡ true }
+    ensures { IfOk result (TagRead machine.old input.old machine.new input.new) }
+{
+    let _ = input.take_byte(b'<');
+    let name = read_name(alloc, input)?;
+    let mut reading = Reading {
+        name,
+        attributes: Chain::new(),
+        last: None,
+    };
+    let way = read_rest(alloc, &mut reading, input)?;
+    match way {
+        Way::Whole { self_closing } => {
+            let token = whole(alloc, machine, reading, self_closing)?;
+            Ok(Some(token))
+        }
+        Way::At(state) => {
+            leave(alloc, machine, reading, state)?;
+            Ok(None)
+        }
+        Way::Left(state) => {
+            leave(alloc, machine, reading, state)?;
+            Ok(None)
+        }
+    }
+}
+
+/// The end tag is left to the rows, behind its name.
+#[inline(never)]
+fn leave_end_tag(alloc: Global, machine: &mut Machine, name: &Name) -> Result<(), NoMemory>
+    requires clear { machine.old.after_cr ≡ false }
+    ensures { OnOk result (machine.new ≡ tagging machine.old.last_tag states.TagName (building.EndTag name.now)) }
+{
+    machine.enter(State::TagName);
+    machine.building = Building::EndTag(owned(alloc, name.as_str())?);
+    Ok(())
+}
+
+/// An end tag, of which `</` comes next and then a letter; `None` where the rows go on.
+#[inline(never)]
+fn read_end_tag<'p>(
+    alloc: Global,
+    machine: &mut Machine,
+    input: &mut Cursor<'p>,
+) -> Result<Option<Token<'p>>, NoMemory>
+    requires data { machine.old.state ≡ states.Data }
+    requires clear { machine.old.after_cr ≡ false }
+    requires opens { opens_end_tag input.old.text ≡ true }
+    ensures { IfOk result (TagRead machine.old input.old machine.new input.new) }
+{
+    let _ = input.take_byte(b'<');
+    let _ = input.take_byte(b'/');
+    let name = read_name(alloc, input)?;
+    if input.take_byte(b'>') {
+        machine.enter(State::Data);
+        return Ok(Some(Token::EndTag { name }));
+    }
+    leave_end_tag(alloc, machine, &name)?;
+    Ok(None)
+}
+
+/// A tag at the front, if it is a usual one, in the data state.
+#[inline]
+fn tag_in_data<'p>(
+    alloc: Global,
+    state: &mut LexState,
+    input: &mut Cursor<'p>,
+    rested: &mut u64,
+) -> Result<Option<Token<'p>>, NoMemory>
+    requires data { state.old.machine.state ≡ states.Data }
+    requires held { held state.old ≤ input.old.place }
+    ensures tag { IfOk result (λ tag. (names : List Reference) → TagTurned names (lexing state.old input.old rested.old) tag (lexing state.new input.new rested.new) rested.new) }
+    ensures held { IfOk result (λ tag. held state.new ≤ input.new.place) }
+{
+    if state.machine.after_cr || !state.ahead.is_empty() {
+        return Ok(None);
+    }
+    let place = input.place();
+    if input.opens_start_tag() {
+        let start = read_start_tag(alloc, &mut state.machine, input)?;
+        *rested = place;
+        return Ok(start);
+    }
+    if input.opens_end_tag() {
+        let end = read_end_tag(alloc, &mut state.machine, input)?;
+        *rested = place;
+        return Ok(end);
+    }
+    Ok(None)
+}
+
+/// In the data state, a tag at the front, if it is a usual one: the last of the moves that were made emitted it. With `None` moves
+/// were made that emit nothing, or none, and the rows go on. `rested` is the last place at or before the tag where the lexer
+/// rested. After `NoMemory` the state is spent.
+#[inline]
+pub fn next_tag<'p>(
+    alloc: Global,
+    state: &mut LexState,
+    input: &mut Cursor<'p>,
+    rested: &mut u64,
+) -> Result<Option<Token<'p>>, NoMemory>
+    requires held { held state.old ≤ input.old.place }
+    ensures tag { IfOk result (λ tag. (names : List Reference) → TagTurned names (lexing state.old input.old rested.old) tag (lexing state.new input.new rested.new) rested.new) }
+    ensures held { IfOk result (λ tag. held state.new ≤ input.new.place) }
+{
+    match state.machine.state {
+        State::Data => {
+            let tag = tag_in_data(alloc, state, input, rested)?;
+            Ok(tag)
+        }
+        _ => Ok(None),
+    }
+}

@@ -1,0 +1,85 @@
+-- What is read without the table, and the end of a piece, are steps.
+use Rattle.std.specs.Option.{is_some}
+use Rattle.std.proofs.Common.{◌≡◌, ℕ, Bool, true, false, ◌-◌, ◌≤◌, ◌^◌, List, [], ◌∷◌, ◌++◌, refl, ap, ◌∙◌, sym, subst, arith, Option, None, Some}
+use Rattle.hp_elements.specs.declared.token.Token.{Token}
+use Rattle.hp_names.specs.References.{Reference}
+use Rattle.hp_tokens.specs.declared.state.State.{State}
+use Rattle.hp_tokens.specs.declared.state.State.TheVariants.{Data}
+use Rattle.hp_tokens.specs.declared.rows.Turn.TheVariants as turns
+use Rattle.hp_tokens.specs.Reading.{IsFront, Unread}
+use Rattle.hp_tokens.specs.Moves.{Lexing, Emitted, Rules, needs_more, makes, move_on, move}
+use Rattle.hp_tokens.specs.Runs.{Leads}
+use Rattle.hp_tokens.specs.Advancing.{held, unread, lexing, Advances, Stops, Turned}
+use Rattle.hp_tokens.proofs.OneByOne.{none_yet}
+use Rattle.hp_lex_tags.specs.Tags.{EmitsLast, TagTurned, tag_rules, is_here}
+use Rattle.hp_lexer.specs.declared.lexer.Asked.{Asked}
+use Rattle.hp_lexer.specs.declared.lexer.Asked.TheVariants as asked
+use Rattle.hp_lexer.specs.declared.lexer.Lexer.{Lexer}
+use Rattle.hp_lexer.specs.declared.lexer.Step.TheVariants as steps
+use Rattle.hp_lexer.specs.Table.{table, part_of}
+use Rattle.hp_lexer.specs.Standing.{stands, Reaches, ReachesCut, RestsInData, Stepped, TagStepped}
+use Rattle.hp_lexer.proofs.Opening.{at_nothing}
+use Rattle.hp_lexer.proofs.Parts.{IsPart, tags-part, text_in_tags, advances, part_made, part_leads}
+
+module _ (old new : Lexer) (old_input new_input : Unread) (none : old.asked ≡ asked.Nothing) (still : new.asked ≡ asked.Nothing) where
+  -- where both stand
+  both : (P : Lexing → Lexing → Type 0) → P (lexing old.lex old_input old.rested) (lexing new.lex new_input new.rested) → P (stands old old_input) (stands new new_input)
+  both P h =
+      let Q : Lexing → Type 0 = λ x. P x (stands new new_input) in
+      let R : Lexing → Type 0 = λ x. P (lexing old.lex old_input old.rested) x in
+      subst Q (sym (at_nothing old old_input none)) (subst R (sym (at_nothing new new_input still)) h)
+
+  pub tokens_at_once : (s : State) (tokens : List Token)
+      → Turned (table old.names) (part_of s) (lexing old.lex old_input old.rested) [] (lexing new.lex new_input new.rested) tokens new.rested turns.Emitted
+      → Stepped old old_input new new_input (steps.Tokens (new.rested - 2 ^ 32) tokens)
+  tokens_at_once s tokens t = (
+    both (λ x y. Advances (table old.names) x [] y tokens new.rested true) t.0,
+    refl,
+    still,
+    (s, both (λ x y. Stops (table old.names) (part_of s) y) t.1),
+  )
+
+  in_table : (tag : Token) → EmitsLast (tag_rules old.names) (lexing old.lex old_input old.rested) tag (lexing new.lex new_input new.rested) new.rested
+      → EmitsLast (table old.names) (lexing old.lex old_input old.rested) tag (lexing new.lex new_input new.rested) new.rested
+  in_table tag e = record {
+    mid = e.mid;
+    leads = part_leads (tag_rules old.names) is_here old.names (tags-part old.names) e.leads;
+    last = part_made (tag_rules old.names) is_here old.names (tags-part old.names) e.mid _ _ e.last;
+  }
+
+  pub tag_at_once : (token : Option Token) → TagTurned old.names (lexing old.lex old_input old.rested) token (lexing new.lex new_input new.rested) new.rested → TagStepped old old_input new new_input token
+  tag_at_once (Some tag) t = (
+    tokens_at_once Data (tag ∷ []) (text_in_tags old.names Data _ _ (tag ∷ []) new.rested refl t.0),
+    both (λ x y. EmitsLast (table old.names) x tag y new.rested) (in_table tag t.1),
+  )
+  tag_at_once None t =
+      both (λ x y. Advances (table old.names) x [] y [] new.rested false) (advances (tag_rules old.names) is_here old.names (tags-part old.names) _ [] _ [] new.rested false t)
+
+pub nothing_done : (old : Lexer) (input : Unread) → Reaches old input old input [] false
+nothing_done old input = none_yet (table old.names) (stands old input) [] old.rested
+
+-- nothing comes first
+pub none_in_front : (text : List ℕ) (front : Option ℕ) → IsFront text front → is_some front ≡ false → text ≡ []
+none_in_front text None h e = h
+none_in_front text (Some byte) h e = cc
+
+-- the data state before the next piece
+pub cut_at_once : (old new : Lexer) (input : Unread) → RestsInData old → input.text ≡ [] → new ≡ record old { rested = 2 ^ 32 } → Stepped old input new input steps.AtCut
+cut_at_once old new input rests used is = subst (λ (x : Lexer). Stepped old input x input steps.AtCut) (sym is) done
+  where
+    all_read : unread old.lex input ≡ []
+    all_read = ap (λ (u : List ℕ). u ++ input.text) rests.ahead ∙ used
+
+    few : (ahead : List ℕ) → ahead ≡ old.lex.ahead → ahead ≡ [] → held old.lex ≤ 2 ^ 32
+    few ahead is none = let P : List ℕ → Type 0 = λ u. held (record old.lex { ahead = u }) ≤ 2 ^ 32 in subst P is (subst P (sym none) (omega arith))
+
+    done : Stepped old input (record old { rested = 2 ^ 32 }) input steps.AtCut
+    done = record {
+      rested = old.rested;
+      advances = none_yet (table old.names) (stands old input) [] old.rested;
+      needs = ap (λ (u : List ℕ). move_on (table old.names) (stands old input) u) all_read;
+      asked = rests.asked;
+      start = refl;
+      held = few [] (sym rests.ahead) refl;
+      used = used;
+    }

@@ -1,0 +1,12 @@
+use Rattle.hp_tokens.specs.Rows.{character}
+use Rattle.std.specs.Prelude.{map}
+use Rattle.hp_lexer.proofs.Direct.{tokens_at_once}
+use Rattle.hp_lexer.proofs.lexer.Lexer.next_plain.Goals as goal
+
+pub returns-in_ok-text-in-Nothing-clause-text : goal.returns-in_ok-text-in-Nothing-clause-text
+returns-in_ok-text-in-Nothing-clause-text c = record {
+  stepped = tokens_at_once c.args.self.now (record c.args.self.now { rested = c.next_plain.new.rested }) c.args.input.now c.next_plain.new.input c.in-Nothing.is c.in-Nothing.is
+      c.args.self.now.lex.machine.state (map character c.in_ok-text-in-Nothing.text) c.in_ok-text-in-Nothing.ensures.turn;
+  no_nul = c.in_ok-text-in-Nothing.ensures.no_nul;
+  long = c.in_ok-text-in-Nothing.ensures.long;
+}
