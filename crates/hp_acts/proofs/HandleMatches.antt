@@ -102,23 +102,23 @@ module _ (s : ControlState) (of_act : Bool → Token → Act → ControlState �
   -- what is asked on the way of what is left of a token, and of a token at once
   abbrev pub rest_suits : Option Token → ControlState → Bool
   rest_suits None c = true
-  rest_suits (Some t) c = turns_suit of_act of_test (bound c) t c
+  rest_suits (Some t) c = turns_suit s of_act of_test (bound c) t c
 
   abbrev pub suits_at_once : Token → ControlState → Bool
-  suits_at_once t c = if c.skip_lf && is_line_feed t then rest_suits (after_first t) (settled c) else turns_suit of_act of_test (bound (settled c)) t (settled c)
+  suits_at_once t c = if c.skip_lf && is_line_feed t then rest_suits (after_first t) (settled c) else turns_suit s of_act of_test (bound (settled c)) t (settled c)
 
   module _ (acts_hold : (t : Token) (n : ℕ) → IsRead t → (fostering : Bool) (a : Act) (v : Course) (d : Split) → StandsOn s d → Along v n (state_over d s) → fits (kind_of t) a v ≡ true → is_row_act a ≡ true → of_act fostering t a (state_over d s) ≡ true
       → MatchesAlike s d (end_by (answer_of s) (by_plan (act_plan fostering t a) d)) (step fostering t a (state_over d s)))
       (tests_hold : (t : Token) (x : Test) (d : Split) → StandsOn s d → of_test x (state_over d s) ≡ true → end_by (answer_of s) (test_plan t x d) ≡ Ok (holds t x (state_over d s))) where
-    turns_over : (t : Token) (v : Split) → IsRead t → StandsOn s v → IsValid (state_over v s) → turns_suit of_act of_test (bound (state_over v s)) t (state_over v s) ≡ true
+    turns_over : (t : Token) (v : Split) → IsRead t → StandsOn s v → IsValid (state_over v s) → turns_suit s of_act of_test (bound (state_over v s)) t (state_over v s) ≡ true
         → EndsOver s v (end_by (answer_of s) (all_turns_plan t v)) (few_turns v (state_over v s) t) (all_turns (state_over v s) t)
     turns_over t v read st valid i =
         let c = state_over v s in
         ends_so s v (end_by (answer_of s) (all_turns_plan t v)) (few_turns v c t) (turns turn (bound c) t c) c (turns-end t c read valid)
-        (turns_match s of_act of_test acts_hold tests_hold (most_turns v) (bound c) t (record { split = v; handled = nothing_asked }) (no_more s v) read st valid (suits_fewer of_act of_test (most_turns v) (bound c) t c (no_more s v) i))
+        (turns_match s of_act of_test acts_hold tests_hold (most_turns v) (bound c) t (record { split = v; handled = nothing_asked }) (no_more s v) read st valid (suits_fewer s of_act of_test (most_turns v) (bound c) t c (no_more s v) i))
 
     -- from the view that skips no line feed any more
-    settled_turns : (t : Token) (v : Split) → IsRead t → StandsOn s v → IsValid (state_over v s) → turns_suit of_act of_test (bound (settled (state_over v s))) t (settled (state_over v s)) ≡ true
+    settled_turns : (t : Token) (v : Split) → IsRead t → StandsOn s v → IsValid (state_over v s) → turns_suit s of_act of_test (bound (settled (state_over v s))) t (settled (state_over v s)) ≡ true
         → EndsOver s v (end_by (answer_of s) (all_turns_plan t (unskipped v))) (few_turns v (settled (state_over v s)) t) (all_turns (settled (state_over v s)) t)
     settled_turns t v read st valid i =
         let c = state_over v s in
@@ -126,7 +126,7 @@ module _ (s : ControlState) (of_act : Bool → Token → Act → ControlState �
         let same : state_over w s ≡ settled c = settled_over s v in
         subst (λ x. EndsOver s v (end_by (answer_of s) (all_turns_plan t w)) (few_turns v x t) (all_turns x t)) same
         (from_unskipped s v (end_by (answer_of s) (all_turns_plan t w)) (few_turns w (state_over w s) t) (all_turns (state_over w s) t)
-        (turns_over t w read (unskipped_stands s v st) (subst (λ x. IsValid x) (sym same) (settled_valid c valid)) (ap (λ x. turns_suit of_act of_test (bound x) t x) same ∙ i)))
+        (turns_over t w read (unskipped_stands s v st) (subst (λ x. IsValid x) (sym same) (settled_valid c valid)) (ap (λ x. turns_suit s of_act of_test (bound x) t x) same ∙ i)))
 
     -- nothing is left of the token
     dropped : (v : Split) → StandsOn s v → EndsOver s v (end_by (answer_of s) (handle_rest None (unskipped v))) (few_of_rest v (settled (state_over v s)) None) (handled_rest (settled (state_over v s)) None)
@@ -146,12 +146,12 @@ module _ (s : ControlState) (of_act : Bool → Token → Act → ControlState �
         (if is_line_feed t then handled_rest (settled (state_over v s)) (after_first t) else all_turns (settled (state_over v s)) t)
 
     skipping : (t : Token) (v : Split) → IsRead t → StandsOn s v → IsValid (state_over v s)
-        → (if is_line_feed t then rest_suits (after_first t) (settled (state_over v s)) else turns_suit of_act of_test (bound (settled (state_over v s))) t (settled (state_over v s))) ≡ true
+        → (if is_line_feed t then rest_suits (after_first t) (settled (state_over v s)) else turns_suit s of_act of_test (bound (settled (state_over v s))) t (settled (state_over v s))) ≡ true
         → Skipping v (end_by (answer_of s) (handle_rest (without_line_feed t) (unskipped v))) t
     skipping (token.Characters class []) v read st valid i = settled_turns (token.Characters class []) v read st valid i
     skipping (token.Characters class (x ∷ [])) v read st valid i = go (x == 0xA) i
       where
-        go : (b : Bool) → (if b then true else turns_suit of_act of_test (bound (settled (state_over v s))) (token.Characters class (x ∷ [])) (settled (state_over v s))) ≡ true
+        go : (b : Bool) → (if b then true else turns_suit s of_act of_test (bound (settled (state_over v s))) (token.Characters class (x ∷ [])) (settled (state_over v s))) ≡ true
             → EndsOver s v (end_by (answer_of s) (handle_rest (if b then None else Some (token.Characters class (x ∷ []))) (unskipped v)))
             (if b then few_of_rest v (settled (state_over v s)) None else few_turns v (settled (state_over v s)) (token.Characters class (x ∷ [])))
             (if b then handled_rest (settled (state_over v s)) None else all_turns (settled (state_over v s)) (token.Characters class (x ∷ [])))
@@ -159,7 +159,7 @@ module _ (s : ControlState) (of_act : Bool → Token → Act → ControlState �
         go false j = settled_turns (token.Characters class (x ∷ [])) v tt st valid j
     skipping (token.Characters class (x ∷ y ∷ text)) v read st valid i = go (x == 0xA) i
       where
-        go : (b : Bool) → (if b then turns_suit of_act of_test (bound (settled (state_over v s))) (token.Characters class (y ∷ text)) (settled (state_over v s)) else turns_suit of_act of_test (bound (settled (state_over v s))) (token.Characters class (x ∷ y ∷ text)) (settled (state_over v s))) ≡ true
+        go : (b : Bool) → (if b then turns_suit s of_act of_test (bound (settled (state_over v s))) (token.Characters class (y ∷ text)) (settled (state_over v s)) else turns_suit s of_act of_test (bound (settled (state_over v s))) (token.Characters class (x ∷ y ∷ text)) (settled (state_over v s))) ≡ true
             → EndsOver s v (end_by (answer_of s) (handle_rest (if b then Some (token.Characters class (y ∷ text)) else Some (token.Characters class (x ∷ y ∷ text))) (unskipped v)))
             (if b then few_turns v (settled (state_over v s)) (token.Characters class (y ∷ text)) else few_turns v (settled (state_over v s)) (token.Characters class (x ∷ y ∷ text)))
             (if b then handled_rest (settled (state_over v s)) (Some (token.Characters class (y ∷ text))) else all_turns (settled (state_over v s)) (token.Characters class (x ∷ y ∷ text)))
@@ -180,16 +180,16 @@ module _ (s : ControlState) (of_act : Bool → Token → Act → ControlState �
             let c = state_over v s in
             let end = end_by (answer_of s) (handle_rest (without_line_feed t) (unskipped v)) in
             let on : c.skip_lf ≡ true = skips_over s v ∙ e in
-            let suits : (if is_line_feed t then rest_suits (after_first t) (settled c) else turns_suit of_act of_test (bound (settled c)) t (settled c)) ≡ true =
-            sym (ap (λ b. if b && is_line_feed t then rest_suits (after_first t) (settled c) else turns_suit of_act of_test (bound (settled c)) t (settled c)) on) ∙ i in
+            let suits : (if is_line_feed t then rest_suits (after_first t) (settled c) else turns_suit s of_act of_test (bound (settled c)) t (settled c)) ≡ true =
+            sym (ap (λ b. if b && is_line_feed t then rest_suits (after_first t) (settled c) else turns_suit s of_act of_test (bound (settled c)) t (settled c)) on) ∙ i in
             subst (λ b. EndsOver s v end (if b && is_line_feed t then few_of_rest v (settled c) (after_first t) else few_turns v (settled c) t) (if b && is_line_feed t then handled_rest (settled c) (after_first t) else all_turns (settled c) t)) (sym on)
             (skipping t v read st valid suits)
         go false e =
             let c = state_over v s in
             let end = end_by (answer_of s) (all_turns_plan t v) in
             let off : c.skip_lf ≡ false = skips_over s v ∙ e in
-            let suits : turns_suit of_act of_test (bound (settled c)) t (settled c) ≡ true =
-            sym (ap (λ b. if b && is_line_feed t then rest_suits (after_first t) (settled c) else turns_suit of_act of_test (bound (settled c)) t (settled c)) off) ∙ i in
+            let suits : turns_suit s of_act of_test (bound (settled c)) t (settled c) ≡ true =
+            sym (ap (λ b. if b && is_line_feed t then rest_suits (after_first t) (settled c) else turns_suit s of_act of_test (bound (settled c)) t (settled c)) off) ∙ i in
             subst (λ b. EndsOver s v end (if b && is_line_feed t then few_of_rest v (settled c) (after_first t) else few_turns v (settled c) t) (if b && is_line_feed t then handled_rest (settled c) (after_first t) else all_turns (settled c) t)) (sym off)
             (subst (λ x. EndsOver s v end (few_turns v x t) (all_turns x t)) (sym (settled_same c off))
-            (turns_over t v read st valid (sym (ap (λ x. turns_suit of_act of_test (bound x) t x) (settled_same c off)) ∙ suits)))
+            (turns_over t v read st valid (sym (ap (λ x. turns_suit s of_act of_test (bound x) t x) (settled_same c off)) ∙ suits)))

@@ -145,14 +145,14 @@ few_whole t v read valid = go ((state_over v nothing).skip_lf && is_line_feed t)
 -- nothing more is asked
 suits_rest : (o : Option Token) (c : ControlState) → rest_suits nothing any_act any_test o c ≡ true
 suits_rest None c = refl
-suits_rest (Some t) c = turns_any (bound c) t c
+suits_rest (Some t) c = turns_any nothing (bound c) t c
 
 suits_any : (t : Token) (c : ControlState) → suits_at_once nothing any_act any_test t c ≡ true
 suits_any t c = go (c.skip_lf && is_line_feed t)
   where
-    go : (b : Bool) → (if b then rest_suits nothing any_act any_test (after_first t) (settled c) else turns_suit any_act any_test (bound (settled c)) t (settled c)) ≡ true
+    go : (b : Bool) → (if b then rest_suits nothing any_act any_test (after_first t) (settled c) else turns_suit nothing any_act any_test (bound (settled c)) t (settled c)) ≡ true
     go true = suits_rest (after_first t) (settled c)
-    go false = turns_any (bound (settled c)) t (settled c)
+    go false = turns_any nothing (bound (settled c)) t (settled c)
 
 handled_whole : (t : Token) (v : Split) → IsRead t → StandsOn nothing v → IsValid (state_over v nothing) → EndsAs v (end_by (answer_of nothing) (handle_plan t v)) (handle_at_once (state_over v nothing) t)
 handled_whole t v read st valid =

@@ -117,7 +117,7 @@ said_of None o h = h
 said_of (Some page) o h = tt
 
 module _ (s : ControlState) where
-  acts_older : (t : Token) (n : ℕ) → IsRead t → (fostering : Bool) (a : Act) (v : Course) (d : Split) → StandsOn s d → Along v n (state_over d s) → fits (kind_of t) a v ≡ true → is_row_act a ≡ true → is_act_told s fostering t a (state_over d s) ≡ true
+  pub acts_older : (t : Token) (n : ℕ) → IsRead t → (fostering : Bool) (a : Act) (v : Course) (d : Split) → StandsOn s d → Along v n (state_over d s) → fits (kind_of t) a v ≡ true → is_row_act a ≡ true → is_act_told s fostering t a (state_over d s) ≡ true
       → MatchesAlike s d (end_by (answer_of s) (by_plan (act_plan fostering t a) d)) (step fostering t a (state_over d s))
   acts_older t n read fostering a v d st g h r i =
       let c = state_over d s in

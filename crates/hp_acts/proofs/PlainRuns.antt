@@ -1,6 +1,7 @@
 -- The short way of a run of text comes to the same as the rows.
 use Rattle.std.proofs.Common.{◌≡◌, ℕ, suc, ◌-◌, ◌<◌, true, false, List, [], ◌∷◌, Option, Some, None, Result, Ok, Err, refl, ap, sym, subst, ◌∙◌, arith}
-use Rattle.std.specs.Prelude.{not, ◌||◌, ◌&&◌}
+use Rattle.std.specs.Prelude.{Bool, if◌then◌else◌, not, ◌||◌, ◌&&◌}
+use Rattle.std.specs.List.{list_all}
 use Rattle.hp_elements.specs.declared.token.CharClass.{CharClass}
 use Rattle.hp_elements.specs.declared.token.CharClass.TheVariants.{White, Nul, Other}
 use Rattle.hp_elements.specs.declared.token.Kind.TheVariants as kind
@@ -23,9 +24,10 @@ use Rattle.hp_rules_rest.specs.Whole.{every_mode_rows}
 use Rattle.hp_views.specs.FieldPlans.{frameset_plan}
 use Rattle.hp_views.specs.PlacePlans.{put_plan}
 use Rattle.hp_views.specs.View.{Sight, Carries}
-use Rattle.hp_acts.specs.HandlePlans.{all_turns_plan, most_turns, turns_plan, where_again}
-use Rattle.hp_acts.specs.Handling.{Handles, nothing_asked}
-use Rattle.hp_acts.specs.Plain.{IsPlain, body_text_plan, has_html_top, is_run, is_text_mode, put_text_plan, run_plan, text_plan}
+use Rattle.hp_model.specs.Texts.{as_run, has_html_top, is_text_mode, is_white, run_of, white_or_other}
+use Rattle.hp_acts.specs.HandlePlans.{all_turns_plan, handle_plan, handle_rest, most_turns, turns_plan, where_again, without_line_feed}
+use Rattle.hp_acts.specs.Handling.{Handles, nothing_asked, unskipped}
+use Rattle.hp_acts.specs.Plain.{IsPlain, body_text_plan, is_run, put_text_plan, run_plan, takes_text, text_plan}
 use Rattle.hp_acts.specs.RowPlans.{Reached, Came, left, changed, dispatched, is_early, mode_plan, rules_plan, turn_plan, where_left}
 use Rattle.hp_acts.proofs.TurnRuns.{turn_on, turns_next}
 
@@ -139,3 +141,49 @@ pub both_carried : (result : Result (Unit {0}) Refusal) (old mid new : Sight) (p
 both_carried (Ok u) old mid new plan next run k = runs_then next run k
 both_carried (Err (Crossed crossing)) old mid new plan next run k = runs_then next run k
 both_carried (Err NoMemory) old mid new plan next run k = tt
+
+-- a text that is handled as one run
+run_or_white : (white : Bool) (text : List ℕ) → is_run (run_of white text) ≡ true
+run_or_white true text = refl
+run_or_white false text = refl
+
+record Taken (v : Split) : Type 0 where
+  pub skips : v.change.skip_lf ≡ false
+  pub place : is_text_mode v.change.mode ≡ true
+  pub top : has_html_top v.change.stack ≡ true
+
+both_hold : (a b : Bool) → (a && b) ≡ true → (a ≡ true) × (b ≡ true)
+both_hold true true h = (refl, refl)
+both_hold true false h = absurd (cc)
+both_hold false b h = absurd (cc)
+
+is_false : (a : Bool) → not a ≡ true → a ≡ false
+is_false false h = refl
+is_false true h = absurd (cc)
+
+taken : (v : Split) → takes_text v ≡ true → Taken v
+taken v h =
+    let both = both_hold (not v.change.skip_lf && is_text_mode v.change.mode) (has_html_top v.change.stack) h in
+    let first = both_hold (not v.change.skip_lf) (is_text_mode v.change.mode) both.0 in
+    record { skips = is_false v.change.skip_lf first.0; place = first.1; top = both.1 }
+
+text_plain : (white : Bool) (text : List ℕ) (v : Split) → takes_text v ≡ true → IsPlain v (run_of white text)
+text_plain white text v h = record { run = run_or_white white text; place = (taken v h).place; top = (taken v h).top }
+
+unskipped_plan : (t : Token) (v : Split) → takes_text v ≡ true → handle_plan t v ≡ all_turns_plan t v
+unskipped_plan t v h = ap (λ b. if b then handle_rest (without_line_feed t) (unskipped v) else all_turns_plan t v) (taken v h).skips
+
+pub text_put : (class : CharClass) (text : List ℕ) (old new : Sight) → takes_text old.split ≡ true → class ≡ white_or_other (list_all is_white text)
+    → Carries (Ok tt) old new (λ v. text_plan v.change.mode class text v) → Handles (Ok nothing_asked) old new (handle_plan (as_run text))
+text_put class text old new h is run =
+    subst (λ plan. Runs old.heard new.heard plan (Ok (record { split = new.split; handled = nothing_asked }))) (sym (unskipped_plan (as_run text) old.split h))
+    (plain_put old.heard new.heard (as_run text) old.split new.split (text_plain (list_all is_white text) text old.split h)
+    (subst (λ k. Runs old.heard new.heard (text_plan old.split.change.mode k text old.split) (Ok new.split)) is run))
+
+pub text_refused : (refused : Refusal) (class : CharClass) (text : List ℕ) (old new : Sight) → takes_text old.split ≡ true → class ≡ white_or_other (list_all is_white text)
+    → Carries (Err refused) old new (λ v. text_plan v.change.mode class text v) → Handles (Err refused) old new (handle_plan (as_run text))
+text_refused NoMemory class text old new h is run = tt
+text_refused (Crossed crossing) class text old new h is run =
+    subst (λ plan. Runs old.heard new.heard plan (Err crossing)) (sym (unskipped_plan (as_run text) old.split h))
+    (plain_crosses old.heard new.heard (as_run text) old.split crossing (text_plain (list_all is_white text) text old.split h)
+    (subst (λ k. Runs old.heard new.heard (text_plan old.split.change.mode k text old.split) (Err crossing)) is run))

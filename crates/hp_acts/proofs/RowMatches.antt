@@ -1,5 +1,5 @@
 -- A row over an older state comes to what the definition's row does, by each way through it.
-use Rattle.std.proofs.Common.{◌≡◌, ℕ, zero, suc, ◌+◌, List, [], ◌∷◌, ◌++◌, length, Bool, true, false, ◌&&◌, refl, sym, subst, ap, ◌∙◌, arith, append_assoc, append-nil, length-append, nat_lt}
+use Rattle.std.proofs.Common.{◌≡◌, ℕ, zero, suc, ◌+◌, List, [], ◌∷◌, ◌++◌, length, Bool, true, false, ◌&&◌, ◌||◌, refl, sym, subst, ap, ◌∙◌, arith, append_assoc, append-nil, length-append, nat_lt}
 use Rattle.std.specs.Prelude.{if◌then◌else◌, Result, Ok, Err}
 use Rattle.std.specs.List.{list_all}
 use Rattle.std.proofs.Math.Bool.{or-true}
@@ -15,14 +15,14 @@ use Rattle.hp_elements.specs.declared.token.Mode.TheVariants as mode
 use Rattle.hp_elements.specs.declared.token.Token.{Token}
 use Rattle.hp_control.specs.declared.question.Crossing.{Crossing}
 use Rattle.hp_control.specs.Faithful.{Split, StandsOn, state_over}
-use Rattle.hp_control.specs.Outcome.{Outcome}
+use Rattle.hp_control.specs.Outcome.{Outcome, touches_any}
 use Rattle.hp_control.specs.Plan.{Plan, end_by, followed_by}
 use Rattle.hp_control.specs.Running.{on_end, end_then}
 use Rattle.hp_control.specs.States.{ControlState}
 use Rattle.hp_control.specs.Truth.{answer_of}
 use Rattle.hp_rules_rest.specs.Foreign.{foreign}
 use Rattle.hp_rules_rest.specs.Whole.{every_mode_rows}
-use Rattle.hp_model.specs.Finding.{nothing_missing, where_it_goes_on}
+use Rattle.hp_model.specs.Finding.{nothing_missing}
 use Rattle.hp_model.specs.Rows.{carry, carry_plan, nothing_more as nothing_left, rules}
 use Rattle.hp_model.specs.Steps.{holds, step}
 use Rattle.hp_model.specs.Turns.{Handled, Turn, goes_on, done, again, before, and_then, as_part, left_by, plainly, unchanged, stopping as model_stops, switching as model_switches}
@@ -34,7 +34,7 @@ use Rattle.hp_model.proofs.Walking.{Meets, assumed, rules_meet}
 use Rattle.hp_acts.specs.Plans.{act_plan, by_plan, test_plan}
 use Rattle.hp_acts.specs.RowPlans.{Reached, Came, act_then, acts_plan, changed, nothing_more, rules_plan, stopping, switching, where_left}
 use Rattle.hp_acts.specs.RowPlans.{left as came_left, again as came_again}
-use Rattle.hp_acts.specs.Suiting.{act_suits, plan_suits, rules_suit}
+use Rattle.hp_acts.specs.Suiting.{act_suits, plan_suits, rules_suit, while_own}
 use Rattle.hp_acts.proofs.Matching.{IsHandled, MatchesAlike, MatchesTurn, matches_before, nothing_handled, no_touch, then_nothing, then_then, touched_before, touched_part_then}
 
 -- an act that plans of rows have: a test stands beside them, and no row takes an entry off by its name
@@ -66,6 +66,11 @@ mode_rows _ = refl
 pub foreign_rows : (t : Token) → has_row_acts (plan_for foreign (kind_of t)) ≡ true
 foreign_rows t = rows_for foreign (kind_of t) refl
 
+-- where nothing older was touched, the rest is asked
+pub own_asked : (a b : Bool) → a ≡ false → (a || b) ≡ true → b ≡ true
+own_asked false b e h = h
+own_asked true b e h = absurd (true≢false e)
+
 -- of a state over s, from the rank at the turn's start, where so many elements counted then
 module _ (s : ControlState) (from : Rank) (n : ℕ) (t : Token) (read : IsRead t)
     (of_act : Bool → Token → Act → ControlState → Bool) (of_test : Test → ControlState → Bool)
@@ -78,25 +83,25 @@ module _ (s : ControlState) (from : Rank) (n : ℕ) (t : Token) (read : IsRead t
 
   -- an act, and then the rest
   act_done : (d : Reached) (end : Result Split Crossing) (o : Outcome) (go : Reached → Plan Came) (f : ControlState → Turn) (next : Course → Bool) (suits : ControlState → Bool) (w : Course)
-      → MatchesAlike s d.split end o → Along w n o.control → next w ≡ true → suits o.control ≡ true → Rests go f next suits
+      → MatchesAlike s d.split end o → Along w n o.control → next w ≡ true → (touches_any s o || suits o.control) ≡ true → Rests go f next suits
       → MatchesTurn s d (on_end end (λ v. end_by (answer_of s) (go (changed d v)))) (and_then (goes_on (plainly o)) f)
   act_done d (Err crossing) o go f next suits w m g h q rest = touched_before s crossing (plainly o) (f o.control) m
   act_done d (Ok v) o go f next suits w m g h q rest =
       let e = changed d v in
       let x : IsHandled s d e (plainly o) = record { done = m; switch = refl; stopped = sym (no_touch d.handled.stopped) } in
       matches_before s d e (plainly o) (end_by (answer_of s) (go e)) (f o.control) x
-      (subst (λ r. MatchesTurn s e (end_by (answer_of s) (go e)) (f r)) m.control (rest w e m.stands (subst (λ r. Along w n r) (sym m.control) g) h (ap suits m.control ∙ q)))
+      (subst (λ r. MatchesTurn s e (end_by (answer_of s) (go e)) (f r)) m.control (rest w e m.stands (subst (λ r. Along w n r) (sym m.control) g) h (ap suits m.control ∙ own_asked (touches_any s o) (suits o.control) m.own q)))
 
   -- the rules of a mode, and then the rest
   left_done : (d e : Reached) (h : Handled) (go : Reached → Plan Came) (f : ControlState → Turn) (next : Course → Bool) (suits : ControlState → Bool) (w : Course)
-      → IsHandled s d e h → Along w n (left_by h) → next w ≡ true → suits (left_by h) ≡ true → Rests go f next suits
+      → IsHandled s d e h → Along w n (left_by h) → next w ≡ true → (touches_any s h.outcome || suits (left_by h)) ≡ true → Rests go f next suits
       → MatchesTurn s d (end_by (answer_of s) (go e)) (before h (f (left_by h)))
   left_done d e h go f next suits w m g k q rest =
       matches_before s d e h (end_by (answer_of s) (go e)) (f (left_by h)) m
-      (subst (λ r. MatchesTurn s e (end_by (answer_of s) (go e)) (f r)) m.done.control (rest w e m.done.stands (subst (λ r. Along w n r) (sym m.done.control) g) k (ap suits m.done.control ∙ q)))
+      (subst (λ r. MatchesTurn s e (end_by (answer_of s) (go e)) (f r)) m.done.control (rest w e m.done.stands (subst (λ r. Along w n r) (sym m.done.control) g) k (ap suits m.done.control ∙ own_asked (touches_any s h.outcome) (suits (left_by h)) m.done.own q)))
 
   part_done : (d : Reached) (end : Result Came Crossing) (u : Turn) (go : Reached → Plan Came) (f : ControlState → Turn) (next : Course → Bool) (suits : ControlState → Bool)
-      → MatchesTurn s d end u → Meets from n next next u → where_it_goes_on (as_part u) suits ≡ true → Rests go f next suits
+      → MatchesTurn s d end u → Meets from n next next u → while_own s (as_part u) suits ≡ true → Rests go f next suits
       → MatchesTurn s d (on_end end (λ c. end_by (answer_of s) (where_left go c))) (and_then (as_part u) f)
   part_done d (Err crossing) u go f next suits m k q rest = touched_part_then s crossing u f m
   part_done d (Ok (came_left e)) (goes_on h) go f next suits m (w, k) q rest = left_done d e h go f next suits w m k.0 k.1 q rest
@@ -124,16 +129,16 @@ module _ (s : ControlState) (from : Rank) (n : ℕ) (t : Token) (read : IsRead t
     one_act = act_then follow_plan present_plan fostering t
 
     abbrev act_fine : Act → ControlState → Bool
-    act_fine = act_suits of_act of_test t follow present follow_suits present_suits fostering
+    act_fine = act_suits s of_act of_test t follow present follow_suits present_suits fostering
 
     abbrev fine : RowPlan → (ControlState → Bool) → ControlState → Bool
-    fine = plan_suits of_act of_test t follow present follow_suits present_suits fostering
+    fine = plan_suits s of_act of_test t follow present follow_suits present_suits fostering
 
     abbrev meant : RowPlan → ControlState → Turn
     meant = carry_plan follow present fostering t
 
     used : (d : Reached) (p : Plan Came) (u : Turn) (go : Reached → Plan Came) (f : ControlState → Turn) (next : Course → Bool) (suits : ControlState → Bool)
-        → MatchesTurn s d (end_by (answer_of s) p) u → Meets from n next next u → where_it_goes_on (as_part u) suits ≡ true → Rests go f next suits
+        → MatchesTurn s d (end_by (answer_of s) p) u → Meets from n next next u → while_own s (as_part u) suits ≡ true → Rests go f next suits
         → MatchesTurn s d (end_by (answer_of s) (followed_by p (where_left go))) (and_then (as_part u) f)
     used d p u go f next suits m k q rest =
         subst (λ x. MatchesTurn s d x (and_then (as_part u) f)) (sym (end_then (answer_of s) p (where_left go)))
@@ -141,7 +146,7 @@ module _ (s : ControlState) (from : Rank) (n : ℕ) (t : Token) (read : IsRead t
 
     act_matches : (a : Act) (at : ℕ) (go : ℕ → Reached → Plan Came) (v : Course) (d : Reached) (next last : Course → Bool) (f : ControlState → Turn) (suits : ControlState → Bool)
         → is_row_act a ≡ true → StandsOn s d.split → Along v n (state_over d.split s) → act_passes from (kind_of t) follow_passes present_passes a v next last ≡ true
-        → act_fine a (state_over d.split s) ≡ true → where_it_goes_on (carry follow present fostering t a (state_over d.split s)) suits ≡ true → Rests (go (at + 1)) f next suits
+        → act_fine a (state_over d.split s) ≡ true → while_own s (carry follow present fostering t a (state_over d.split s)) suits ≡ true → Rests (go (at + 1)) f next suits
         → MatchesTurn s d (end_by (answer_of s) (one_act a at go d)) (and_then (carry follow present fostering t a (state_over d.split s)) f)
     act_matches act.Done at go v d next last f suits r st g h i q rest = nothing_handled s d st
     act_matches act.Again at go v d next last f suits r st g h i q rest = (refl, nothing_handled s d st)
@@ -226,7 +231,7 @@ module _ (s : ControlState) (from : Rank) (n : ℕ) (t : Token) (read : IsRead t
         let parts = and_parts (is_row_act a) (has_row_acts plan) p in
         let c = state_over d.split s in
         let xs = acts_from (at + 1) plan ++ more in
-        let suit = and_parts (act_fine a c) (where_it_goes_on (carry follow present fostering t a c) (fine plan suits)) i in
+        let suit = and_parts (act_fine a c) (while_own s (carry follow present fostering t a c) (fine plan suits)) i in
         subst (λ x. MatchesTurn s d (end_by (answer_of s) x) (and_then (and_then (carry follow present fostering t a c) (meant plan)) f)) (sym (acts_enter a xs at d))
         (subst (λ u. MatchesTurn s d (end_by (answer_of s) (one_act a at (λ place. acts (at + 1) place xs) d)) u) (then_then (carry follow present fostering t a c) (meant plan) f)
         (act_matches a at (λ place. acts (at + 1) place xs) v d (λ w. plan_passes from (kind_of t) follow_passes present_passes plan w next last) last (λ r. and_then (meant plan r) f) (fine plan suits) parts.0 st g h suit.0 suit.1
@@ -301,11 +306,11 @@ module _ (s : ControlState) (from : Rank) (n : ℕ) (t : Token) (read : IsRead t
 
   -- the rules of a mode
   pub rules_match : (depth : ℕ) (fostering : Bool) (m : Mode) (v : Course) (d : Reached) (next : Course → Bool) → StandsOn s d.split → Along v n (state_over d.split s) → rules_pass from (kind_of t) depth m v next ≡ true
-      → rules_suit of_act of_test t depth fostering m (state_over d.split s) ≡ true
+      → rules_suit s of_act of_test t depth fostering m (state_over d.split s) ≡ true
       → MatchesTurn s d (end_by (answer_of s) (rules_plan depth t fostering m d)) (rules depth t fostering m (state_over d.split s))
   unfolding rules_plan rules rules_pass rules_suit
   rules_match zero fostering m v d next st g h i = nothing_handled s d st
   rules_match (suc depth) fostering m v d next st g h i =
       row_matches (rules depth t) nothing_left (rules_plan depth t) nothing_more (rules_pass from (kind_of t) depth) (λ w k. k w)
-      (rules_meet from n t read depth) (λ w r k g2 h2. (w, (g2, h2))) (rules_suit of_act of_test t depth) nothing_missing (rules_match depth) (λ w e k st2 g2 h2 i2. nothing_handled s e st2) fostering
+      (rules_meet from n t read depth) (λ w r k g2 h2. (w, (g2, h2))) (rules_suit s of_act of_test t depth) nothing_missing (rules_match depth) (λ w e k st2 g2 h2 i2. nothing_handled s e st2) fostering
       (plan_for (every_mode_rows m) (kind_of t)) v d next next (rows_for (every_mode_rows m) (kind_of t) (mode_rows m)) st g h i

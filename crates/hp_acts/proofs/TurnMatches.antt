@@ -43,7 +43,7 @@ use Rattle.hp_acts.specs.RowPlans.{left as came_left, again as came_again}
 use Rattle.hp_acts.specs.Suiting.{plan_suits, rules_suit, turn_suits, turns_suit}
 use Rattle.hp_acts.specs.Suiting.{where_again as where_again_suits}
 use Rattle.hp_acts.proofs.Matching.{IsHandled, MatchesAlike, MatchesTurn, handled_after, matches_before, nothing_handled, touched_before, touched_first, touched_second}
-use Rattle.hp_acts.proofs.RowMatches.{foreign_rows, is_row_act, row_matches, rules_match}
+use Rattle.hp_acts.proofs.RowMatches.{foreign_rows, is_row_act, own_asked, row_matches, rules_match}
 
 -- the mode of the whole state
 pub mode_over : (s : ControlState) (v : Split) → (state_over v s).mode ≡ v.change.mode
@@ -100,7 +100,7 @@ module _ (s : ControlState)
     → MatchesAlike s d (end_by (answer_of s) (by_plan (act_plan fostering t a) d)) (step fostering t a (state_over d s)))
     (tests_hold : (t : Token) (x : Test) (d : Split) → StandsOn s d → of_test x (state_over d s) ≡ true → end_by (answer_of s) (test_plan t x d) ≡ Ok (holds t x (state_over d s))) where
   dispatch_matches : (t : Token) (d : Reached) → IsRead t → StandsOn s d.split → IsValid (state_over d.split s) → (b : Bool) → is_foreign (kind_of t) (state_over d.split s).stack ≡ b
-      → (if b then plan_suits of_act of_test t (rules 4 t) (mode_turn t (state_over d.split s).mode) (rules_suit of_act of_test t 4) (rules_suit of_act of_test t 4 false (state_over d.split s).mode) false (plan_for foreign (kind_of t)) nothing_missing (state_over d.split s) else rules_suit of_act of_test t 4 false (state_over d.split s).mode (state_over d.split s)) ≡ true
+      → (if b then plan_suits s of_act of_test t (rules 4 t) (mode_turn t (state_over d.split s).mode) (rules_suit s of_act of_test t 4) (rules_suit s of_act of_test t 4 false (state_over d.split s).mode) false (plan_for foreign (kind_of t)) nothing_missing (state_over d.split s) else rules_suit s of_act of_test t 4 false (state_over d.split s).mode (state_over d.split s)) ≡ true
       → MatchesTurn s d (end_by (answer_of s) (dispatched t (state_over d.split s).mode d b)) (if b then foreign_turn t (state_over d.split s) else mode_turn t (state_over d.split s).mode (state_over d.split s))
   unfolding mode_passes foreign_passes
   dispatch_matches t d read st valid true e i =
@@ -110,7 +110,7 @@ module _ (s : ControlState)
       let n = tally is_counted c.stack in
       let far = foreign-standing (kind_of t) m c valid.stack e in
       row_matches s from n t read of_act of_test (acts_hold t n read) (tests_hold t) (rules 4 t) (mode_turn t m) (rules_plan 4 t) (mode_plan t m) (rules_pass from (kind_of t) 4) (rules_pass from (kind_of t) 4 m)
-      (rules_meet from n t read 4) (rules_meet from n t read 4 false m) (rules_suit of_act of_test t 4) (rules_suit of_act of_test t 4 false m) (rules_match s from n t read of_act of_test (acts_hold t n read) (tests_hold t) 4) (rules_match s from n t read of_act of_test (acts_hold t n read) (tests_hold t) 4 false m) false
+      (rules_meet from n t read 4) (rules_meet from n t read 4 false m) (rules_suit s of_act of_test t 4) (rules_suit s of_act of_test t 4 false m) (rules_match s from n t read of_act of_test (acts_hold t n read) (tests_hold t) 4) (rules_match s from n t read of_act of_test (acts_hold t n read) (tests_hold t) 4 false m) false
       (plan_for foreign (kind_of t)) (record (start m) { base = alien }) d good good (foreign_rows t) st (along-foreign c valid (foreign-base m c valid.stack far) (foreign-top (kind_of t) c.stack e))
       (or_second (goes_foreign (base_of m)) _ far (each_foreign m (kind_of t))) i
   dispatch_matches t d read st valid false e i =
@@ -118,9 +118,9 @@ module _ (s : ControlState)
       let n = tally is_counted c.stack in
       rules_match s (rank (kind_of t) c.mode) n t read of_act of_test (acts_hold t n read) (tests_hold t) 4 false c.mode (start c.mode) d good st (along-start c valid) (each_mode c.mode (kind_of t)) i
 
-  asked_matches : (t : Token) (d : Reached) → IsRead t → StandsOn s d.split → IsValid (state_over d.split s) → turn_suits of_act of_test t (state_over d.split s) ≡ true
+  asked_matches : (t : Token) (d : Reached) → IsRead t → StandsOn s d.split → IsValid (state_over d.split s)
+      → (if is_foreign (kind_of t) (state_over d.split s).stack then plan_suits s of_act of_test t (rules 4 t) (mode_turn t (state_over d.split s).mode) (rules_suit s of_act of_test t 4) (rules_suit s of_act of_test t 4 false (state_over d.split s).mode) false (plan_for foreign (kind_of t)) nothing_missing (state_over d.split s) else rules_suit s of_act of_test t 4 false (state_over d.split s).mode (state_over d.split s)) ≡ true
       → MatchesTurn s d (end_by (answer_of s) (followed_by (goes_plan (kind_of t) d.split) (dispatched t d.split.change.mode d))) (if is_foreign (kind_of t) (state_over d.split s).stack then foreign_turn t (state_over d.split s) else mode_turn t (state_over d.split s).mode (state_over d.split s))
-  unfolding turn_suits
   asked_matches t d read st valid i =
       let c = state_over d.split s in
       let b = is_foreign (kind_of t) c.stack in
@@ -131,8 +131,8 @@ module _ (s : ControlState)
       subst (λ r. MatchesTurn s d r u) (sym asked)
       (subst (λ m. MatchesTurn s d (end_by (answer_of s) (dispatched t m d b)) u) (mode_over s d.split) (dispatch_matches t d read st valid b refl i))
 
-  pub turn_matches : (t : Token) (d : Reached) → IsRead t → StandsOn s d.split → IsValid (state_over d.split s) → turn_suits of_act of_test t (state_over d.split s) ≡ true → MatchesTurn s d (end_by (answer_of s) (turn_plan t d)) (turn t (state_over d.split s))
-  unfolding turn turn_plan
+  pub turn_matches : (t : Token) (d : Reached) → IsRead t → StandsOn s d.split → IsValid (state_over d.split s) → turn_suits s of_act of_test t (state_over d.split s) ≡ true → MatchesTurn s d (end_by (answer_of s) (turn_plan t d)) (turn t (state_over d.split s))
+  unfolding turn turn_plan turn_suits
   turn_matches t d read st valid i = go (is_early d.split.page d.split.change.mode) refl
     where
       go : (b : Bool) → is_early d.split.page d.split.change.mode ≡ b
@@ -144,23 +144,24 @@ module _ (s : ControlState)
           (early_touch s d.split.page d.split.change d.split.change.mode c (is_head_mode c.mode) (ap is_head_mode (sym (mode_over s d.split))) e st.base)
       go false e =
           let c = state_over d.split s in
+          let own = entered_own s d.split.page d.split.change d.split.change.mode c (is_head_mode c.mode) (ap is_head_mode (sym (mode_over s d.split))) e st.base in
           matches_before s d d (entering c) (end_by (answer_of s) (followed_by (goes_plan (kind_of t) d.split) (dispatched t d.split.change.mode d))) (if is_foreign (kind_of t) c.stack then foreign_turn t c else mode_turn t c.mode c)
-          (handled_as s d (is_head_mode c.mode) st (entered_own s d.split.page d.split.change d.split.change.mode c (is_head_mode c.mode) (ap is_head_mode (sym (mode_over s d.split))) e st.base))
-          (asked_matches t d read st valid i)
+          (handled_as s d (is_head_mode c.mode) st own)
+          (asked_matches t d read st valid (own_asked (touches_any s (entering c).outcome) _ own i))
 
-  pub turns_match : (k many : ℕ) (t : Token) (d : Reached) → k ≤ many → IsRead t → StandsOn s d.split → IsValid (state_over d.split s) → turns_suit of_act of_test k t (state_over d.split s) ≡ true
+  pub turns_match : (k many : ℕ) (t : Token) (d : Reached) → k ≤ many → IsRead t → StandsOn s d.split → IsValid (state_over d.split s) → turns_suit s of_act of_test k t (state_over d.split s) ≡ true
       → MatchesTurns s d (end_by (answer_of s) (turns_plan k t d)) (turns turn k t (state_over d.split s)) (turns turn many t (state_over d.split s))
   unfolding turns_plan turns_suit
   turns_match zero many t d less read st valid i = ran_out s d (turns turn many t (state_over d.split s))
   turns_match (suc k) zero t d less read st valid i = absurd (omega arith)
   turns_match (suc k) (suc many) t d less read st valid i =
-      let suit = and_parts (turn_suits of_act of_test t (state_over d.split s)) (where_again_suits (turn t (state_over d.split s)) (turns_suit of_act of_test k)) i in
+      let suit = and_parts (turn_suits s of_act of_test t (state_over d.split s)) (where_again_suits s (turn t (state_over d.split s)) (turns_suit s of_act of_test k)) i in
       subst (λ r. MatchesTurns s d r (turns turn (suc k) t (state_over d.split s)) (turns turn (suc many) t (state_over d.split s))) (sym (end_then (answer_of s) (turn_plan t d) (where_again (turns_plan k))))
       (go (end_by (answer_of s) (turn_plan t d)) (turn t (state_over d.split s)) (turn_matches t d read st valid suit.0) (turn-leaves t (state_over d.split s) read valid) suit.1
       (λ other e. turns_match k many other e (omega arith)))
     where
-      go : (end : Result Came Crossing) (u : Turn) → MatchesTurn s d end u → Leaves (weigh t (state_over d.split s)) u → where_again_suits u (turns_suit of_act of_test k) ≡ true
-          → ((other : Token) (e : Reached) → IsRead other → StandsOn s e.split → IsValid (state_over e.split s) → turns_suit of_act of_test k other (state_over e.split s) ≡ true
+      go : (end : Result Came Crossing) (u : Turn) → MatchesTurn s d end u → Leaves (weigh t (state_over d.split s)) u → where_again_suits s u (turns_suit s of_act of_test k) ≡ true
+          → ((other : Token) (e : Reached) → IsRead other → StandsOn s e.split → IsValid (state_over e.split s) → turns_suit s of_act of_test k other (state_over e.split s) ≡ true
           → MatchesTurns s e (end_by (answer_of s) (turns_plan k other e)) (turns turn k other (state_over e.split s)) (turns turn many other (state_over e.split s)))
           → MatchesTurns s d (on_end end (λ c. end_by (answer_of s) (where_again (turns_plan k) c))) (after_turn u (turns turn k)) (after_turn u (turns turn many))
       go (Err crossing) (goes_on h) m l q rest = inl m
@@ -171,9 +172,10 @@ module _ (s : ControlState)
       go (Ok (came_left e)) (again x h) m l q rest = absurd m
       go (Ok (came_again x e)) (goes_on h) m l q rest = absurd m
       go (Ok (came_again x e)) (done h) m l q rest = absurd m
-      go (Ok (came_again x e)) (again y h) m l q rest =
+      go (Ok (came_again x e)) (again y h) m l r rest =
           let there : state_over e.split s ≡ left_by h = m.1.done.control in
+          let q : turns_suit s of_act of_test k y (left_by h) ≡ true = own_asked (touches_any s h.outcome) (turns_suit s of_act of_test k y (left_by h)) m.1.done.own r in
           all_before s d e h (end_by (answer_of s) (turns_plan k x e)) (turns turn k y (left_by h)) (turns turn many y (left_by h)) m.1
           (subst (λ z. MatchesTurns s e (end_by (answer_of s) (turns_plan k z e)) (turns turn k y (left_by h)) (turns turn many y (left_by h))) (sym m.0)
           (subst (λ c. MatchesTurns s e (end_by (answer_of s) (turns_plan k y e)) (turns turn k y c) (turns turn many y c)) there
-          (rest y e l.2 m.1.done.stands (subst (λ c. IsValid c) (sym there) l.0) (ap (turns_suit of_act of_test k y) there ∙ q))))
+          (rest y e l.2 m.1.done.stands (subst (λ c. IsValid c) (sym there) l.0) (ap (turns_suit s of_act of_test k y) there ∙ q))))

@@ -1,5 +1,5 @@
 -- Runs of text where the rules do nothing but put them into the current node, an own HTML element (13.2.6.4.7, 13.2.6.4.8).
-use Rattle.std.specs.Prelude.{◌≡◌, ℕ, Bool, true, false, if◌then◌else◌, List, [], ◌∷◌}
+use Rattle.std.specs.Prelude.{◌≡◌, ℕ, ◌&&◌, not, Bool, true, false, if◌then◌else◌, List}
 use Rattle.hp_elements.specs.declared.token.CharClass.{CharClass}
 use Rattle.hp_elements.specs.declared.token.CharClass.TheVariants.{White, Other}
 use Rattle.hp_elements.specs.declared.token.Mode.{Mode}
@@ -7,25 +7,12 @@ use Rattle.hp_elements.specs.declared.token.Mode.TheVariants as mode
 use Rattle.hp_elements.specs.declared.token.Token.{Token}
 use Rattle.hp_elements.specs.declared.token.Token.TheVariants.{Characters}
 use Rattle.hp_control.specs.declared.edit.Child.TheVariants as child
-use Rattle.hp_control.specs.declared.element.OpenElement.{OpenElement}
 use Rattle.hp_control.specs.Faithful.{Split}
 use Rattle.hp_control.specs.Plan.{Plan, gives, followed_by}
-use Rattle.hp_control.specs.States.{is_html}
 use Rattle.hp_adoption.specs.ReconPlans.{reconstruct_plan}
 use Rattle.hp_views.specs.FieldPlans.{frameset_plan}
 use Rattle.hp_views.specs.PlacePlans.{put_plan}
-
--- the modes in which text goes into the current node
-abbrev pub is_text_mode : Mode → Bool
-is_text_mode mode.Text = true
-is_text_mode mode.InBody = true
-is_text_mode mode.InCell = true
-is_text_mode mode.InCaption = true
-is_text_mode _ = false
-
-abbrev pub has_html_top : List OpenElement → Bool
-has_html_top [] = false
-has_html_top (e ∷ es) = is_html e
+use Rattle.hp_model.specs.Texts.{has_html_top, is_text_mode}
 
 -- white space and other characters, but not U+0000
 abbrev pub is_run : Token → Bool
@@ -37,6 +24,10 @@ pub record IsPlain (v : Split) (t : Token) : Type 0 where
   pub run : is_run t ≡ true
   pub place : is_text_mode v.change.mode ≡ true
   pub top : has_html_top v.change.stack ≡ true
+
+-- a text without U+0000 goes into the current node as it comes
+abbrev pub takes_text : Split → Bool
+takes_text v = not v.change.skip_lf && is_text_mode v.change.mode && has_html_top v.change.stack
 
 -- the text into the current node, and what the rules of the body do then
 abbrev pub put_text_plan : CharClass → List ℕ → Split → Plan Split

@@ -1,6 +1,6 @@
 -- What a view over an unknown older state tells rightly of the whole: template modes, where those of its own stand with
 -- templates of its own, and an element popped, where another is left. A token's handling is told where each act and each test on
--- its way is.
+-- its way is, up to the first act that touches something older.
 use Rattle.std.specs.Prelude.{Bool, true, false, not, ◌&&◌, if◌then◌else◌, nat_lt, nat_le, List, [], ◌∷◌, length, Option, None, Some}
 use Rattle.std.specs.List.{list_any}
 use Rattle.hp_elements.specs.declared.act.Act.{Act}
@@ -52,7 +52,7 @@ is_test_told s _ c = true
 
 -- each act and each test of a token's turns is
 abbrev pub is_told : ControlState → Token → ControlState → Bool
-is_told s t c = turns_suit (is_act_told s) (is_test_told s) (bound c) t c
+is_told s t c = turns_suit s (is_act_told s) (is_test_told s) (bound c) t c
 
 abbrev pub is_rest_told : ControlState → Option Token → ControlState → Bool
 is_rest_told s None c = true

@@ -90,6 +90,7 @@ pub(crate) fn carry_out<'p, B: Below>(
 }
 
 /// The acts that close elements; then the others.
+#[inline(never)]
 fn close<'p, B: Below>(
     alloc: Global,
     view: &mut View<'p, B>,
@@ -124,6 +125,7 @@ fn close<'p, B: Below>(
 }
 
 /// The acts that the token has no part in, on the fields of the state; and those that only steer the row, which change nothing.
+#[inline(never)]
 fn set<'p, B: Below>(alloc: Global, view: &mut View<'p, B>, act: Act) -> Result<(), Refusal>
     ensures plan { CarriesBy result (sight B.heard view.old) (sight B.heard view.new) (field_plan act) }
 {

@@ -1,5 +1,5 @@
 //! The acts that put characters, comments and the doctype into the tree.
-ghost use Rattle.std.specs.Prelude.{◌≡◌, [], IfOk, OnOk, unwrap_or};
+ghost use Rattle.std.specs.Prelude.{◌≡◌, IfOk, OnOk};
 ghost use Rattle.hp_elements.specs.Quirks.{gives_quirks as spec_gives_quirks};
 ghost use Rattle.hp_control.specs.declared.edit.Child.TheVariants as child;
 ghost use Rattle.hp_views.specs.FieldPlans.{append_pending_plan};
@@ -13,7 +13,7 @@ ghost use Rattle.hp_acts.specs.declared.token_parts.Spending.TheVariants.{Copies
 
 use crate::token_parts::{Spending, take_characters, take_comment};
 use hp_control::{Below, Child, Refusal};
-use hp_elements::{Doctype, NoMemory, Text, Token};
+use hp_elements::{Doctype, DoctypeParts, NoMemory, Text, Token};
 use hp_foreign::put_replacements;
 use hp_views::View;
 use std::alloc::Global;
@@ -35,6 +35,7 @@ pub(crate) fn put_characters<'p, B: Below>(
 }
 
 /// Inserts the token's text as a comment.
+#[inline(never)]
 pub(crate) fn put_comment<'p, B: Below>(
     alloc: Global,
     view: &mut View<'p, B>,
@@ -51,6 +52,7 @@ pub(crate) fn put_comment<'p, B: Below>(
 }
 
 /// Puts the token's text as a comment into the document.
+#[inline(never)]
 pub(crate) fn comment_into_document<'p, B: Below>(
     alloc: Global,
     view: &mut View<'p, B>,
@@ -66,6 +68,7 @@ pub(crate) fn comment_into_document<'p, B: Below>(
 }
 
 /// Puts the token's text as a comment into the first element.
+#[inline(never)]
 pub(crate) fn comment_into_first<'p, B: Below>(
     alloc: Global,
     view: &mut View<'p, B>,
@@ -81,6 +84,7 @@ pub(crate) fn comment_into_first<'p, B: Below>(
 }
 
 /// Inserts U+FFFD for each of the token's characters.
+#[inline(never)]
 pub(crate) fn put_replaced<'p, B: Below>(
     alloc: Global,
     view: &mut View<'p, B>,
@@ -96,6 +100,7 @@ pub(crate) fn put_replaced<'p, B: Below>(
 }
 
 /// Appends the token's characters to the pending ones.
+#[inline(never)]
 pub(crate) fn append_pending<'p, B: Below>(
     alloc: Global,
     view: &mut View<'p, B>,
@@ -109,42 +114,55 @@ pub(crate) fn append_pending<'p, B: Below>(
     }
 }
 
-/// A part of a doctype; the empty text where it is missing.
-fn part_or_empty(part: Option<Text<'_>>) -> Text<'_>
-    ensures { result ≡ unwrap_or part.entry [] }
+/// A part of a doctype that owns its text.
+fn own_part<'p>(alloc: Global, part: &Option<Text<'_>>) -> Result<Option<Text<'p>>, NoMemory>
+    ensures { IfOk result (λ own. own ≡ part.now) }
 {
     match part {
-        Some(text) => text,
-        None => Text::new(),
+        None => Ok(None),
+        Some(text) => {
+            let own = Text::from_str(alloc, text.as_str())?;
+            Ok(Some(own))
+        }
     }
 }
 
-fn child_of<'p>(doctype: Doctype<'p>) -> Child<'p>
-    ensures { result ≡ doctype_of doctype.entry }
+fn own_doctype<'p>(alloc: Global, doctype: &Doctype<'_>) -> Result<Doctype<'p>, NoMemory>
+    ensures { IfOk result (λ own. own ≡ doctype.now) }
 {
-    let parts = doctype.into_parts();
-    Child::Doctype {
-        name: part_or_empty(parts.name),
-        public: parts.public,
-        system: parts.system,
-    }
+    let parts = doctype.parts();
+    let name = own_part(alloc, &parts.name)?;
+    let public = own_part(alloc, &parts.public)?;
+    let system = own_part(alloc, &parts.system)?;
+    let own = DoctypeParts {
+        name,
+        public,
+        system,
+        force_quirks: parts.force_quirks,
+    };
+    Doctype::new(alloc, own)
 }
 
-/// The doctype that the token is, as a child; one without parts for another token.
-fn doctype_child(alloc: Global, token: &Token<'_>) -> Result<Child<'static>, NoMemory>
-    ensures { IfOk result (λ child. child ≡ doctype_of (parts_of token.now)) }
+/// The doctype that the token is; one without parts for another token.
+fn doctype_for<'p>(alloc: Global, token: &Token<'p>) -> Result<Doctype<'p>, NoMemory>
+    ensures { IfOk result (λ doctype. doctype ≡ parts_of token.now) }
 {
     match token {
-        Token::Doctype { doctype } => Ok(child_of(doctype.copy(alloc)?)),
-        _ => Ok(Child::Doctype {
-            name: Text::new(),
-            public: None,
-            system: None,
-        }),
+        Token::Doctype { doctype } => own_doctype(alloc, doctype),
+        _ => {
+            let none = DoctypeParts {
+                name: None,
+                public: None,
+                system: None,
+                force_quirks: true,
+            };
+            Doctype::new(alloc, none)
+        }
     }
 }
 
 /// Puts the doctype into the document. The token keeps it.
+#[inline(never)]
 pub(crate) fn put_doctype<'p, B: Below>(
     alloc: Global,
     view: &mut View<'p, B>,
@@ -152,8 +170,8 @@ pub(crate) fn put_doctype<'p, B: Below>(
 ) -> Result<(), Refusal>
     ensures plan { Carries result (sight B.heard view.old) (sight B.heard view.new) (put_document_plan (doctype_of (parts_of token.now))) }
 {
-    let child = doctype_child(alloc, token)?;
-    view.put_into_document(alloc, child)
+    let doctype = doctype_for(alloc, token)?;
+    view.put_into_document(alloc, Child::Doctype(doctype))
 }
 
 /// Whether the doctype puts the page into quirks mode; another token does.
@@ -167,6 +185,7 @@ fn gives_quirks(token: &Token<'_>) -> bool
 }
 
 /// Puts the page into quirks mode where the doctype asks for it.
+#[inline(never)]
 pub(crate) fn quirks_of_doctype<'p, B: Below>(
     alloc: Global,
     view: &mut View<'p, B>,

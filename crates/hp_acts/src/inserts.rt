@@ -32,6 +32,7 @@ pub(crate) fn insert<'p, B: Below>(
 }
 
 /// Inserts an HTML element of that name without attributes.
+#[inline(never)]
 pub(crate) fn insert_bare<'p, B: Below>(
     alloc: Global,
     view: &mut View<'p, B>,
@@ -44,6 +45,7 @@ pub(crate) fn insert_bare<'p, B: Below>(
 }
 
 /// Inserts an element of the namespace that the token's name says.
+#[inline(never)]
 pub(crate) fn insert_named_foreign<'p, B: Below>(
     alloc: Global,
     view: &mut View<'p, B>,
@@ -61,6 +63,7 @@ pub(crate) fn insert_named_foreign<'p, B: Below>(
 }
 
 /// Inserts an element of the current node's namespace.
+#[inline(never)]
 pub(crate) fn insert_like_current<'p, B: Below>(
     alloc: Global,
     view: &mut View<'p, B>,
@@ -78,6 +81,7 @@ pub(crate) fn insert_like_current<'p, B: Below>(
 }
 
 /// Puts an HTML element for the token into the document.
+#[inline(never)]
 pub(crate) fn insert_html<'p, B: Below>(
     alloc: Global,
     view: &mut View<'p, B>,
@@ -93,6 +97,7 @@ pub(crate) fn insert_html<'p, B: Below>(
 }
 
 /// Adds the token's attributes to the first element.
+#[inline(never)]
 pub(crate) fn add_to_first<'p, B: Below>(
     alloc: Global,
     view: &mut View<'p, B>,
@@ -108,6 +113,7 @@ pub(crate) fn add_to_first<'p, B: Below>(
 }
 
 /// Adds the token's attributes to the second element.
+#[inline(never)]
 pub(crate) fn add_to_body<'p, B: Below>(
     alloc: Global,
     view: &mut View<'p, B>,

@@ -14,5 +14,6 @@ mod turns;
 
 pub use acts::carry;
 pub use laws::{acts_mean, known_handled, older_handled, tests_tell};
+pub use plain::{handle_text, takes_text};
 pub use token_parts::Spending;
 pub use turns::{Handled, handle};

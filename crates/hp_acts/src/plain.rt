@@ -2,9 +2,12 @@
 //! 13.2.6.4.8).
 ghost use Rattle.std.specs.Prelude.{◌≡◌, true};
 ghost use Rattle.hp_views.specs.View.{sight, split_of, Carries};
-ghost use Rattle.hp_acts.specs.HandlePlans.{all_turns_plan};
+ghost use Rattle.hp_acts.specs.HandlePlans.{all_turns_plan, handle_plan};
 ghost use Rattle.hp_acts.specs.Handling.{Handles};
-ghost use Rattle.hp_acts.specs.Plain.{IsPlain, body_text_plan, has_html_top, is_raw, is_run, is_text_mode, put_text_plan, run_plan, text_plan};
+ghost use Rattle.hp_acts.specs.Plain.{IsPlain, body_text_plan, is_raw, is_run, put_text_plan, run_plan, takes_text, text_plan};
+ghost use Rattle.hp_model.specs.Texts.{as_run, has_html_top, is_text_mode, is_white, white_or_other};
+ghost use Rattle.std.specs.List.{list_all};
+ghost use Rattle.std.specs.Str.{chars};
 
 use crate::turns::{Handled, NOTHING};
 use hp_adoption::reconstruct;
@@ -52,6 +55,7 @@ pub(crate) fn is_plain<'p, B: Below>(view: &View<'p, B>, token: &Token<'p>) -> b
 
 /// Puts the text of a plain run into the current node.
 #[tactic(auto, using(crate::proofs::PlainRuns::plain_refused))]
+#[inline(never)]
 pub(crate) fn put_plain<'p, B: Below>(
     alloc: Global,
     view: &mut View<'p, B>,
@@ -134,5 +138,48 @@ fn put_text<'p, B: Below>(
         }
         CharClass::White => view.put(alloc, false, Child::Text(text)),
         CharClass::Nul => view.put(alloc, false, Child::Text(text)),
+    }
+}
+
+/// Whether a text without U+0000 goes into the current node as it comes: no line feed is skipped, and the rules do nothing but put
+/// text into the current node, an own HTML element.
+pub fn takes_text<'p, B: Below>(view: &View<'p, B>) -> bool
+    ensures { result ≡ takes_text (split_of view.now) }
+{
+    !view.change.skip_lf && is_text_mode(view.change.mode) && is_in_html(&view.change.stack)
+}
+
+/// Whether a text is white space alone.
+fn is_white(text: &str) -> bool
+    ensures { result ≡ list_all is_white (chars text.now) }
+{
+    text.chars()
+        .all(|c| matches!(c, '\t' | '\n' | '\x0c' | '\r' | ' '))
+}
+
+/// The class of a text without U+0000, taken as one run.
+fn class_of_text(text: &Text<'_>) -> CharClass
+    ensures { result ≡ white_or_other (list_all is_white text.now) }
+{
+    if is_white(text.as_str()) {
+        CharClass::White
+    } else {
+        CharClass::Other
+    }
+}
+
+/// Handles a text without U+0000 as one run, where it goes into the current node as it comes.
+pub fn handle_text<'p, B: Below>(
+    alloc: Global,
+    view: &mut View<'p, B>,
+    text: Text<'p>,
+) -> Result<Handled, Refusal>
+    requires takes { takes_text (split_of view.old) ≡ true }
+    ensures plan { Handles result (sight B.heard view.old) (sight B.heard view.new) (handle_plan (as_run text.entry)) }
+{
+    let class = class_of_text(&text);
+    match put_characters(alloc, view, class, text) {
+        Ok(()) => Ok(NOTHING),
+        Err(refused) => Err(refused),
     }
 }

@@ -7,8 +7,8 @@ ghost use Rattle.hp_control.specs.Plan.{Plan};
 ghost use Rattle.hp_model.specs.Rows.{is_head_mode};
 ghost use Rattle.hp_views.specs.View.{page_of, sight};
 ghost use Rattle.hp_acts.specs.Carrying.{Comes, Goes, GoesBy, Stays, going, next_present, present_plan, reached, row_plan};
-ghost use Rattle.hp_acts.specs.HandlePlans.{all_turns_plan, handle_plan};
-ghost use Rattle.hp_acts.specs.Handling.{GoesLater, Handles};
+ghost use Rattle.hp_acts.specs.HandlePlans.{all_turns_plan, handle_plan, handle_rest, without_line_feed};
+ghost use Rattle.hp_acts.specs.Handling.{GoesLater, Handles, unskipped};
 ghost use Rattle.hp_acts.specs.RowPlans.{Reached, Came, act_then, is_early, turn_plan};
 ghost use Rattle.hp_acts.specs.Rows.{acts_in, is_planned};
 ghost use Rattle.hp_acts.specs.Spending.{IsLeftOf, gives_away, is_of_attributes, leaves_whole, reads_attributes};
@@ -316,6 +316,18 @@ pub fn handle<'p, B: Below>(
             take_turns(alloc, view, token)
         };
     }
+    handle_skipping(alloc, view, token)
+}
+
+/// The same where a line feed is to be dropped.
+#[inline(never)]
+fn handle_skipping<'p, B: Below>(
+    alloc: Global,
+    view: &mut View<'p, B>,
+    token: Token<'p>,
+) -> Result<Handled, Refusal>
+    ensures plan { Handles result (sight B.heard view.old) (sight B.heard view.new) (λ v. handle_rest (without_line_feed token.entry) (unskipped v)) }
+{
     view.change.skip_lf = false;
     match after_line_feed(alloc, token)? {
         Some(token) => take_turns(alloc, view, token),

@@ -4,7 +4,7 @@ use Rattle.std.specs.List.{list_any}
 use Rattle.std.proofs.lemmas.Bool.{true≢false, cases_eq, cases_Bool, or_cases, cond_both, cond-true, cond-false, eq-eqb, eqb-true}
 use Rattle.std.proofs.lemmas.List.{get_or-set_other}
 use Rattle.hp_elements.specs.declared.tag.Tag.{Tag}
-use Rattle.hp_control.specs.Tree.{Item, Branch, Tree, branch, no_branch, is_element, beside, put_last, put_before, with_inside, in_each, in_one, detached, stands_in, has_parent, put, put_into, put_child, may_be_child, leads_into_document, is_there, is_place, id_of, children_moved, with_tag, with_attributes, applied}
+use Rattle.hp_control.specs.Tree.{Item, Branch, Tree, branch, no_branch, is_element, beside, put_last, put_before, with_inside, in_each, in_one, detached, stands_in, has_parent, put, put_into, put_child, item_of_doctype, may_be_child, leads_into_document, is_there, is_place, id_of, children_moved, with_tag, with_attributes, applied}
 use Rattle.hp_control.specs.Tree as item
 use Rattle.hp_control.specs.declared.edit.Child.{Child}
 use Rattle.hp_control.specs.declared.edit.Child.TheVariants as child
@@ -235,13 +235,13 @@ roots-child r t (child.Element node) place all =
 roots-child r t (child.Text text) place all =
     cond_both (leads_into_document t place) t (put t (item.Text text) place) (λ u. AreRoots r u) (λ e. all) (λ e. roots-leaf r t (item.Text text) place (λ id. refl) all)
 roots-child r t (child.Comment text) place all = roots-leaf r t (item.Comment text) place (λ id. refl) all
-roots-child r t (child.Doctype name public system) place all = roots-leaf r t (item.Doctype name public system) place (λ id. refl) all
+roots-child r t (child.Doctype parts) place all = roots-leaf r t (item_of_doctype parts) place (λ id. refl) all
 
 roots-same : (r : Roots) (t : Tree) (c : Child) (place : Place) → AreRoots r t → AreRoots (roots_after r (Put c place)) t
 roots-same r t (child.Element node) place all = roots-kept r t (id_of node) place all
 roots-same r t (child.Text text) place all = all
 roots-same r t (child.Comment text) place all = all
-roots-same r t (child.Doctype name public system) place all = all
+roots-same r t (child.Doctype parts) place all = all
 
 root-emptied : (t : Tree) (from id : ℕ) → stands_in (in_one (λ _. []) t from) 0 id ≡ true → stands_in t 0 id ≡ true
 root-emptied t from id h =

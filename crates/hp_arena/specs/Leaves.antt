@@ -1,6 +1,7 @@
 -- What leaves mean.
-use Rattle.std.specs.Prelude.{◌≡◌, Bool, true, false, ℕ, ◌+◌, ◌<◌, ◌≤◌, ◌++◌, List, [], length, map, None, slice_index_or, slice_set}
+use Rattle.std.specs.Prelude.{◌≡◌, Bool, true, false, ℕ, ◌+◌, ◌<◌, ◌≤◌, ◌++◌, List, [], length, map, None, unwrap_or, slice_index_or, slice_set}
 use Rattle.std.specs.List.{concat}
+use Rattle.hp_elements.specs.declared.token.DoctypeParts.{DoctypeParts}
 use Rattle.hp_control.specs.Tree.{Item}
 use Rattle.hp_control.specs.Tree as item
 use Rattle.hp_arena.specs.declared.links.Node.{Node}
@@ -13,6 +14,10 @@ use Rattle.hp_arena.specs.Nodes.{kind_of}
 
 abbrev pub no_doctype : DoctypeOf
 no_doctype = record { name = []; public = None; system = None }
+
+-- a doctype as the tree keeps it
+abbrev pub kept_doctype : DoctypeParts → DoctypeOf
+kept_doctype parts = record { name = unwrap_or parts.name []; public = parts.public; system = parts.system }
 
 abbrev pub doctype_item : DoctypeOf → Item
 doctype_item d = item.Doctype d.name d.public d.system

@@ -42,7 +42,7 @@ roots_after r (NewElement tag) = r
 roots_after r (Put (child.Element node) place) = if may_lead r place then with_root r (id_of node) else r
 roots_after r (Put (child.Text text) place) = r
 roots_after r (Put (child.Comment text) place) = r
-roots_after r (Put (child.Doctype name public system) place) = r
+roots_after r (Put (child.Doctype parts) place) = r
 roots_after r (Detach node) = r
 roots_after r (MoveChildren from to) = if id_of to == 0 then roots.Any else r
 roots_after r (AddMissing node more) = r

@@ -1,11 +1,11 @@
 //! The nodes, elements and leaves of a tree, and the edits on them.
 
-ghost use Rattle.std.specs.Prelude.{◌≡◌, ◌≢◌, ◌+◌, ◌<◌, ◌≤◌, length, ◌++◌, [], ◌∷◌, ◌^◌, true, false, IfOk, OnOk, OnErr, All, MatchOption, Some, slice_get, slice_set, vec_len, vec_capacity};
+ghost use Rattle.std.specs.Prelude.{◌≡◌, ◌≢◌, ◌+◌, ◌<◌, ◌≤◌, length, ◌++◌, [], ◌∷◌, ◌^◌, true, false, IfOk, OnOk, OnErr, All, MatchOption, unwrap_or, Some, slice_get, slice_set, vec_len, vec_capacity};
 ghost use Rattle.hp_control.specs.Edits.{room_of, room_of_all};
 ghost use Rattle.hp_control.specs.Tree.{document, detached, put, put_child, applied, is_there, id_of, is_place, may_be_child, leads_into_document, children_moved, with_tag, with_attributes};
 ghost use Rattle.hp_control.specs.Tree.{branch, IsForest};
 ghost use Rattle.hp_control.specs.Tree as item;
-ghost use Rattle.hp_arena.specs.Leaves.{IsCell, leaf_items};
+ghost use Rattle.hp_arena.specs.Leaves.{IsCell, leaf_items, kept_doctype};
 ghost use Rattle.hp_arena.specs.Roots.{is_root_table, has_root_table};
 ghost use Rattle.hp_arena.specs.Nodes.{kind_of, IsClosed, end_from};
 ghost use Rattle.hp_arena.specs.Readers.{IsSpot, shown, is_item, HasTag};
@@ -203,18 +203,7 @@ impl<'p> Arena<'p> {
                 }
             }
             Child::Comment(text) => self.put_comment(text, place),
-            Child::Doctype {
-                name,
-                public,
-                system,
-            } => self.put_doctype(
-                Doctype {
-                    name,
-                    public,
-                    system,
-                },
-                place,
-            ),
+            Child::Doctype(doctype) => self.put_doctype(kept_doctype(doctype), place),
         }
     }
 
@@ -241,6 +230,7 @@ impl<'p> Arena<'p> {
     }
 
     /// Takes an element out of its list of children.
+    #[inline(never)]
     fn detach(&mut self, id: u64)
         requires { id < length self.old.branches }
         ensures branches { self.new.branches ≡ detached self.old.branches id }
@@ -265,6 +255,7 @@ impl<'p> Arena<'p> {
     }
 
     /// Appends all children of an element to those of another.
+    #[inline(never)]
     fn move_children(&mut self, from: u64, to: u64)
         requires from_in { from < length self.old.branches }
         requires to_in { to < length self.old.branches }
@@ -280,6 +271,7 @@ impl<'p> Arena<'p> {
     }
 
     /// Adds the attributes whose names an element doesn't have.
+    #[inline(never)]
     fn add_missing(&mut self, id: u64, attributes: Chain<Attribute>)
         requires id_in { id < length self.old.branches }
         requires room { length attributes < self.old.spare }
@@ -293,6 +285,7 @@ impl<'p> Arena<'p> {
     }
 
     /// Puts a comment at a place.
+    #[inline(never)]
     fn put_comment(&mut self, text: Text<'p>, place: Place)
         requires room { 0 < self.old.spare }
         requires there { is_place self.old.branches place ≡ true }
@@ -305,6 +298,7 @@ impl<'p> Arena<'p> {
     }
 
     /// Puts a doctype at a place.
+    #[inline(never)]
     fn put_doctype(&mut self, doctype: Doctype<'p>, place: Place)
         requires room { 0 < self.old.spare }
         requires there { is_place self.old.branches place ≡ true }
@@ -434,6 +428,29 @@ impl<'p> Arena<'p> {
     }
 }
 
+/// A part of a doctype; the empty text where it is missing.
+fn text_or_empty(part: Option<Text<'_>>) -> Text<'_>
+    ensures { result ≡ unwrap_or part.entry [] }
+{
+    match part {
+        Some(text) => text,
+        None => Text::new(),
+    }
+}
+
+/// A doctype as the tree keeps it: a name that is missing is the empty text.
+#[inline(never)]
+fn kept_doctype<'p>(doctype: hp_elements::Doctype<'p>) -> Doctype<'p>
+    ensures { result ≡ kept_doctype doctype.entry }
+{
+    let parts = doctype.into_parts();
+    Doctype {
+        name: text_or_empty(parts.name),
+        public: parts.public,
+        system: parts.system,
+    }
+}
+
 /// The id that is meant. Where it isn't told, no edit asks for it.
 pub fn id_of(node: Ref) -> u64
     ensures { result ≡ id_of node }
@@ -477,6 +494,7 @@ fn retag(elements: &mut [Element], id: u64, more: Chain<Attribute>)
 }
 
 /// The end of the list that a node stands in.
+#[inline(never)]
 fn end_after(nodes: &[Node], from: u32) -> u32
     requires from_in { from < length nodes.now }
     requires closed { IsClosed nodes.now }

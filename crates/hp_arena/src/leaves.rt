@@ -152,6 +152,7 @@ fn join_last<'p>(runs: &mut Chain<Text<'p>>, text: Text<'p>) -> Option<Text<'p>>
 }
 
 /// Appends a text to runs. It becomes a part of the last one where it stands right behind that in the page.
+#[inline(never)]
 fn extend<'p>(runs: &mut Chain<Text<'p>>, cells: &mut Vec<Chain<Text<'p>>>, text: Text<'p>)
     requires some { 0 < vec_len cells.old }
     requires cell { All IsCell cells.old.items }
@@ -169,6 +170,7 @@ fn extend<'p>(runs: &mut Chain<Text<'p>>, cells: &mut Vec<Chain<Text<'p>>>, text
 }
 
 /// Appends a text to a run. Where it doesn't become a part of it, the runs come that stand in its place.
+#[inline(never)]
 fn extend_run<'p>(
     first: &mut Text<'p>,
     cells: &mut Vec<Chain<Text<'p>>>,

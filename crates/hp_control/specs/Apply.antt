@@ -73,7 +73,7 @@ abbrev pub named_child : ControlState → Child → Child
 named_child s (child.Element node) = child.Element (named s node)
 named_child s (child.Text text) = child.Text text
 named_child s (child.Comment text) = child.Comment text
-named_child s (child.Doctype name public system) = child.Doctype name public system
+named_child s (child.Doctype parts) = child.Doctype parts
 
 abbrev pub named_edit : ControlState → Edit → Edit
 named_edit s (NewElement tag) = NewElement tag

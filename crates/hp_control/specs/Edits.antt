@@ -35,7 +35,7 @@ abbrev pub IsFixedChild : Child → Type 0
 IsFixedChild (Element node) = IsFixed node
 IsFixedChild (Text text) = Unit {0}
 IsFixedChild (Comment text) = Unit {0}
-IsFixedChild (Doctype name public system) = Unit {0}
+IsFixedChild (Doctype parts) = Unit {0}
 
 -- the edit tells each element by its id
 abbrev pub IsFixedEdit : Edit → Type 0

@@ -1,8 +1,10 @@
 -- A document tree, and what the edits make of it.
 use Rattle.std.specs.Prelude.{◌≡◌, ℕ, ◌<◌, ◌==◌, ◌&&◌, Bool, false, not, if◌then◌else◌, List, [], ◌∷◌, ◌++◌, length, map, filter, slice_set, slice_get, slice_index_or, Option, Some, None, nat_lt, bytes_eq}
 use Rattle.std.specs.List.{list_any}
+use Rattle.std.specs.Option.{unwrap_or}
 use Rattle.hp_elements.specs.declared.tag.Attribute.{Attribute}
 use Rattle.hp_elements.specs.declared.tag.Tag.{Tag}
+use Rattle.hp_elements.specs.declared.token.DoctypeParts.{DoctypeParts}
 use Rattle.hp_control.specs.declared.edit.Child.{Child}
 use Rattle.hp_control.specs.declared.edit.Child.TheVariants as child
 use Rattle.hp_control.specs.declared.edit.Place.{Place}
@@ -127,13 +129,17 @@ leads_into_document t (Into parent) = id_of parent == 0
 leads_into_document t (Foster table above) =
     if has_parent t (id_of table) then stands_in t 0 (id_of table) else id_of above == 0
 
+-- a doctype among children; a name that is missing is the empty text
+abbrev pub item_of_doctype : DoctypeParts → Item
+item_of_doctype parts = Doctype (unwrap_or parts.name []) parts.public parts.system
+
 -- the tree with a child at a place that is there. The document has no text among its children
 abbrev pub put_child : Tree → Child → Place → Tree
 put_child t (child.Element node) place =
     if may_be_child t node then put (detached t (id_of node)) (Element (id_of node)) place else t
 put_child t (child.Text text) place = if leads_into_document t place then t else put t (Text text) place
 put_child t (child.Comment text) place = put t (Comment text) place
-put_child t (child.Doctype name public system) place = put t (Doctype name public system) place
+put_child t (child.Doctype parts) place = put t (item_of_doctype parts) place
 
 abbrev pub has_name : List Attribute → Attribute → Bool
 has_name attributes one = list_any (λ a. bytes_eq a.name one.name) attributes

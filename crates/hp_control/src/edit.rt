@@ -3,7 +3,7 @@
 ghost use Rattle.std.specs.Prelude.{◌≡◌, ◌+◌, ◌∷◌, ◌++◌, [], length, IsTrue, ◌↔◌, IfOk, OnOk, OnErr};
 ghost use Rattle.hp_control.specs.Edits.{room_of, room_of_all};
 
-use hp_elements::{Attribute, Chain, Tag, Text};
+use hp_elements::{Attribute, Chain, Doctype, Tag, Text};
 use std::alloc::{AllocError, Global};
 use std::marker::Model;
 use std::mem;
@@ -34,11 +34,8 @@ pub enum Child<'p> {
     Element(Ref),
     Text(Text<'p>),
     Comment(Text<'p>),
-    Doctype {
-        name: Text<'p>,
-        public: Option<Text<'p>>,
-        system: Option<Text<'p>>,
-    },
+    /// Kept on the heap, so that edits stay small.
+    Doctype(Doctype<'p>),
 }
 
 /// One step in the making of a tree.
@@ -207,44 +204,4 @@ fn one_edit<'p>(alloc: Global, edit: Edit<'p>) -> Result<Vec<Edit<'p>>, AllocErr
     let mut items = Vec::new(alloc);
     items.push(edit)?;
     Ok(items)
-}
-
-#[cfg(test)]
-mod tests {
-    use super::*;
-    use std::test::Fail;
-
-    #[test]
-    fn edits_are_kept_in_order(rt: HostRuntime) -> Result<(), Fail> {
-        let mut edits = Edits::new();
-        assert!(rt; edits.is_empty());
-        edits.push(
-            rt.alloc(),
-            Edit::Detach {
-                node: Ref::Fixed(7),
-            },
-        )?;
-        edits.push(
-            rt.alloc(),
-            Edit::Put {
-                child: Child::Element(Ref::Own(1)),
-                place: Place::Into(Ref::Older(2)),
-            },
-        )?;
-        assert_eq!(rt; edits.len(), 2);
-        assert_eq!(rt; edits.room(), 2);
-        let mut all = Vec::new(rt.alloc());
-        edits.take_into(&mut all);
-        assert!(rt; edits.is_empty());
-        assert!(rt;
-            matches!(
-                all.last(),
-                Some(Edit::Put {
-                    place: Place::Into(Ref::Older(2)),
-                    ..
-                })
-            )
-        );
-        Ok(())
-    }
 }

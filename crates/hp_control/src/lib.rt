@@ -18,8 +18,7 @@ mod spelled;
 mod splice;
 mod stack;
 mod tags;
-#[cfg(test)]
-mod tests;
+mod telling;
 mod truths;
 mod walks;
 

@@ -4,18 +4,22 @@ use Rattle.std.proofs.Common.{◌≡◌, ℕ, Bool, true, false, ◌-◌, ◌≤
 use Rattle.hp_elements.specs.declared.token.Token.{Token}
 use Rattle.hp_names.specs.References.{Reference}
 use Rattle.hp_tokens.specs.declared.state.State.{State}
+use Rattle.hp_tokens.specs.declared.state.State.TheVariants.{Data}
 use Rattle.hp_tokens.specs.declared.rows.Turn.TheVariants as turns
 use Rattle.hp_tokens.specs.Reading.{IsFront, Unread}
 use Rattle.hp_tokens.specs.Moves.{Lexing, Emitted, Rules, needs_more, makes, move_on, move}
+use Rattle.hp_tokens.specs.Runs.{Leads}
 use Rattle.hp_tokens.specs.Advancing.{held, unread, lexing, Advances, Stops, Turned}
 use Rattle.hp_tokens.proofs.OneByOne.{none_yet}
+use Rattle.hp_lex_tags.specs.Tags.{EmitsLast, TagTurned, tag_rules, is_here}
 use Rattle.hp_lexer.specs.declared.lexer.Asked.{Asked}
 use Rattle.hp_lexer.specs.declared.lexer.Asked.TheVariants as asked
 use Rattle.hp_lexer.specs.declared.lexer.Lexer.{Lexer}
 use Rattle.hp_lexer.specs.declared.lexer.Step.TheVariants as steps
 use Rattle.hp_lexer.specs.Table.{table, part_of}
-use Rattle.hp_lexer.specs.Standing.{stands, RestsInData, Stepped}
+use Rattle.hp_lexer.specs.Standing.{stands, Reaches, ReachesCut, RestsInData, Stepped, TagStepped}
 use Rattle.hp_lexer.proofs.Opening.{at_nothing}
+use Rattle.hp_lexer.proofs.Parts.{IsPart, tags-part, text_in_tags, advances, part_made, part_leads}
 
 module _ (old new : Lexer) (old_input new_input : Unread) (none : old.asked ≡ asked.Nothing) (still : new.asked ≡ asked.Nothing) where
   -- where both stand
@@ -34,6 +38,25 @@ module _ (old new : Lexer) (old_input new_input : Unread) (none : old.asked ≡ 
     still,
     (s, both (λ x y. Stops (table old.names) (part_of s) y) t.1),
   )
+
+  in_table : (tag : Token) → EmitsLast (tag_rules old.names) (lexing old.lex old_input old.rested) tag (lexing new.lex new_input new.rested) new.rested
+      → EmitsLast (table old.names) (lexing old.lex old_input old.rested) tag (lexing new.lex new_input new.rested) new.rested
+  in_table tag e = record {
+    mid = e.mid;
+    leads = part_leads (tag_rules old.names) is_here old.names (tags-part old.names) e.leads;
+    last = part_made (tag_rules old.names) is_here old.names (tags-part old.names) e.mid _ _ e.last;
+  }
+
+  pub tag_at_once : (token : Option Token) → TagTurned old.names (lexing old.lex old_input old.rested) token (lexing new.lex new_input new.rested) new.rested → TagStepped old old_input new new_input token
+  tag_at_once (Some tag) t = (
+    tokens_at_once Data (tag ∷ []) (text_in_tags old.names Data _ _ (tag ∷ []) new.rested refl t.0),
+    both (λ x y. EmitsLast (table old.names) x tag y new.rested) (in_table tag t.1),
+  )
+  tag_at_once None t =
+      both (λ x y. Advances (table old.names) x [] y [] new.rested false) (advances (tag_rules old.names) is_here old.names (tags-part old.names) _ [] _ [] new.rested false t)
+
+pub nothing_done : (old : Lexer) (input : Unread) → Reaches old input old input [] false
+nothing_done old input = none_yet (table old.names) (stands old input) [] old.rested
 
 -- nothing comes first
 pub none_in_front : (text : List ℕ) (front : Option ℕ) → IsFront text front → is_some front ≡ false → text ≡ []

@@ -1,5 +1,5 @@
 -- Where a lexer stands in a text, and what its calls promise.
-use Rattle.std.specs.Prelude.{◌≡◌, ℕ, ◌+◌, ◌*◌, ◌-◌, ◌<◌, ◌≤◌, ◌^◌, Bool, true, false, List, [], ◌∷◌, length, map, if◌then◌else◌}
+use Rattle.std.specs.Prelude.{◌≡◌, ℕ, ◌+◌, ◌*◌, ◌-◌, ◌<◌, ◌≤◌, ◌^◌, Bool, true, false, List, [], ◌∷◌, length, map, Option, Some, None, if◌then◌else◌}
 use Rattle.std.specs.List.{list_all}
 use Rattle.hp_tokens.specs.Plain.{none_of}
 use Rattle.hp_tokens.specs.Rows.{character}
@@ -14,6 +14,7 @@ use Rattle.hp_tokens.specs.Ranks.{weight}
 use Rattle.hp_tokens.specs.States.{enter, state_of_rest}
 use Rattle.hp_elements.specs.declared.token.Rest.{Rest}
 use Rattle.hp_lex_raw.specs.Raw.{is_untold}
+use Rattle.hp_lex_tags.specs.Tags.{EmitsLast}
 use Rattle.hp_lex_markup.specs.declared.words.Word.TheVariants.{Cdata as CdataWord}
 use Rattle.hp_lex_markup.specs.Markup.{in_section, after_word}
 use Rattle.hp_lexer.specs.declared.lexer.Asked.{Asked}
@@ -94,6 +95,14 @@ pub record PlainStepped (old : Lexer) (old_input : Unread) (new : Lexer) (new_in
   pub stepped : Stepped old old_input new new_input (steps.Tokens (new.rested - 2 ^ 32) (map character text))
   pub no_nul : list_all (none_of (0 ∷ [])) text ≡ true
   pub long : 0 < length text
+
+-- The promise of `next_tag`: a tag was emitted by moves from one rest to the next, by the last of them; or moves were made that emit
+-- nothing.
+abbrev pub TagStepped : Lexer → Unread → Lexer → Unread → Option Token → Type 0
+TagStepped old old_input new new_input (Some tag) =
+    Stepped old old_input new new_input (steps.Tokens (new.rested - 2 ^ 32) (tag ∷ []))
+    × EmitsLast (table old.names) (stands old old_input) tag (stands new new_input) new.rested
+TagStepped old old_input new new_input None = Reaches old old_input new new_input [] false
 
 -- What falls with each step of a run over a text: twice the weight of what is unread and of the state, and one where the last
 -- start tag's name isn't told.

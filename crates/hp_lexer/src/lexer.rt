@@ -56,7 +56,7 @@ impl Lexer {
     ghost use Rattle.hp_tokens.specs.States.{enter, state_of_rest};
     ghost use Rattle.hp_lexer.specs.declared.lexer.Asked.TheVariants as asked;
     ghost use Rattle.hp_lexer.specs.declared.lexer.Step.TheVariants as steps;
-    ghost use Rattle.hp_lexer.specs.Standing.{is_answered, opened, Stepped, RestsInData, PlainStepped};
+    ghost use Rattle.hp_lexer.specs.Standing.{is_answered, opened, Stepped, RestsInData, PlainStepped, TagStepped};
     ghost use Rattle.hp_lexer.specs.Running.{Ran, Passed};
     ghost use Rattle.hp_lexer.specs.Table.{table};
 
@@ -168,6 +168,53 @@ impl Lexer {
                 Some(text)
             }
             _ => None,
+        }
+    }
+
+    /// What a named reference with a semicolon at the front stands for, in the data state, where that is one code point; otherwise
+    /// `None`, and nothing changes. It is what calls of `next` do there.
+    #[inline]
+    pub fn next_reference<'p>(&mut self, input: &mut Cursor<'p>) -> Option<Text<'p>>
+        requires held { held self.old.lex ≤ input.old.place }
+        ensures text { IfSome result (λ text. PlainStepped self.old input.old self.new input.new text) }
+        ensures none { IfNone result ((self.new ≡ self.old) × (input.new ≡ input.old)) }
+        ensures held { held self.new.lex ≤ input.new.place }
+        ensures names { self.new.names ≡ self.old.names }
+    {
+        match self.asked {
+            Asked::Nothing => {
+                let text = hp_lex_tags::next_reference(
+                    &mut self.lex,
+                    input,
+                    &self.names,
+                    &mut self.rested,
+                )?;
+                Some(text)
+            }
+            _ => None,
+        }
+    }
+
+    /// A tag at the front, where the lexer rests in the data state and the tag is a usual one. It is what `next` does there. With
+    /// `None` some moves were made, which emit nothing, or none.
+    #[inline]
+    pub fn next_tag<'p>(
+        &mut self,
+        alloc: Global,
+        input: &mut Cursor<'p>,
+    ) -> Result<Option<Token<'p>>, NoMemory>
+        requires held { held self.old.lex ≤ input.old.place }
+        ensures tag { IfOk result (λ token. TagStepped self.old input.old self.new input.new token) }
+        ensures held { IfOk result (λ token. held self.new.lex ≤ input.new.place) }
+        ensures asked { self.new.asked ≡ self.old.asked }
+        ensures names { self.new.names ≡ self.old.names }
+    {
+        match self.asked {
+            Asked::Nothing => {
+                let token = hp_lex_tags::next_tag(alloc, &mut self.lex, input, &mut self.rested)?;
+                Ok(token)
+            }
+            _ => Ok(None),
         }
     }
 

@@ -322,7 +322,7 @@ module _ (fostering : Bool) (entry : Spot) (depth : ℕ) (block : Seat) (c : Con
 thinning_alone : (entry : Spot) (depth : ℕ) → Thinning (and_then (pop_by (depth + 1)) (strike entry))
 thinning_alone entry depth = thinning_then (pop_by (depth + 1)) (strike entry) (thinning_pop_by (depth + 1)) (thinning_strike entry)
 
-thinning_turn : (fostering : Bool) (name : List ℕ) → Thinning (turn fostering name)
+pub thinning_turn : (fostering : Bool) (name : List ℕ) → Thinning (turn fostering name)
 thinning_turn fostering name c r = go (find_name name c.formatting) refl
   where
     with_block : (entry : Spot) (depth : ℕ) (o : Option Seat) → IsEntry entry c.formatting → open_at entry.id c.stack ≡ Some depth → furthest (take depth c.stack) ≡ o
@@ -343,7 +343,7 @@ thinning_turn fostering name c r = go (find_name name c.formatting) refl
     go None e = thinning_walk name c r
     go (Some entry) e = with_open entry (open_at entry.id c.stack) (name-found name c.formatting entry e r.formatting) refl
 
-thinning_turns : (n : ℕ) (fostering : Bool) (name : List ℕ) → Thinning (turns n fostering name)
+pub thinning_turns : (n : ℕ) (fostering : Bool) (name : List ℕ) → Thinning (turns n fostering name)
 unfolding turns
 thinning_turns zero fostering name = thinning_nothing
 thinning_turns (suc n) fostering name =

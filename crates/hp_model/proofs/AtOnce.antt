@@ -28,7 +28,7 @@ use Rattle.hp_model.proofs.RowLemmas.{joined_assoc, joined_first, joined_last}
 use Rattle.hp_model.proofs.Together.{carried_together, stays, turned_together}
 
 -- what leaves the same
-same_by : (h k : Handled) → h ≡ k → LeaveSame h k
+pub same_by : (h k : Handled) → h ≡ k → LeaveSame h k
 same_by h k e = record {
   control = ap (λ (x : Handled). left_by x) e;
   switch = ap (λ (x : Handled). x.switch) e;
@@ -38,7 +38,7 @@ same_by h k e = record {
   spared = ap (λ (x : Handled). x.outcome.spared) e;
 }
 
-same_then : (h k l : Handled) → LeaveSame h k → LeaveSame k l → LeaveSame h l
+pub same_then : (h k l : Handled) → LeaveSame h k → LeaveSame k l → LeaveSame h l
 same_then h k l f g = record {
   control = f.control ∙ g.control;
   switch = f.switch ∙ g.switch;
@@ -55,7 +55,7 @@ make-both : (es ds fs gs : List Edit) → MakeSame es ds → MakeSame fs gs → 
 make-both es ds fs gs e f t =
     applied-append t es fs ∙ (ap (λ u. applied_all u fs) (e t) ∙ (f (applied_all t ds) ∙ sym (applied-append t ds gs)))
 
-same_joined : (h k l : Handled) → LeaveSame k l → LeaveSame (joined h k) (joined h l)
+pub same_joined : (h k l : Handled) → LeaveSame k l → LeaveSame (joined h k) (joined h l)
 same_joined h k l f = record {
   control = f.control;
   switch = ap (λ s. later h.switch s) f.switch;
@@ -138,7 +138,7 @@ parted (suc n) class a b c f s = go (manner class c.mode c.stack) refl (turn_dea
         parted_later n class a b c d (rest (left_by d.first) (subst (λ list. All IsFormatting list) (sym d.formatting) f) (some_behind d.first (turns turn n (token.Characters class a) (left_by d.first)) s2))
 
 -- one turn is enough where it goes on
-turned_once : (t : Token) (c : ControlState) (k : Handled) → turn t c ≡ goes_on k → all_turns c t ≡ k
+pub turned_once : (t : Token) (c : ControlState) (k : Handled) → turn t c ≡ goes_on k → all_turns c t ≡ k
 turned_once t c k e =
     let more : bound c ≡ suc (31 + 16 * length c.stack) = omega arith in
     ap (λ n. unwrap_or (turns turn n t c) (unchanged c)) more
@@ -168,7 +168,7 @@ abbrev piece : CharClass → ℕ → Token
 piece class x = token.Characters class (x ∷ [])
 
 -- where no line feed is skipped
-not_skipping : (c : ControlState) (t : Token) → c.skip_lf ≡ false → handle_at_once c t ≡ all_turns c t
+pub not_skipping : (c : ControlState) (t : Token) → c.skip_lf ≡ false → handle_at_once c t ≡ all_turns c t
 not_skipping c t e =
     ap (λ b. if b && is_line_feed t then handle_rest (record c { skip_lf = false }) (after_first t) else all_turns (record c { skip_lf = false }) t) e
     ∙ ap (λ b. all_turns (record c { skip_lf = b }) t) (sym e)

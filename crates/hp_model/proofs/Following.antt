@@ -98,7 +98,7 @@ html_tag-plain tag id e = second (is_html_space tag.namespace) (bytes_eq tag.nam
     second true b k = k
     second false b k = refl
 
-was_not : (b : Bool) → not b ≡ true → b ≡ false
+pub was_not : (b : Bool) → not b ≡ true → b ≡ false
 was_not true h = sym h
 was_not false h = refl
 
@@ -120,7 +120,7 @@ bare_along : (fostering : Bool) (k : Known) (v : Course) (n : ℕ) (s : ControlS
 bare_along fostering k v n s g h f = push (is_among counted (text_of k)) false (bare_tag (text_of k)) v n s g h refl (λ e. e) (was_not (is_a_template (text_of k)) f) refl
 
 -- a foreign element, which may be popped again
-foreign_thins : (space : Namespace) (fostering self_closing : Bool) (tag : Tag) → is_html_space space ≡ false → Thinning (insert_in space fostering self_closing tag)
+pub foreign_thins : (space : Namespace) (fostering self_closing : Bool) (tag : Tag) → is_html_space space ≡ false → Thinning (insert_in space fostering self_closing tag)
 foreign_thins space fostering self_closing tag h = thinning_then (insert fostering (tag_in space tag)) (if self_closing then pop else nothing_done) pushed (popped self_closing)
   where
     first : (a b : Bool) → a ≡ false → (a && b) ≡ false
@@ -145,19 +145,19 @@ foreign_thins space fostering self_closing tag h = thinning_then (insert fosteri
       alike = record { mode = refl; original = refl; pending = refl; templates = refl; head = refl; lex = refl };
     }
 
-opened-foreign : (name : List ℕ) → is_html_space (opened_namespace name) ≡ false
+pub opened-foreign : (name : List ℕ) → is_html_space (opened_namespace name) ≡ false
 opened-foreign name = go (bytes_eq name (text_of known.Svg))
   where
     go : (b : Bool) → is_html_space (if b then Svg else MathMl) ≡ false
     go true = refl
     go false = refl
 
-alien-foreign : (b : Base) (st : List OpenElement) (next : ℕ) → is_alien b ≡ true → BaseIs b st next → is_html_space (current_namespace st) ≡ false
+pub alien-foreign : (b : Base) (st : List OpenElement) (next : ℕ) → is_alien b ≡ true → BaseIs b st next → is_html_space (current_namespace st) ≡ false
 alien-foreign alien [] next h k = absurd (true≢false (sym k.1))
 alien-foreign alien (e ∷ es) next h k = was_not (is_html e) k.1
 alien-foreign _ st next h k = absurd (true≢false (sym h))
 
-alien-standing : (b : Base) → is_alien b ≡ true → is_standing b ≡ true
+pub alien-standing : (b : Base) → is_alien b ≡ true → is_standing b ≡ true
 alien-standing alien h = refl
 alien-standing _ h = absurd (true≢false (sym h))
 
@@ -207,7 +207,7 @@ removed-control [] s = refl
 removed-control (id ∷ []) s = refl
 removed-control (id ∷ other ∷ ids) s = removed-control (other ∷ ids) s
 
-removed_thins : (ids : List ℕ) → Thinning (remove_earliest ids)
+pub removed_thins : (ids : List ℕ) → Thinning (remove_earliest ids)
 removed_thins [] = thinning_nothing
 removed_thins (id ∷ []) = thinning_remove_entry id
 removed_thins (id ∷ other ∷ ids) = removed_thins (other ∷ ids)
@@ -300,7 +300,7 @@ emptied v n s g = record { base = g.base; count = g.count; place = g.place; orig
 flush_along : (v : Course) (n : ℕ) (s : ControlState) (f : ControlAct) → is_standing v.base ≡ true → Along v n s → Thinning f → Along (record (thinner v) { has_pending = false }) n (f (record s { pending = [] })).control
 flush_along v n s f h g t = thin_by (record v { has_pending = false }) n (record s { pending = [] }) f h (emptied v n s g) t
 
-implied_but_thins : (o : Option Known) → Thinning (implied_but_for o)
+pub implied_but_thins : (o : Option Known) → Thinning (implied_but_for o)
 implied_but_thins None = thinning_implied
 implied_but_thins (Some name) = thinning_implied_except name
 

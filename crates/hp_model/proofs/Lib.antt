@@ -26,3 +26,4 @@ pub mod Bills
 pub mod Billing
 pub mod Growing
 pub mod RunGrowth
+pub mod Texts

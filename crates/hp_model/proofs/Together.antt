@@ -53,7 +53,7 @@ put_together fostering replaces marks a b c = go marks
     go true = record { control = refl; edits = made; touched = refl; later_touched = refl; spared = refl; later_spared = refl }
     go false = record { control = refl; edits = made; touched = refl; later_touched = refl; spared = refl; later_spared = refl }
 
-behind : (r a b both : Outcome) → Together a b both → Together (after r a) b (after r both)
+pub behind : (r a b both : Outcome) → Together a b both → Together (after r a) b (after r both)
 behind r a b both f = record {
   control = f.control;
   edits = λ t. ap (applied_all t) (append_assoc r.edits a.edits b.edits) ∙ (applied-append t r.edits (a.edits ++ b.edits) ∙ (f.edits (applied_all t r.edits) ∙ sym (applied-append t r.edits both.edits)));
@@ -64,7 +64,7 @@ behind r a b both f = record {
 }
 
 -- a put keeps what is to be reconstructed
-put-fresh : (fostering replaces marks : Bool) (a : List ℕ) (c : ControlState) → Fresh c → Fresh (put_by fostering replaces marks a c).control
+pub put-fresh : (fostering replaces marks : Bool) (a : List ℕ) (c : ControlState) → Fresh c → Fresh (put_by fostering replaces marks a c).control
 put-fresh fostering replaces true a c h = h
 put-fresh fostering replaces false a c h = h
 

@@ -10,3 +10,4 @@ pub mod Whole
 pub mod Runs
 pub mod AtOnce
 pub mod Growth
+pub mod Texts

@@ -1,7 +1,6 @@
 -- What the rules read in a token.
 use Rattle.std.specs.Prelude.{ℕ, Bool, true, false, ◌&&◌, ◌==◌, List, [], ◌∷◌, map, codes, None}
 use Rattle.std.specs.List.{list_any}
-use Rattle.std.specs.Option.{unwrap_or}
 use Rattle.std.specs.Str.{bytes_eq}
 use Rattle.hp_elements.specs.Names.{text_of, lowered}
 use Rattle.hp_elements.specs.declared.act.Which.{Which}
@@ -49,9 +48,9 @@ abbrev pub parts_of : Token → DoctypeParts
 parts_of (token.Doctype parts) = parts
 parts_of _ = record { name = None; public = None; system = None; force_quirks = true }
 
--- the doctype that the parts make; a missing name is an empty one
+-- the doctype that the parts make
 abbrev pub doctype_of : DoctypeParts → Child
-doctype_of parts = child.Doctype (unwrap_or parts.name []) parts.public parts.system
+doctype_of parts = child.Doctype parts
 
 abbrev pub is_hidden : Attribute → Bool
 is_hidden a = bytes_eq a.name (codes "type") && bytes_eq (lowered a.value) (codes "hidden")

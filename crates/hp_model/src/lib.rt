@@ -7,6 +7,7 @@ ghost use Rattle.hp_model.specs.Examples.{Examples};
 ghost use Rattle.hp_model.specs.Growth.{BuiltGrows};
 ghost use Rattle.hp_model.specs.Laws.{ForeignByActs, ModeByActs};
 ghost use Rattle.hp_model.specs.Runs.{OneRun, OneTree, RunsJoin, RunsStayValid};
+ghost use Rattle.hp_model.specs.Texts.{TextsAtOnce};
 ghost use Rattle.hp_model.specs.Whole.{ActsFind, HandedOn, StaysValid, TurnsEnd};
 
 /// Short pages lead to the trees of the standard.
@@ -43,6 +44,12 @@ pub fn runs()
 pub fn at_once()
     ensures token { RunsAtOnce }
     ensures tokens { BuiltAtOnce }
+{}
+
+/// A text that goes into the current node as it comes, handled as one run, of white space or not, is its code points handled one
+/// by one, each of its own class.
+pub fn texts_at_once()
+    ensures { TextsAtOnce }
 {}
 
 /// What tokens make at most: characters bring no entry of the formatting list and use no ids but those that wait for them; each

@@ -20,7 +20,7 @@ use Rattle.hp_control.specs.States.{ControlState, IsValid, LexFits, StackFits, l
 use Rattle.hp_lexer.specs.Table.{table}
 use Rattle.hp_model.proofs.Running.{runs-valid}
 use Rattle.hp_model.specs.Handling.{handle}
-use Rattle.hp_model.specs.Runs.{Parser, Step, rests, goes, Goes, here, onward, at_lexing, built, step, step_by, switched, told}
+use Rattle.hp_model.specs.Runs.{Parser, Step, rests, goes, Goes, here, onward, at_lexing, built, followed_by, step, step_by, switched, told}
 use Rattle.hp_run.proofs.TableRows.{table_read}
 use Rattle.hp_run.specs.Pages.{Runs}
 use Rattle.hp_pieces.specs.Running.{parser_in, state_at}
@@ -119,3 +119,9 @@ pub exit_valid : (s : ControlState) (text : List ℕ) (es : List Edit) (there : 
 exit_valid s text es there run v =
     relex_valid there.control (state_at there).lex (runs-valid (table built_in) (table_read built_in) (parser_in s) there text es run (relex_valid s lex_start v start_valid.lex))
     (lex_fits s text es there run v.lex)
+
+-- along it the last start tag's name is never asked
+pub never_asked : (text : List ℕ) (s : ControlState) (p : Parser) (es : List Edit) → IsValid s → Goes (step (table built_in)) (followed_by (parser_in s) text) es p
+    → move (table built_in) p.lexing ≡ asks_last_tag → ⊥
+never_asked text s p es v g e =
+    subst (MoveKeeps p.lexing.machine.state p.lexing.unread) e (move_keeps p.lexing (goes_keep g (from_parts s.lex.machine v.lex.parts v.lex.last_tag)))

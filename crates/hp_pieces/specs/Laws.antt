@@ -1,12 +1,15 @@
 -- The laws of runs from known states and of ends of input.
 use Rattle.std.specs.Prelude.{◌≡◌, ℕ, List, ◌++◌}
 use Rattle.hp_names.specs.BuiltIn.{built_in}
+use Rattle.hp_tokens.specs.Moves.{asks_last_tag, move}
 use Rattle.hp_control.specs.declared.edit.Edit.{Edit}
 use Rattle.hp_control.specs.States.{ControlState, IsValid, start}
 use Rattle.hp_control.specs.Tree.{applied_all, document}
+use Rattle.hp_lexer.specs.Table.{table}
 use Rattle.hp_model.specs.AtOnce.{MakeSame}
+use Rattle.hp_model.specs.Runs.{Goes, Parser, followed_by, step}
 use Rattle.hp_run.specs.Pages.{IsTreeOf}
-use Rattle.hp_pieces.specs.Running.{Ends, Leads}
+use Rattle.hp_pieces.specs.Running.{Ends, Leads, parser_in}
 
 -- from each state there is a run over each text
 abbrev pub LeadsExist : Type 0
@@ -27,3 +30,8 @@ LeadsJoin = (a b : List ℕ) (s m t : ControlState) (es fs : List Edit) → Lead
 -- the run over a page, and the end of input behind it, build the page's tree
 abbrev pub PageBuilt : Type 0
 PageBuilt = (page : List ℕ) (t : ControlState) (es fs : List Edit) → Leads page start es t → Ends t fs → IsTreeOf built_in page (applied_all document (es ++ fs))
+
+-- along a run from a valid state the last start tag's name is never asked
+abbrev pub NeverAsked : Type 0
+NeverAsked = (text : List ℕ) (s : ControlState) (p : Parser) (es : List Edit) → IsValid s → Goes (step (table built_in)) (followed_by (parser_in s) text) es p
+    → move (table built_in) p.lexing ≡ asks_last_tag → ⊥

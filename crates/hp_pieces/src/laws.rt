@@ -1,14 +1,15 @@
 //! The laws of runs from known states, which the bodies do nothing for.
 
-ghost use Rattle.hp_pieces.specs.Laws.{LeadsExist, LeadsJoin, LeadsOnce, LeadsValid, PageBuilt};
+ghost use Rattle.hp_pieces.specs.Laws.{LeadsExist, LeadsJoin, LeadsOnce, LeadsValid, NeverAsked, PageBuilt};
 
 /// From each state there is one run over each text, and it leads from a valid state to a valid one. The run over two texts in a row
 /// is that over the first and then that over the second, from where the first led. The run over a page and the end of input behind
-/// it build the page's tree.
+/// it build the page's tree. Along a run from a valid state the last start tag's name is never asked.
 pub fn runs_between()
     ensures exist { LeadsExist }
     ensures once { LeadsOnce }
     ensures valid { LeadsValid }
     ensures join { LeadsJoin }
     ensures page { PageBuilt }
+    ensures asked { NeverAsked }
 {}

@@ -1,6 +1,7 @@
 pub mod Blanks
 pub mod Depths
 pub mod Lists
+pub mod Ordered
 pub mod Pieces
 pub mod Sorting
 pub mod Stable

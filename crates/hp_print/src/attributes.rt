@@ -1,11 +1,11 @@
 //! The attributes of an element, in the order in which they are printed.
 
-ghost use Rattle.std.specs.Prelude.{◌≡◌, ◌++◌, OnOk, IfOk};
+ghost use Rattle.std.specs.Prelude.{◌≡◌, ◌++◌, OnOk, IfOk, IsTrue};
 ghost use Rattle.std.specs.Str.{chars};
 ghost use Rattle.hp_print.specs.Order.{by_units, in_order, printed_name, space_word, weight, InOrder};
 ghost use Rattle.hp_print.specs.Out.{Prints};
 ghost use Rattle.hp_print.specs.Print.{attribute_line, attribute_lines};
-ghost use Rattle.hp_print.specs.Shown.{attribute_of, attributes_of};
+ghost use Rattle.hp_print.specs.Shown.{attribute_of, attributes_of, follows};
 
 use crate::output::Out;
 use hp_elements::{Attribute, AttributeSpace, Chain, NoMemory};
@@ -45,12 +45,25 @@ fn space_text(space: AttributeSpace) -> &'static str
     }
 }
 
+/// Prints what stands before the local name of an attribute.
+#[inline]
+fn print_space(out: &mut Out, space: AttributeSpace) -> Result<(), NoMemory>
+    ensures { OnOk result (Prints out.old out.new (space_word space)) }
+{
+    match space {
+        AttributeSpace::Plain => Ok(()),
+        AttributeSpace::Xlink => out.put(b"xlink "),
+        AttributeSpace::Xml => out.put(b"xml "),
+        AttributeSpace::Xmlns => out.put(b"xmlns "),
+    }
+}
+
 /// Prints an attribute.
 fn print_attribute(out: &mut Out, attribute: Shown<'_>, depth: u64) -> Result<(), NoMemory>
     ensures { OnOk result (Prints out.old out.new (attribute_line depth (attribute_of attribute.entry))) }
 {
     out.indent(depth)?;
-    out.put(space_text(attribute.space).as_bytes())?;
+    print_space(out, attribute.space)?;
     out.put_text(attribute.name)?;
     out.put(b"=\"")?;
     out.put_text(attribute.value)?;
@@ -89,6 +102,7 @@ fn compare_names(first: Shown<'_>, second: Shown<'_>) -> Ordering
 }
 
 /// The texts of attributes, as these stand.
+#[inline(never)]
 fn texts_of<'t>(alloc: Global, attributes: &'t Chain<Attribute>) -> Result<Vec<Shown<'t>>, NoMemory>
     ensures { IfOk result (λ shown. attributes_of shown.items ≡ attributes.now) }
 {
@@ -100,11 +114,41 @@ fn texts_of<'t>(alloc: Global, attributes: &'t Chain<Attribute>) -> Result<Vec<S
 }
 
 /// Puts attributes into the order in which they are printed. Up to 20 take no memory for it.
+#[inline(never)]
 fn sort(shown: &mut Vec<Shown<'_>>) -> Result<(), NoMemory>
     ensures { OnOk result (attributes_of shown.new.items ≡ in_order (attributes_of shown.old.items)) }
 {
     shown.sort_by(|first, second| compare_names(*first, *second))?;
     Ok(())
+}
+
+/// Whether an attribute doesn't come before the one that it follows, if any.
+fn follows(before: Option<Shown<'_>>, shown: Shown<'_>) -> bool
+    ensures { result ≡ follows before.entry shown.entry }
+{
+    match before {
+        None => true,
+        Some(first) => match compare_names(shown, first) {
+            Ordering::Less => false,
+            Ordering::Equal | Ordering::Greater => true,
+        },
+    }
+}
+
+/// Whether attributes stand in the order in which they are printed.
+#[inline(never)]
+fn is_in_order(attributes: &Chain<Attribute>) -> bool
+    ensures { IsTrue result → in_order attributes.now ≡ attributes.now }
+{
+    let mut before: Option<Shown<'_>> = None;
+    for attribute in attributes.iter() {
+        let shown = Shown::of(attribute);
+        if !follows(before, shown) {
+            return false;
+        }
+        before = Some(shown);
+    }
+    true
 }
 
 /// Prints the attributes of an element as they stand.
@@ -132,8 +176,8 @@ fn print_all(out: &mut Out, attributes: &[Shown<'_>], depth: u64) -> Result<(), 
     Ok(())
 }
 
-/// Prints the attributes of an element in their order. Where they are counted, and where there is but one, no order
-/// is asked for.
+/// Prints the attributes of an element in their order. Where they are counted, and where they stand in order already,
+/// nothing is sorted.
 pub fn print_attributes(
     alloc: Global,
     out: &mut Out,
@@ -142,7 +186,7 @@ pub fn print_attributes(
 ) -> Result<(), NoMemory>
     ensures { OnOk result (Prints out.old out.new (attribute_lines depth (in_order attributes.now))) }
 {
-    if attributes.len() < 2 || out.is_counting() {
+    if attributes.len() < 2 || out.is_counting() || is_in_order(attributes) {
         return print_unsorted(out, attributes, depth);
     }
     let mut sorted = texts_of(alloc, attributes)?;

@@ -1,12 +1,12 @@
 //! The lines of one item.
 
-ghost use Rattle.std.specs.Prelude.{◌≡◌, ◌++◌, [], codes, OnOk, unwrap_or, encode_utf8_all};
+ghost use Rattle.std.specs.Prelude.{◌≡◌, ◌++◌, [], codes, OnOk, IfSome, unwrap_or, encode_utf8_all};
 ghost use Rattle.std.specs.Option.{option_copied};
 ghost use Rattle.std.specs.List.{concat};
 ghost use Rattle.hp_control.specs.Tree.{Tree};
 ghost use Rattle.hp_arena.specs.Readers.{shown, text_of, HasTag};
 ghost use Rattle.hp_print.specs.Out.{Prints};
-ghost use Rattle.hp_print.specs.Print.{opening, namespace_word, contents_line, element_lines, text_line, comment_line, identifiers, doctype_line, lines_of, tag_extra};
+ghost use Rattle.hp_print.specs.Print.{opening, indentation, namespace_word, contents_line, element_lines, text_line, comment_line, identifiers, doctype_line, lines_of, tag_extra};
 
 use crate::attributes::print_attributes;
 use crate::output::Out;
@@ -25,12 +25,50 @@ fn open_text(namespace: Namespace) -> &'static [u8]
     }
 }
 
+/// What the line of an HTML element of a low depth begins with.
+fn open_front(depth: u64) -> Option<&'static [u8]>
+    ensures { IfSome result (λ front. front.now ≡ indentation depth ++ codes "<") }
+{
+    let front: &'static [u8] = match depth {
+        0 => b"| <",
+        1 => b"|   <",
+        2 => b"|     <",
+        3 => b"|       <",
+        4 => b"|         <",
+        5 => b"|           <",
+        6 => b"|             <",
+        7 => b"|               <",
+        8 => b"|                 <",
+        9 => b"|                   <",
+        10 => b"|                     <",
+        11 => b"|                       <",
+        12 => b"|                         <",
+        13 => b"|                           <",
+        14 => b"|                             <",
+        15 => b"|                               <",
+        _ => return None,
+    };
+    Some(front)
+}
+
+/// Prints what the line of an element begins with.
+fn print_front(out: &mut Out, namespace: Namespace, depth: u64) -> Result<(), NoMemory>
+    ensures { OnOk result (Prints out.old out.new (indentation depth ++ codes "<" ++ namespace_word namespace)) }
+{
+    if namespace == Namespace::Html {
+        if let Some(front) = open_front(depth) {
+            return out.put(front);
+        }
+    }
+    out.indent(depth)?;
+    out.put(open_text(namespace))
+}
+
 /// Prints an element without its attributes.
 fn print_opening(out: &mut Out, tag: &Tag, depth: u64) -> Result<(), NoMemory>
     ensures { OnOk result (Prints out.old out.new (opening depth tag.now)) }
 {
-    out.indent(depth)?;
-    out.put(open_text(tag.namespace))?;
+    print_front(out, tag.namespace, depth)?;
     out.put_text(tag.name.as_str())?;
     out.put(b">\n")?;
     Ok(())
@@ -43,13 +81,51 @@ pub fn extra_depth(tag: &Tag) -> u32
     if is_template(tag) { 1 } else { 0 }
 }
 
+/// What the line of a text of a low depth begins with.
+fn quote_front(depth: u64) -> Option<&'static [u8]>
+    ensures { IfSome result (λ front. front.now ≡ indentation depth ++ codes "\"") }
+{
+    let front: &'static [u8] = match depth {
+        0 => b"| \"",
+        1 => b"|   \"",
+        2 => b"|     \"",
+        3 => b"|       \"",
+        4 => b"|         \"",
+        5 => b"|           \"",
+        6 => b"|             \"",
+        7 => b"|               \"",
+        8 => b"|                 \"",
+        9 => b"|                   \"",
+        10 => b"|                     \"",
+        11 => b"|                       \"",
+        12 => b"|                         \"",
+        13 => b"|                           \"",
+        14 => b"|                             \"",
+        15 => b"|                               \"",
+        _ => return None,
+    };
+    Some(front)
+}
+
+/// Prints what the line of a text begins with.
+fn print_quote(out: &mut Out, depth: u64) -> Result<(), NoMemory>
+    ensures { OnOk result (Prints out.old out.new (indentation depth ++ codes "\"")) }
+{
+    match quote_front(depth) {
+        Some(front) => out.put(front),
+        None => {
+            out.indent(depth)?;
+            out.put(b"\"")
+        }
+    }
+}
+
 /// Prints a text by its runs.
 #[tactic(auto, using(crate::proofs::Pieces::prints_then))]
 fn print_text(out: &mut Out, runs: Runs<'_, '_>, depth: u64) -> Result<(), NoMemory>
     ensures { OnOk result (Prints out.old out.new (text_line depth (text_of runs.entry))) }
 {
-    out.indent(depth)?;
-    out.put(b"\"")?;
+    print_quote(out, depth)?;
     match runs {
         Runs::One(run) => out.put_text(run.as_str())?,
         Runs::Several(runs) => print_runs(out, runs)?,
@@ -58,6 +134,7 @@ fn print_text(out: &mut Out, runs: Runs<'_, '_>, depth: u64) -> Result<(), NoMem
     Ok(())
 }
 
+#[inline(never)]
 fn print_runs(out: &mut Out, runs: &Chain<Text<'_>>) -> Result<(), NoMemory>
     ensures { OnOk result (Prints out.old out.new (encode_utf8_all (concat runs.now))) }
 {
@@ -69,6 +146,7 @@ fn print_runs(out: &mut Out, runs: &Chain<Text<'_>>) -> Result<(), NoMemory>
 
 /// Prints a comment.
 #[tactic(auto, using(crate::proofs::Pieces::prints_then))]
+#[inline(never)]
 fn print_comment(out: &mut Out, text: &Text<'_>, depth: u64) -> Result<(), NoMemory>
     ensures { OnOk result (Prints out.old out.new (comment_line depth text.now)) }
 {
@@ -81,6 +159,7 @@ fn print_comment(out: &mut Out, text: &Text<'_>, depth: u64) -> Result<(), NoMem
 
 /// Prints a doctype.
 #[tactic(auto, using(crate::proofs::Pieces::prints_then))]
+#[inline(never)]
 fn print_doctype(
     out: &mut Out,
     name: &Text<'_>,

@@ -29,6 +29,7 @@ impl Out {
     }
 
     /// Prints these bytes.
+    #[inline]
     pub fn put(&mut self, piece: &[u8]) -> Result<(), NoMemory>
         ensures { OnOk result (Prints self.old self.new piece.now) }
     {
@@ -45,6 +46,7 @@ impl Out {
     }
 
     /// Prints a text, in UTF-8.
+    #[inline]
     pub fn put_text(&mut self, text: &str) -> Result<(), NoMemory>
         ensures { OnOk result (Prints self.old self.new (encode_utf8_all (chars text.now))) }
     {
@@ -66,6 +68,7 @@ impl Out {
     }
 
     /// Prints what a line of this depth begins with.
+    #[inline]
     pub fn indent(&mut self, depth: u64) -> Result<(), NoMemory>
         ensures { OnOk result (Prints self.old self.new (indentation depth)) }
     {
@@ -76,6 +79,7 @@ impl Out {
     }
 
     /// The same at any depth.
+    #[inline(never)]
     fn indent_deep(&mut self, depth: u64) -> Result<(), NoMemory>
         ensures { OnOk result (Prints self.old self.new (indentation depth)) }
     {

@@ -1,9 +1,11 @@
 -- What was written of a page.
 use Rattle.std.proofs.Common.{◌≡◌, ℕ, ◌<◌, List, [], length, take, ap, ◌∙◌, sym, subst}
-use Rattle.std.specs.Prelude.{Option, None, Some, IfSome}
+use Rattle.std.specs.Prelude.{Option, None, Some, IfSome, Result, Ok, Err}
+use Rattle.std.specs.Result.{IsOk, IsErr, IfErr, OnOk, OnErr}
 use Rattle.std.specs.Str.{chars}
 use Rattle.std.specs.Io.KnownBytes.{append_known}
 use Rattle.hp_print.specs.Print.{print}
+use Rattle.hp_text.specs.declared.writing.WriteFault.{WriteFault}
 use Rattle.hp_text.specs.Text.{without_mark}
 use Rattle.hp_program.specs.Answers.{ComesExactly, IsPageText, IsPrinted, TakesPage, TakesPagePart, TakesPart, TakesTree, TakesTreePart}
 use Rattle.hp_program.specs.declared.status.Status.{Status}
@@ -16,9 +18,22 @@ printed_of_bytes bytes page text is printed = subst (λ (p : List ℕ). IsPrinte
 pub takes_page : (bytes text : List ℕ) (old new : Option (List ℕ)) → IsPageText bytes text → new ≡ append_known old text → TakesPage bytes old new
 takes_page bytes text old new tree took = (tree.0, tree.1, took ∙ ap (append_known old) tree.2)
 
-pub takes_page_part : (bytes text : List ℕ) (old new : Option (List ℕ)) (n : ℕ) → IsPageText bytes text → n < length text
-    → new ≡ append_known old (take n text) → TakesPagePart bytes old new
-takes_page_part bytes text old new n tree within took = (tree.0, tree.1, subst (λ t. TakesPart t old new) tree.2 (n, within, took))
+pub takes_page_part : (bytes text : List ℕ) (old new : Option (List ℕ)) → IsPageText bytes text → TakesPart text old new → TakesPagePart bytes old new
+takes_page_part bytes text old new tree part = (tree.0, tree.1, subst (λ t. TakesPart t old new) tree.2 part)
+
+-- what a write that was done, or one that wasn't, ensures
+pub of_ok : (outcome : Result (Unit {0}) WriteFault) (P : Type 0) → IsOk outcome → OnOk outcome P → P
+of_ok (Ok v) P is h = h
+of_ok (Err fault) P is h = absurd (cc is)
+
+pub of_err : (outcome : Result (Unit {0}) WriteFault) (P : Type 0) → IsErr outcome → OnErr outcome P → P
+of_err (Ok v) P is h = absurd (cc is)
+of_err (Err fault) P is h = h
+
+pub takes_part : (outcome : Result (Unit {0}) WriteFault) (text : List ℕ) (old new : Option (List ℕ)) → IsErr outcome
+    → IfErr outcome (λ fault. new ≡ append_known old (take fault.taken text)) → IfErr outcome (λ fault. fault.taken < length text) → TakesPart text old new
+takes_part (Ok v) text old new is part proper = absurd (cc is)
+takes_part (Err fault) text old new is part proper = (fault.taken, proper, part)
 
 -- it is the text of a tree
 pub takes_tree : (bytes : List ℕ) (old new : Option (List ℕ)) → TakesPage bytes old new → TakesTree old new

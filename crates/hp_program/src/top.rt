@@ -1,9 +1,11 @@
 //! The top call.
 ghost use Rattle.std.specs.Prelude.{◌≡◌, ◌≢◌, ◌⊎◌, ◌↔◌, ◌+◌, ◌≤◌, Some, Ok, Err, [], false, length, IfOk, OnOk, IfErr, IfSome, IsUtf8};
+ghost use Rattle.std.specs.Result.{IsOk, IsErr};
 ghost use Rattle.hp_text.specs.Device.{Rose, Gives};
-ghost use Rattle.hp_program.specs.Answers.{IsTooLarge, IsNotText, IsText, IsPageText, IsPrinted, ComesExactly, TakesTree, TakesTreePart, TakesPage, TakesPagePart};
+ghost use Rattle.hp_program.specs.Answers.{IsTooLarge, IsNotText, IsText, IsPageText, IsPrinted, ComesExactly, TakesPart, TakesTree, TakesTreePart, TakesPage, TakesPagePart};
 ghost use Rattle.hp_text.specs.Page.{text_of};
 ghost use Rattle.std.specs.Str.{chars};
+ghost use Rattle.std.specs.Io.KnownBytes.{append_known};
 
 use crate::gate::Gate;
 use crate::status::Status;
@@ -11,7 +13,8 @@ use crate::words::Words;
 use hp_fragment::parse_whole;
 use hp_print::print_tree;
 use hp_text::{
-    NoMemory, PAGE_LIMIT, Page, ReadRefusal, Sink, Source, check_page, read_page, write_whole,
+    NoMemory, PAGE_LIMIT, Page, ReadRefusal, Sink, Source, WriteFault, check_page, read_page,
+    write_whole,
 };
 use std::alloc::Global;
 use std::sync::Wait;
@@ -56,6 +59,28 @@ fn answer(alloc: Global, bytes: &[u8]) -> Result<Vec<u8>, Status>
     }
 }
 
+/// The status of a write.
+fn status_of(outcome: Result<(), WriteFault>) -> Status
+    ensures done { (result ≡ Status.Done) ↔ IsOk outcome }
+    ensures write_fault { (result ≡ Status.WriteFault) ↔ IsErr outcome }
+    ensures answers { (result ≡ Status.Done) ⊎ (result ≡ Status.WriteFault) }
+{
+    match outcome {
+        Ok(()) => Status::Done,
+        Err(_) => Status::WriteFault,
+    }
+}
+
+/// Writes a text to `out`.
+fn write_text<K: Sink>(text: &[u8], out: &mut K) -> Status
+    ensures answers { (result ≡ Status.Done) ⊎ (result ≡ Status.WriteFault) }
+    ensures done { result ≡ Status.Done → K.taken out.new ≡ append_known (K.taken out.old) text.now }
+    ensures write_fault { result ≡ Status.WriteFault → Rose (K.faults out.old) (K.faults out.new) }
+    ensures part { result ≡ Status.WriteFault → TakesPart text.now (K.taken out.old) (K.taken out.new) }
+{
+    status_of(write_whole(out, text))
+}
+
 /// Writes the printed tree of the page of these bytes to `out`.
 #[tactic(auto, using(crate::proofs::Written::takes_page, crate::proofs::Written::takes_page_part))]
 fn put_tree<K: Sink>(alloc: Global, bytes: &[u8], out: &mut K) -> Status
@@ -73,10 +98,7 @@ fn put_tree<K: Sink>(alloc: Global, bytes: &[u8], out: &mut K) -> Status
         Ok(text) => text,
         Err(status) => return status,
     };
-    match write_whole(out, &text) {
-        Ok(()) => Status::Done,
-        Err(_) => Status::WriteFault,
-    }
+    write_text(&text, out)
 }
 
 /// Reads the page, and writes its printed tree to `out`. The first refusal decides, in the order reading, UTF-8, writing.

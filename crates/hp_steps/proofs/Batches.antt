@@ -1,5 +1,5 @@
 -- What a batch of moves emits is handled token by token, and that makes steps of the run.
-use Rattle.std.proofs.Common.{◌≡◌, ℕ, List, [], ◌∷◌, ◌++◌, Bool, true, false, refl, ap, ◌∙◌, sym, subst, append_assoc, Option, None, Some}
+use Rattle.std.proofs.Common.{◌≡◌, List, [], ◌∷◌, ◌++◌, refl, ap, ◌∙◌, sym, subst, append_assoc, Option}
 use Rattle.hp_elements.specs.declared.token.Token.{Token}
 use Rattle.hp_elements.specs.declared.token.Rest.{Rest}
 use Rattle.hp_tokens.specs.Advancing.{tokens_of}
@@ -9,7 +9,7 @@ use Rattle.hp_control.specs.declared.edit.Edit.{Edit}
 use Rattle.hp_control.specs.States.{ControlState}
 use Rattle.hp_model.specs.Handling.{handle}
 use Rattle.hp_model.specs.Turns.{Handled, left_by}
-use Rattle.hp_model.specs.Runs.{Parser, Built, Step, goes, going, Goes, here as stays, onward as steps_on, built, step, step_by, switched, told}
+use Rattle.hp_model.specs.Runs.{Parser, goes, Goes, here as stays, onward as steps_on, built, step, step_by, switched, told}
 use Rattle.hp_steps.specs.Handling.{Handler, left_after, made_after, AreQuiet}
 use Rattle.hp_steps.proofs.Began.{tokens-append}
 

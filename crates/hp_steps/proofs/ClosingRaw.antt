@@ -1,5 +1,5 @@
 -- The rows of raw text emit characters alone, but where they consume `>`.
-use Rattle.std.proofs.Common.{◌≡◌, ℕ, Bool, true, false, cond, refl, inr, Option, None, Some}
+use Rattle.std.proofs.Common.{◌≡◌, ℕ, Bool, true, false, cond, refl, inr, Some}
 use Rattle.std.specs.Prelude.{IsTrue, ◌==◌, ◌&&◌, ◌||◌}
 use Rattle.std.specs.Char.{is_ascii_alphabetic}
 use Rattle.hp_tokens.specs.declared.state.State.{State}

@@ -2,7 +2,6 @@
 use Rattle.std.proofs.Common.{◌≡◌, ℕ, List, [], ◌∷◌, ◌++◌, Bool, true, false, cond, map, refl, ◌⊎◌, inl, inr}
 use Rattle.std.specs.Prelude.{◌==◌}
 use Rattle.hp_elements.specs.declared.token.Token.{Token}
-use Rattle.hp_elements.specs.declared.token.Token.TheVariants as token
 use Rattle.hp_tokens.specs.declared.state.State.{State}
 use Rattle.hp_tokens.specs.declared.building.Part.TheVariants.{Value}
 use Rattle.hp_tokens.specs.declared.machine.Machine.{Machine}

@@ -11,7 +11,7 @@ use Rattle.hp_tokens.specs.declared.rows.Reads.TheVariants.{Consume, Again, End}
 use Rattle.hp_tokens.specs.declared.state.State.{State}
 use Rattle.hp_tokens.specs.declared.state.State.TheVariants.{NamedCharacterReference, MarkupDeclarationOpen, AfterDoctypeName}
 use Rattle.hp_tokens.specs.Advancing.{tokens_of}
-use Rattle.hp_tokens.specs.Moves.{Lexing, Emitted, Move, needs_more, asks_cdata, asks_last_tag, makes, ends, after_row, all_began, after_pair, move_on, move, read_as, row_move, taking}
+use Rattle.hp_tokens.specs.Moves.{Lexing, Emitted, Move, needs_more, asks_cdata, asks_last_tag, makes, after_row, all_began, after_pair, move_on, move, read_as, row_move, taking}
 use Rattle.hp_tokens.specs.Rows.{Row, flushed_tokens}
 use Rattle.hp_tokens.specs.Runs.{Leads, here, onward}
 use Rattle.hp_lex_tags.specs.Tags as tags

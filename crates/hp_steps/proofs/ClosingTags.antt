@@ -1,5 +1,5 @@
 -- The rows of text and tags emit characters alone, but where they consume `>`.
-use Rattle.std.proofs.Common.{ℕ, [], ◌∷◌, Option, None, Some}
+use Rattle.std.proofs.Common.{ℕ, [], ◌∷◌, Some}
 use Rattle.std.specs.Prelude.{IsTrue, ◌==◌}
 use Rattle.hp_tokens.specs.declared.state.State.{State}
 use Rattle.hp_tokens.specs.declared.state.State.TheVariants.{Data, TagOpen, EndTagOpen, TagName, BeforeAttributeName, AttributeName, AfterAttributeName, BeforeAttributeValue, AttributeValueDoubleQuoted, AttributeValueSingleQuoted, AttributeValueUnquoted, AfterAttributeValueQuoted, SelfClosingStartTag, CharacterReference, NamedCharacterReference, AmbiguousAmpersand, NumericCharacterReference, HexadecimalCharacterReferenceStart, DecimalCharacterReferenceStart, HexadecimalCharacterReference, DecimalCharacterReference, NumericCharacterReferenceEnd}

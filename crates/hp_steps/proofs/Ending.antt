@@ -1,27 +1,27 @@
 -- The end of a page: what the lexer still has, and the whole tree.
-use Rattle.std.proofs.Common.{◌≡◌, ℕ, List, [], ◌∷◌, ◌++◌, refl, ap, ◌∙◌, sym, subst, append-nil, append_assoc}
+use Rattle.std.proofs.Common.{◌≡◌, ℕ, List, [], ◌++◌, ap, ◌∙◌, sym, subst, append-nil, append_assoc}
 use Rattle.hp_elements.specs.declared.token.Token.{Token}
 use Rattle.hp_names.specs.References.{Reference}
 use Rattle.hp_tokens.specs.Advancing.{Ends, singles, tokens_of}
-use Rattle.hp_tokens.specs.Moves.{Lexing, Emitted, Move, needs_more, makes, ends, Rules, move, end_move}
+use Rattle.hp_tokens.specs.Moves.{Lexing, Emitted, Move, needs_more, ends, Rules, move, end_move}
 use Rattle.hp_tokens.specs.Runs.{Leads, here, onward, followed_by as more_unread}
 use Rattle.hp_control.specs.declared.edit.Edit.{Edit}
 use Rattle.hp_control.specs.States.{ControlState}
 use Rattle.hp_control.specs.Tree.{Tree, applied_all, document}
 use Rattle.hp_lexer.specs.Table.{table}
 use Rattle.hp_model.specs.Handling.{handle}
-use Rattle.hp_model.specs.Runs.{Parser, Step, rests, goes, EndsWith, last, before_it, built, end_step, step, step_by}
+use Rattle.hp_model.specs.Runs.{Parser, rests, goes, EndsWith, last, before_it, step_by}
 use Rattle.hp_run.specs.Pages.{IsTreeOf}
 use Rattle.hp_steps.specs.Alike.{Alike, SameMove}
 use Rattle.hp_steps.specs.Handling.{left_after, made_after, AreQuiet}
 use Rattle.hp_steps.specs.Standing.{HasRead}
-use Rattle.hp_steps.proofs.Batches.{at, built-made, left-append, made-append, quiet-step, quiet-split}
+use Rattle.hp_steps.proofs.Batches.{at, built-made, made-append, quiet-step, quiet-split}
 use Rattle.hp_steps.proofs.Began.{tokens-append}
 use Rattle.hp_steps.proofs.Shifting.{end_move-same, move-same}
 use Rattle.hp_steps.proofs.Standing.{LeadsSame, leads-same}
 
 -- the moves of the end, of whose tokens none switches the lexer
-end-goes : (rules : Rules) {l k : Lexing} {es : List Emitted} (c : ControlState) (rest : List Emitted) → Leads (end_move rules) l es k → end_move rules k ≡ ends rest
+pub end-goes : (rules : Rules) {l k : Lexing} {es : List Emitted} (c : ControlState) (rest : List Emitted) → Leads (end_move rules) l es k → end_move rules k ≡ ends rest
     → AreQuiet handle c (tokens_of es ++ tokens_of rest) → EndsWith rules (at l c) (made_after handle c (tokens_of es ++ tokens_of rest))
 end-goes rules {l} c rest here ended q = subst (EndsWith rules (at l c)) (built-made rest (at l c)) (last ended)
 end-goes rules {l} c rest (onward {m = m} {es = es} {fs = fs} made more) ended q =

@@ -9,3 +9,4 @@ pub mod Batches
 pub mod Together
 pub mod Standing
 pub mod Ending
+pub mod Stepping

@@ -1,5 +1,5 @@
 -- Places are only counted: lexers that have the same machine and the same unread text make the same moves.
-use Rattle.std.proofs.Common.{◌≡◌, ℕ, List, [], ◌∷◌, Bool, true, false, cond, map, refl, ap, ◌∙◌, sym, subst, Option, None, Some}
+use Rattle.std.proofs.Common.{◌≡◌, ℕ, List, [], ◌∷◌, Bool, true, false, cond, refl, ap, ◌∙◌, sym, subst, Option, None, Some}
 use Rattle.std.specs.Prelude.{◌==◌, ◌&&◌}
 use Rattle.hp_elements.specs.declared.token.Token.{Token}
 use Rattle.hp_names.specs.References.{Reference}
@@ -12,8 +12,7 @@ use Rattle.hp_tokens.specs.declared.rows.Reads.{Reads}
 use Rattle.hp_tokens.specs.declared.rows.Reads.TheVariants.{Consume, Again, End}
 use Rattle.hp_tokens.specs.Rows.{Row, flushed_tokens}
 use Rattle.hp_tokens.specs.Advancing.{tokens_of}
-use Rattle.hp_tokens.specs.Moves.{Lexing, Emitted, Move, needs_more, asks_cdata, asks_last_tag, makes, ends, all_began, after_row, row_move, after_end, row_end, read_as, taking, after_pair, move_on, move, end_move_on, end_move}
-use Rattle.hp_tokens.specs.Runs.{Leads, here, onward}
+use Rattle.hp_tokens.specs.Moves.{Lexing, Move, needs_more, asks_cdata, asks_last_tag, all_began, after_row, row_move, after_end, row_end, read_as, taking, after_pair, move_on, move, end_move_on, end_move}
 use Rattle.hp_lex_tags.specs.Tags as tags
 use Rattle.hp_lex_tags.specs.Rows as tag_rows
 use Rattle.hp_lex_tags.specs.Named.{reference_move, with_found}

@@ -8,12 +8,12 @@ use Rattle.hp_control.specs.declared.edit.Edit.{Edit}
 use Rattle.hp_control.specs.States.{ControlState}
 use Rattle.hp_lexer.specs.Table.{table}
 use Rattle.hp_model.specs.Handling.{handle}
-use Rattle.hp_model.specs.Runs.{switched}
+use Rattle.hp_model.specs.Runs.{Parser, switched}
 use Rattle.hp_model.specs.Turns.{left_by}
 use Rattle.hp_steps.specs.Alike.{Alike, SameMove}
 use Rattle.hp_steps.specs.Closing.{AreCharacters, EndsAtTag}
 use Rattle.hp_steps.specs.Handling.{AreQuiet, left_after, made_after}
-use Rattle.hp_steps.specs.Standing.{EmitsLast, HasRead}
+use Rattle.hp_steps.specs.Standing.{EmitsLast, HasGone}
 
 -- lexers that are alike make the same moves
 abbrev pub MovesSame : Type 0
@@ -27,12 +27,12 @@ abbrev pub TagsClose : Type 0
 TagsClose = (names : List Reference) (l m : Lexing) (es : List Emitted) → move (table names) l ≡ makes m es → EndsAtTag l.unread
     → EndsAtTag m.unread × (AreCharacters (tokens_of es) ⊎ (m.unread ≡ []))
 
--- tokens that switch the lexer nowhere are steps of the run
+-- tokens that switch the lexer nowhere are steps of the run, from whatever parser it began
 abbrev pub QuietSteps : Type 0
-QuietSteps = (names : List Reference) (page : List ℕ) (l k : Lexing) (later : List ℕ) (c : ControlState) (es : List Edit) (emitted : List Emitted) → HasRead names page l later c es
-    → Leads (move (table names)) l emitted k → AreQuiet handle c (tokens_of emitted) → HasRead names page k later (left_after handle c (tokens_of emitted)) (es ++ made_after handle c (tokens_of emitted))
+QuietSteps = (names : List Reference) (from : Parser) (l k : Lexing) (later : List ℕ) (c : ControlState) (es : List Edit) (emitted : List Emitted) → HasGone names from l later c es
+    → Leads (move (table names)) l emitted k → AreQuiet handle c (tokens_of emitted) → HasGone names from k later (left_after handle c (tokens_of emitted)) (es ++ made_after handle c (tokens_of emitted))
 
 -- a token that may switch it, and was emitted by the last move
 abbrev pub LoudStep : Type 0
-LoudStep = (names : List Reference) (page : List ℕ) (l k : Lexing) (later : List ℕ) (c : ControlState) (es : List Edit) (e : Emitted) → HasRead names page l later c es → EmitsLast names l e k
-    → HasRead names page (switched (handle c e.token).switch k) later (left_by (handle c e.token)) (es ++ (handle c e.token).outcome.edits)
+LoudStep = (names : List Reference) (from : Parser) (l k : Lexing) (later : List ℕ) (c : ControlState) (es : List Edit) (e : Emitted) → HasGone names from l later c es → EmitsLast names l e k
+    → HasGone names from (switched (handle c e.token).switch k) later (left_by (handle c e.token)) (es ++ (handle c e.token).outcome.edits)

@@ -44,7 +44,7 @@ fixed_child : (s : ControlState) (what : Child) → IsFixedChild what → named_
 fixed_child s (child.Element node) h = ap child.Element (fixed_ref s node h)
 fixed_child s (child.Text text) h = refl
 fixed_child s (child.Comment text) h = refl
-fixed_child s (child.Doctype name public system) h = refl
+fixed_child s (child.Doctype parts) h = refl
 
 -- where the place that was found stands for the true one
 at_place : (s : ControlState) (v : Split) (fostering : Bool) (next : Place → Split) (o : Outcome) → StandsOn s v → ((p : Place) → named_place s p ≡ place fostering (state_over v s).stack → IsDone s v (next p) o) → Matches s v (end_by (answer_of s) (followed_by (place_plan fostering v) (λ p. gives (next p)))) o

@@ -44,7 +44,7 @@ abbrev pub is_told : Child → Bool
 is_told (child.Element node) = is_told_by node
 is_told (child.Text text) = true
 is_told (child.Comment text) = true
-is_told (child.Doctype name public system) = true
+is_told (child.Doctype parts) = true
 
 told_ref : (r : Ref) → is_told_by r ≡ true → IsFixed r
 told_ref (Fixed id) h = tt
@@ -55,7 +55,7 @@ told_child : (what : Child) → is_told what ≡ true → IsFixedChild what
 told_child (child.Element node) h = told_ref node h
 told_child (child.Text text) h = tt
 told_child (child.Comment text) h = tt
-told_child (child.Doctype name public system) h = tt
+told_child (child.Doctype parts) h = tt
 
 pub told_put : (fostering : Bool) (what : Child) → FaithfulWhere (λ v. is_told what) (put_plan fostering what) (put_here fostering what)
 told_put fostering what = λ s v st fit u. put_faithful fostering what (told_child what fit) s v st refl u

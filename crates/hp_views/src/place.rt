@@ -107,6 +107,7 @@ impl<'p, B: Below> View<'p, B> {
     }
 
     /// Where content goes that may not stand in a table: into the nearest template, or before the nearest table.
+    #[inline(never)]
     fn foster_place(&mut self, alloc: Global) -> Result<Place, Refusal>
         ensures { Answers result (sight B.heard self.old) (sight B.heard self.new) foster_plan }
     {

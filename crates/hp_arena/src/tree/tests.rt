@@ -3,7 +3,9 @@
 use crate::links::Node;
 use crate::{NodeView, Runs, Tree};
 use hp_control::{Child, Edit, Edits, Place, Ref};
-use hp_elements::{Attribute, AttributeSpace, Chain, Known, Name, Namespace, Tag, Text};
+use hp_elements::{
+    Attribute, AttributeSpace, Chain, Doctype, DoctypeParts, Known, Name, Namespace, Tag, Text,
+};
 use std::alloc::{AllocError, Global};
 use std::process::Abort;
 use std::test::Fail;
@@ -25,7 +27,7 @@ fn make_room(alloc: Global, tree: &mut Tree<'_>, count: usize) -> Result<(), All
     tree.reserve(alloc, &edits)
 }
 
-fn element(known: Known) -> Edit<'static> {
+fn element<'p>(known: Known) -> Edit<'p> {
     Edit::NewElement {
         tag: Tag {
             namespace: Namespace::Html,
@@ -128,12 +130,14 @@ fn every_edit_once(rt: HostRuntime) -> Result<(), Fail> {
     let page = "one two";
     let mut tree = Tree::start(rt.alloc())?;
     make_room(rt.alloc(), &mut tree, 40)?;
-    let doctype = Child::Doctype {
-        name: Text::of_page(page, 0, 3),
+    let parts = DoctypeParts {
+        name: Some(Text::of_page(page, 0, 3)),
         public: None,
         system: Some(Text::new()),
+        force_quirks: false,
     };
-    make(&rt, &mut tree, put(doctype, 0));
+    let doctype = Doctype::new(rt.alloc(), parts)?;
+    make(&rt, &mut tree, put(Child::Doctype(doctype), 0));
     make(
         &rt,
         &mut tree,

@@ -1,11 +1,11 @@
 use Rattle.std.proofs.Common.{subst}
 use Rattle.hp_steps.proofs.ClosingTable.{MoveCloses, move-closes}
-use Rattle.hp_steps.proofs.Standing.{loud-on, quiet-on}
+use Rattle.hp_steps.proofs.Standing.{loud-from, quiet-from}
 use Rattle.hp_steps.proofs.tokens_step.Goals as goal
 
 pub returns : goal.returns
 returns c = record {
   close = λ names l m es made. subst (MoveCloses l.unread) made (move-closes names l);
-  quiet = quiet-on;
-  loud = loud-on;
+  quiet = quiet-from;
+  loud = loud-from;
 }
