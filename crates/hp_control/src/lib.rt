@@ -19,8 +19,6 @@ mod splice;
 mod stack;
 mod tags;
 mod telling;
-#[cfg(test)]
-mod tests;
 mod truths;
 mod walks;
 

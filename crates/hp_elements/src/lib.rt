@@ -18,8 +18,6 @@ mod sets;
 mod short;
 mod slots;
 mod tag;
-#[cfg(test)]
-mod tests;
 mod text;
 mod token;
 

@@ -1,5 +1,5 @@
 -- A step is followed by another.
-use Rattle.std.proofs.Common.{◌≡◌, ℕ, ◌+◌, ◌*◌, ◌≤◌, List, Bool, true, false, cond, refl, ap, ◌∙◌, lit≤}
+use Rattle.std.proofs.Common.{◌≡◌, ℕ, ◌+◌, ◌*◌, ◌≤◌, List, Bool, true, false, cond, ap, ◌∙◌, lit≤}
 use Rattle.hp_elements.specs.declared.token.Token.{Token}
 use Rattle.hp_tokens.specs.Advancing.{held}
 use Rattle.hp_tokens.specs.Ranks.{weight}
@@ -11,7 +11,6 @@ use Rattle.hp_lexer.specs.Standing.{Falls, is_answered, load, stands, stands_ans
 use Rattle.hp_lex_raw.specs.Raw.{is_untold}
 use Rattle.hp_fragment.specs.Building.{IsBuilder}
 use Rattle.hp_fragment.specs.Reading.{StepsOn, Took}
-use Rattle.hp_fragment.specs.declared.builder.Builder.{Builder}
 use Rattle.hp_fragment.specs.declared.parsing.Parsing.{Parsing}
 use Rattle.hp_fragment.proofs.Numbers.{few-more, fits-on, load-falls, same-le}
 

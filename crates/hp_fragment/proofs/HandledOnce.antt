@@ -1,6 +1,6 @@
 -- A token that is handled over a known state.
-use Rattle.std.proofs.Common.{◌≡◌, refl, ap, ◌∙◌, sym, subst, map}
-use Rattle.std.specs.Prelude.{Result, Ok, Err}
+use Rattle.std.proofs.Common.{◌≡◌, ap, ◌∙◌, subst, map}
+use Rattle.std.specs.Prelude.{Result, Ok}
 use Rattle.hp_elements.specs.declared.token.Token.{Token}
 use Rattle.hp_control.specs.declared.change.Refusal.{Refusal}
 use Rattle.hp_control.specs.Apply.{named_edit}
@@ -17,7 +17,7 @@ use Rattle.hp_acts.specs.Handling.{Handles}
 use Rattle.hp_acts.specs.Known.{IsHandledWhole}
 use Rattle.hp_acts.proofs.KnownMatches.{known_carried}
 use Rattle.hp_steps.proofs.Together.{applied-append}
-use Rattle.hp_fragment.specs.Building.{control_of, grown, IsBuilder, HandledOne}
+use Rattle.hp_fragment.specs.Building.{control_of, IsBuilder, HandledOne}
 use Rattle.hp_fragment.specs.declared.builder.Builder.{Builder}
 
 handled-so : (old new : Builder) (t : Token) (handled : Handled) → new.tree ≡ old.tree → IsHandledWhole (split_of old.view) (split_of new.view) handled (handle_at_once (control_of old) t)

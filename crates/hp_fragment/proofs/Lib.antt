@@ -9,3 +9,5 @@ pub mod Took
 pub mod Going
 pub mod Started
 pub mod HandledOnce
+pub mod Texts
+pub mod Tried

@@ -1,6 +1,5 @@
 -- Numbers alone.
-use Rattle.std.proofs.Common.{◌≡◌, ℕ, ◌+◌, ◌*◌, ◌<◌, ◌≤◌, refl, arith}
-use Rattle.hp_lexer.specs.Standing.{load}
+use Rattle.std.proofs.Common.{◌≡◌, ℕ, ◌+◌, ◌*◌, ◌<◌, ◌≤◌, arith}
 
 pub same-le : (n m : ℕ) → n ≡ m → n ≤ m
 same-le n m e = omega (arith, e)

@@ -1,5 +1,5 @@
 -- The start of a page.
-use Rattle.std.proofs.Common.{◌≡◌, ℕ, ◌^◌, List, [], ◌++◌, refl, ap, ◌∙◌, sym, subst}
+use Rattle.std.proofs.Common.{◌≡◌, ℕ, ◌^◌, List, [], ◌++◌, ap, ◌∙◌, sym, subst}
 use Rattle.std.specs.Str.{chars}
 use Rattle.hp_names.specs.BuiltIn.{built_in}
 use Rattle.hp_control.specs.States.{ControlState, lex_start, start}

@@ -1,16 +1,15 @@
 -- What a step of the lexer does to how far the run has come.
-use Rattle.std.proofs.Common.{◌≡◌, ℕ, List, [], ◌∷◌, ◌++◌, Bool, true, false, ◌⊎◌, inl, inr, refl, ap, ◌∙◌, sym, subst, append-nil, Option, None, Some}
+use Rattle.std.proofs.Common.{◌≡◌, ℕ, List, [], ◌∷◌, ◌++◌, Bool, true, false, inl, inr, refl, ap, ◌∙◌, sym, subst, append-nil, Option, None, Some}
 use Rattle.std.specs.Str.{chars}
 use Rattle.hp_elements.specs.declared.token.Rest.{Rest}
 use Rattle.hp_elements.specs.declared.token.Token.{Token}
 use Rattle.hp_elements.specs.declared.token.Token.TheVariants as token
 use Rattle.hp_names.specs.References.{Reference}
 use Rattle.hp_tokens.specs.Advancing.{Advances, AreRuns, Says, single, singles, tokens_of}
-use Rattle.hp_tokens.specs.Moves.{Lexing, Emitted, Move, needs_more, asks_cdata, makes, move}
+use Rattle.hp_tokens.specs.Moves.{Lexing, Emitted, Move, needs_more, asks_cdata, move}
 use Rattle.hp_tokens.specs.Reading.{Unread}
 use Rattle.hp_tokens.specs.Runs.{Leads}
 use Rattle.hp_tokens.specs.States.{enter, state_of_rest}
-use Rattle.hp_tokens.specs.declared.machine.Machine.{Machine}
 use Rattle.hp_control.specs.declared.edit.Edit.{Edit}
 use Rattle.hp_control.specs.Composed.{is_foreign_now}
 use Rattle.hp_control.specs.States.{ControlState, IsValid}
@@ -20,10 +19,10 @@ use Rattle.hp_lexer.specs.declared.lexer.Asked.TheVariants as asked
 use Rattle.hp_lexer.specs.declared.lexer.Lexer.{Lexer}
 use Rattle.hp_lexer.specs.declared.lexer.Step.{Step}
 use Rattle.hp_lexer.specs.declared.lexer.Step.TheVariants as steps
-use Rattle.hp_lexer.specs.Standing.{opened, stands, stands_answered, ReachesCdata, ReachesCut, Stepped, switched as lexer_switched}
+use Rattle.hp_lexer.specs.Standing.{opened, stands, stands_answered, Reaches, ReachesCdata, ReachesCut, Stepped}
 use Rattle.hp_lexer.specs.Table.{table}
 use Rattle.hp_model.specs.Handling.{handle}
-use Rattle.hp_model.specs.Runs.{AreRead, switched}
+use Rattle.hp_model.specs.Runs.{switched}
 use Rattle.hp_model.specs.Turns.{left_by}
 use Rattle.hp_run.proofs.TableRows.{table_read}
 use Rattle.hp_steps.specs.Alike.{Alike, SameMove}
@@ -283,6 +282,21 @@ step-cdata refs page old mid new foreign reached names lexer input later says co
     left : (b : Bool) → EndsAtTag (stands_answered b mid.lexer mid.input).unread
     left true = sides.0
     left false = sides.1
+
+-- moves that emit nothing
+pub step-silent : (refs : List Reference) (page : List ℕ) (old new : Parsing) → Reaches old.lexer old.input new.lexer new.input [] false → new.lexer.names ≡ old.lexer.names → new.builder ≡ old.builder → new.later ≡ old.later
+    → Reads refs page old → Reads refs page new
+step-silent refs page old new reached names builder later r = record {
+  edits = r.edits;
+  read = stands-new refs page old new r.edits (control_of old.builder) (stands new.lexer new.input) (ap (λ x. chars x.now) later) (ap control_of builder) (record { machine = refl; unread = refl })
+      (silent-on refs page (stands old.lexer old.input) (stands new.lexer new.input) (chars old.later.now) (control_of old.builder) r.edits r.read leads);
+  grown = ap grown builder ∙ r.grown;
+  closed = Leads-close refs leads r.closed;
+  names = names ∙ r.names;
+}
+  where
+    leads : Leads (move (table refs)) (stands old.lexer old.input) [] (stands new.lexer new.input)
+    leads = silent-leads refs old.lexer.names reached r.names
 
 -- the piece is used up
 pub step-cut : (refs : List Reference) (page : List ℕ) (old new : Parsing) → ReachesCut old.lexer old.input new.lexer new.input → new.lexer.names ≡ old.lexer.names → new.builder ≡ old.builder → new.later ≡ old.later

@@ -12,7 +12,6 @@ use Rattle.hp_control.specs.Tree.{applied_all}
 use Rattle.hp_lexer.specs.declared.lexer.Asked.TheVariants as asked
 use Rattle.hp_lexer.specs.declared.lexer.Lexer.{Lexer}
 use Rattle.hp_lexer.specs.Standing.{SwitchesFall, stands, switched}
-use Rattle.hp_model.specs.Handling.{handle}
 use Rattle.hp_model.specs.Whole.{IsRead}
 use Rattle.hp_model.specs.AtOnce.{RunsAtOnce, handle_at_once}
 use Rattle.hp_steps.specs.Closing.{AreCharacters}

@@ -1,14 +1,11 @@
 -- Tokens that are handled one behind the other.
-use Rattle.std.proofs.Common.{◌≡◌, List, [], ◌∷◌, ◌++◌, true, false, refl, ap, ◌∙◌, sym, subst, Option, None, Some}
+use Rattle.std.proofs.Common.{◌≡◌, List, [], ◌∷◌, true, false, refl, ap, ◌∙◌, sym, subst, Option, None, Some}
 use Rattle.std.specs.Prelude.{is_some}
 use Rattle.hp_elements.specs.declared.token.Rest.{Rest}
 use Rattle.hp_elements.specs.declared.token.Token.{Token}
 use Rattle.hp_tokens.specs.Advancing.{AreRuns}
-use Rattle.hp_control.specs.Faithful.{StandsOn}
-use Rattle.hp_control.specs.Nothing.{nothing}
 use Rattle.hp_control.specs.States.{ControlState, IsValid}
 use Rattle.hp_control.specs.Tree.{Tree, applied_all}
-use Rattle.hp_views.specs.View.{split_of}
 use Rattle.hp_model.proofs.Handled.{handle-valid}
 use Rattle.hp_model.specs.Turns.{left_by}
 use Rattle.hp_model.specs.Whole.{IsRead}

@@ -9,7 +9,7 @@ use Rattle.hp_control.specs.Nothing.{nothing}
 use Rattle.hp_control.specs.States.{ControlState, IsValid}
 use Rattle.hp_control.specs.Tree.{Tree, applied_all}
 use Rattle.hp_views.specs.View.{split_of}
-use Rattle.hp_model.specs.Turns.{Handled, left_by}
+use Rattle.hp_model.specs.Turns.{left_by}
 use Rattle.hp_model.specs.AtOnce.{handle_at_once}
 use Rattle.hp_steps.specs.Handling.{AllRead, AreQuiet, left_after, made_after}
 use Rattle.hp_fragment.specs.declared.builder.Builder.{Builder}

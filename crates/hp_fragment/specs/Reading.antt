@@ -11,7 +11,7 @@ use Rattle.hp_control.specs.declared.edit.Edit.{Edit}
 use Rattle.hp_control.specs.Tree.{applied_all, document}
 use Rattle.hp_lexer.specs.declared.lexer.Asked.TheVariants as asked
 use Rattle.hp_lexer.specs.declared.lexer.Lexer.{Lexer}
-use Rattle.hp_lexer.specs.Standing.{is_answered, stands, load, switched}
+use Rattle.hp_lexer.specs.Standing.{PlainStepped, is_answered, stands, load, switched}
 use Rattle.hp_lexer.specs.Table.{table}
 use Rattle.hp_model.specs.AtOnce.{handle_at_once}
 use Rattle.hp_steps.specs.Closing.{AreCharacters, EndsAtTag}
@@ -29,6 +29,7 @@ pub record IsReady (p : Parsing) : Type 0 where
 pub record IsAtEnd (p : Parsing) : Type 0 where
   pub asked : p.lexer.asked ≡ asked.Nothing
   pub held : held p.lexer.lex ≤ 2 ^ 32
+  pub used : p.input.text ≡ []
   pub builder : IsBuilder p.builder
 
 -- The run over the page has come to where the lexer stands, to the control state, and to edits that make the tree. In a piece
@@ -49,6 +50,23 @@ pub record HasEnded (refs : List Reference) (page : List ℕ) (p : Parsing) : Ty
 abbrev pub StepsOn : Parsing → Parsing → Bool → Type 0
 StepsOn old new true = IsReady new × (load new.lexer new.input < load old.lexer old.input) × (new.later ≡ old.later)
 StepsOn old new false = IsAtEnd new × (new.later ≡ old.later)
+
+-- a way that is tried: a step was made; or the lexer's load is no larger
+abbrev pub Tried : Parsing → Parsing → Bool → Type 0
+Tried old new true = StepsOn old new true
+Tried old new false = IsReady new × (load new.lexer new.input ≤ load old.lexer old.input) × (new.later ≡ old.later)
+
+-- a text at the front was taken whole; or there is none, and nothing changed
+pub record TextTaken (old new : Parsing) (text : List ℕ) : Type 0 where
+  pub stepped : PlainStepped old.lexer old.input new.lexer new.input text
+  pub held : held new.lexer.lex ≤ new.input.place
+  pub names : new.lexer.names ≡ old.lexer.names
+  pub builder : new.builder ≡ old.builder
+  pub later : new.later ≡ old.later
+
+abbrev pub TookText : Parsing → Parsing → Option (List ℕ) → Type 0
+TookText old new (Some text) = TextTaken old new text
+TookText old new None = new ≡ old
 
 abbrev pub ReadsOn : List Reference → List ℕ → Parsing → Bool → Type 0
 ReadsOn refs page new true = Reads refs page new

@@ -1,7 +1,12 @@
 // Tree construction over the tokens of a page: the control state, and the tree so far.
-ghost use Rattle.std.specs.Prelude.{◌≡◌, [], map, IfOk, OnOk};
+ghost use Rattle.std.specs.Prelude.{◌≡◌, ◌<◌, true, [], ◌∷◌, length, map, IfOk, OnOk};
+ghost use Rattle.std.specs.List.{list_all};
 ghost use Rattle.hp_tokens.specs.Advancing.{AreRuns, IsRun};
-ghost use Rattle.hp_control.specs.Apply.{named, named_child, named_edit, named_place};
+ghost use Rattle.hp_tokens.specs.Plain.{none_of};
+ghost use Rattle.hp_tokens.specs.Rows.{character};
+ghost use Rattle.hp_views.specs.View.{split_of};
+ghost use Rattle.hp_acts.specs.Plain.{takes_text};
+ghost use Rattle.hp_control.specs.Apply.{named_edit};
 ghost use Rattle.hp_control.specs.Nothing.{nothing};
 ghost use Rattle.hp_control.specs.States.{start};
 ghost use Rattle.hp_control.specs.Composed.{is_foreign_now};
@@ -11,10 +16,10 @@ ghost use Rattle.hp_steps.specs.Handling.{AllRead};
 ghost use Rattle.hp_fragment.specs.Building.{control_of, grown, IsBuilder, HandledOne, HandledAll, HasGrown};
 
 use crate::NoMemory;
-use hp_acts::handle;
+use hp_acts::{handle, handle_text, takes_text};
 use hp_arena::Tree;
-use hp_control::{Child, Control, Edit, Edits, Nothing, Place, Ref};
-use hp_elements::{Rest, Token, Tokens};
+use hp_control::{Control, Edits, Nothing};
+use hp_elements::{Rest, Text, Token, Tokens};
 use hp_views::View;
 use std::alloc::Global;
 
@@ -81,6 +86,29 @@ impl<'p> Builder<'p> {
         Ok(())
     }
 
+    /// Whether a text without U+0000 goes into the current node as it comes.
+    #[inline]
+    pub fn takes_text(&self) -> bool
+        ensures { result ≡ takes_text (split_of self.now.view) }
+    {
+        takes_text(&self.view)
+    }
+
+    /// Puts such a text into the current node. It is the handling of its code points, one by one.
+    pub fn put_text(&mut self, alloc: Global, text: Text<'p>) -> Result<(), NoMemory>
+        requires builder { IsBuilder self.old }
+        requires takes { takes_text (split_of self.old.view) ≡ true }
+        requires no_nul { list_all (none_of (0 ∷ [])) text ≡ true }
+        requires long { 0 < length text }
+        ensures { OnOk result (HandledAll self.old self.new (map character text.entry)) }
+    {
+        hp_model::texts_at_once();
+        match handle_text(alloc, &mut self.view, text) {
+            Ok(_) => Ok(()),
+            Err(_) => Err(NoMemory),
+        }
+    }
+
     /// Applies the edits made so far to the tree, where they are many.
     pub fn grow_by_batch(&mut self, alloc: Global) -> Result<(), NoMemory>
         ensures { OnOk result (HasGrown self.old self.new) }
@@ -92,6 +120,7 @@ impl<'p> Builder<'p> {
     }
 
     /// Applies the edits made so far to the tree.
+    #[inline(never)]
     fn grow(&mut self, alloc: Global) -> Result<(), NoMemory>
         ensures grown { OnOk result (HasGrown self.old self.new) }
         ensures all { OnOk result (self.new.view.edits ≡ []) }
@@ -117,62 +146,9 @@ fn apply_all<'p>(alloc: Global, tree: &mut Tree<'p>, edits: &mut Edits<'p>) -> R
     let mut batch = Vec::with_capacity(alloc, BATCH)?;
     edits.take_into(&mut batch);
     for edit in batch {
-        tree.apply(told(edit));
+        let mut edit = edit;
+        edit.tell();
+        tree.apply(edit);
     }
     Ok(())
-}
-
-/// The edit, with each element told by its id. Where no older state is below, an own element's number is its id.
-fn told<'p>(edit: Edit<'p>) -> Edit<'p>
-    ensures { result ≡ named_edit nothing edit.entry }
-{
-    match edit {
-        Edit::NewElement { tag } => Edit::NewElement { tag },
-        Edit::Put { child, place } => Edit::Put {
-            child: told_child(child),
-            place: told_place(place),
-        },
-        Edit::Detach { node } => Edit::Detach {
-            node: told_node(node),
-        },
-        Edit::MoveChildren { from, to } => Edit::MoveChildren {
-            from: told_node(from),
-            to: told_node(to),
-        },
-        Edit::AddMissing { node, attributes } => Edit::AddMissing {
-            node: told_node(node),
-            attributes,
-        },
-    }
-}
-
-fn told_child<'p>(child: Child<'p>) -> Child<'p>
-    ensures { result ≡ named_child nothing child.entry }
-{
-    match child {
-        Child::Element(node) => Child::Element(told_node(node)),
-        other => other,
-    }
-}
-
-fn told_place(place: Place) -> Place
-    ensures { result ≡ named_place nothing place }
-{
-    match place {
-        Place::Into(parent) => Place::Into(told_node(parent)),
-        Place::Foster { table, above } => Place::Foster {
-            table: told_node(table),
-            above: told_node(above),
-        },
-    }
-}
-
-fn told_node(node: Ref) -> Ref
-    ensures { result ≡ named nothing node }
-{
-    match node {
-        Ref::Fixed(id) => Ref::Fixed(id),
-        Ref::Own(number) => Ref::Fixed(number),
-        Ref::Older(_) => Ref::Fixed(0),
-    }
 }

@@ -1,17 +1,22 @@
 // A run of the sequential parser over a page.
-ghost use Rattle.std.specs.Prelude.{◌≡◌, ◌≢◌, ◌^◌, ℕ, List, [], ◌∷◌, true, false, IfOk, OnOk};
+ghost use Rattle.std.specs.Prelude.{◌≡◌, ◌≢◌, ◌^◌, ◌<◌, ◌≤◌, ℕ, List, [], ◌∷◌, length, map, true, false, IfOk, OnOk};
+ghost use Rattle.std.specs.List.{list_all};
 ghost use Rattle.std.specs.Str.{chars};
 ghost use Rattle.hp_names.specs.BuiltIn.{built_in};
 ghost use Rattle.hp_names.specs.References.{Reference};
 ghost use Rattle.hp_text.specs.Page.{text_of};
-ghost use Rattle.hp_tokens.specs.Advancing.{AreRuns};
+ghost use Rattle.hp_tokens.specs.Advancing.{AreRuns, held};
+ghost use Rattle.hp_tokens.specs.Plain.{none_of};
+ghost use Rattle.hp_tokens.specs.Rows.{character};
+ghost use Rattle.hp_views.specs.View.{split_of};
+ghost use Rattle.hp_acts.specs.Plain.{takes_text};
 ghost use Rattle.hp_control.specs.States.{lex_start};
 ghost use Rattle.hp_lexer.specs.declared.lexer.Asked.TheVariants as asked;
 ghost use Rattle.hp_model.specs.Whole.{IsRead};
 ghost use Rattle.hp_run.specs.Pages.{IsTreeOf};
 ghost use Rattle.hp_steps.specs.Handling.{AllRead};
 ghost use Rattle.hp_fragment.specs.Building.{IsBuilder, HandledLast};
-ghost use Rattle.hp_fragment.specs.Reading.{IsReady, IsAtEnd, Reads, HasEnded, HasReadAll, StepsOn, ReadsOn, TakesPiece, ReadsPiece, Took};
+ghost use Rattle.hp_fragment.specs.Reading.{IsReady, IsAtEnd, Reads, HasEnded, HasReadAll, StepsOn, ReadsOn, TakesPiece, ReadsPiece, Took, TookText, Tried};
 
 use crate::NoMemory;
 use crate::builder::Builder;
@@ -19,7 +24,7 @@ use crate::last::{is_character, is_start, of_page};
 use crate::pieces::cut;
 use hp_arena::Tree;
 use hp_control::Control;
-use hp_elements::{Rest, Token, Tokens};
+use hp_elements::{Rest, Text, Token, Tokens};
 use hp_lexer::{Cursor, Lexer, Step};
 use hp_text::Page;
 use hp_tokens::{LexState, Machine, OwnedText};
@@ -86,9 +91,6 @@ impl<'p> Parsing<'p> {
         ensures takes { IfOk result (TakesPiece self.old self.new) }
         ensures reads { IfOk result (λ more. (refs : List Reference) (page : List ℕ) → HasEnded refs page self.old → ReadsPiece refs page self.new more) }
     {
-        if !self.is_used_up() {
-            return Err(NoMemory);
-        }
         if self.is_last() {
             return Ok(false);
         }
@@ -99,13 +101,6 @@ impl<'p> Parsing<'p> {
         self.input = Cursor::of_str(piece);
         self.later = later;
         Ok(true)
-    }
-
-    /// Whether nothing of the piece is left.
-    fn is_used_up(&self) -> bool
-        ensures { result ≡ true → self.now.input.text ≡ [] }
-    {
-        self.input.peek().is_none()
     }
 
     /// Whether nothing follows the piece.
@@ -129,6 +124,97 @@ impl<'p> Parsing<'p> {
         ensures steps { IfOk result (StepsOn self.old self.new) }
         ensures reads { IfOk result (λ more. (refs : List Reference) (page : List ℕ) → Reads refs page self.old → ReadsOn refs page self.new more) }
     {
+        if self.pass_cut() {
+            return Ok(false);
+        }
+        self.go_on(alloc)
+    }
+
+    /// Whether the piece is used up and the lexer rests in the data state; then it stands before the next piece. Otherwise nothing
+    /// changes.
+    fn pass_cut(&mut self) -> bool
+        requires ready { IsReady self.old }
+        ensures steps { result ≡ true → StepsOn self.old self.new false }
+        ensures reads { result ≡ true → (refs : List Reference) (page : List ℕ) → Reads refs page self.old → HasEnded refs page self.new }
+        ensures left { result ≡ false → self.new ≡ self.old }
+    {
+        self.lexer.pass_cut(&self.input)
+    }
+
+    /// One step where the piece isn't known to be used up.
+    fn go_on(&mut self, alloc: Global) -> Result<bool, NoMemory>
+        requires ready { IsReady self.old }
+        ensures steps { IfOk result (StepsOn self.old self.new) }
+        ensures reads { IfOk result (λ more. (refs : List Reference) (page : List ℕ) → Reads refs page self.old → ReadsOn refs page self.new more) }
+    {
+        let text = self.take_plain(alloc)?;
+        if text {
+            return Ok(true);
+        }
+        let tag = self.take_tag(alloc)?;
+        if tag {
+            return Ok(true);
+        }
+        let more = self.step_by_table(alloc)?;
+        Ok(more)
+    }
+
+    /// Takes a text at the front whole, where it goes into the current node as it comes. Answers whether there was one.
+    fn take_plain(&mut self, alloc: Global) -> Result<bool, NoMemory>
+        requires ready { IsReady self.old }
+        ensures tried { IfOk result (Tried self.old self.new) }
+        ensures reads { OnOk result ((refs : List Reference) (page : List ℕ) → Reads refs page self.old → Reads refs page self.new) }
+    {
+        hp_model::at_once();
+        hp_lexer::steps_fall();
+        if !self.builder.takes_text() {
+            return Ok(false);
+        }
+        match self.next_text() {
+            Some(text) => {
+                self.put_text(alloc, text)?;
+                Ok(true)
+            }
+            None => Ok(false),
+        }
+    }
+
+    /// The text at the front that is emitted as it stands, or what a usual reference there stands for.
+    fn next_text(&mut self) -> Option<Text<'p>>
+        requires held { held self.old.lexer.lex ≤ self.old.input.place }
+        ensures { TookText self.old self.new result }
+    {
+        match self.lexer.next_plain(&mut self.input) {
+            Some(text) => Some(text),
+            None => self.lexer.next_reference(&mut self.input),
+        }
+    }
+
+    /// Takes a usual tag at the front straight. Answers whether there was one; otherwise the lexer may have gone on a little.
+    fn take_tag(&mut self, alloc: Global) -> Result<bool, NoMemory>
+        requires ready { IsReady self.old }
+        ensures tried { IfOk result (Tried self.old self.new) }
+        ensures reads { OnOk result ((refs : List Reference) (page : List ℕ) → Reads refs page self.old → Reads refs page self.new) }
+    {
+        hp_model::at_once();
+        hp_lexer::steps_fall();
+        let found = self.lexer.next_tag(alloc, &mut self.input)?;
+        match found {
+            Some(tag) => {
+                self.handle_only(alloc, tag)?;
+                Ok(true)
+            }
+            None => Ok(false),
+        }
+    }
+
+    /// One step by the lexer's table, and what it calls for. Answers whether the piece goes on.
+    #[inline(never)]
+    fn step_by_table(&mut self, alloc: Global) -> Result<bool, NoMemory>
+        requires ready { IsReady self.old }
+        ensures steps { IfOk result (StepsOn self.old self.new) }
+        ensures reads { IfOk result (λ more. (refs : List Reference) (page : List ℕ) → Reads refs page self.old → ReadsOn refs page self.new more) }
+    {
         hp_model::at_once();
         hp_lexer::steps_fall();
         match self.lexer.next(alloc, &mut self.input)? {
@@ -145,6 +231,19 @@ impl<'p> Parsing<'p> {
             Step::AskLastTag => Err(NoMemory),
             Step::AtCut => Ok(false),
         }
+    }
+
+    /// Puts a text into the current node.
+    fn put_text(&mut self, alloc: Global, text: Text<'p>) -> Result<(), NoMemory>
+        requires builder { IsBuilder self.old.builder }
+        requires takes { takes_text (split_of self.old.builder.view) ≡ true }
+        requires no_nul { list_all (none_of (0 ∷ [])) text ≡ true }
+        requires long { 0 < length text }
+        ensures { OnOk result (Took self.old self.new (map character text.entry)) }
+    {
+        self.builder.put_text(alloc, text)?;
+        self.builder.grow_by_batch(alloc)?;
+        Ok(())
     }
 
     /// Handles the tokens of a step.

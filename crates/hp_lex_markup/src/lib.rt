@@ -5,8 +5,6 @@ mod comments;
 mod doctypes;
 mod markup;
 mod rows;
-#[cfg(test)]
-mod tests;
 mod words;
 
 pub use markup::{advance, any_pieces, at_end, is_here};

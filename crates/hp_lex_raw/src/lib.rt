@@ -4,7 +4,5 @@
 mod raw;
 mod rows;
 mod script;
-#[cfg(test)]
-mod tests;
 
 pub use raw::{advance, any_pieces, at_end, is_here, next_plain, next_text};

@@ -6,8 +6,6 @@ mod references;
 mod rows;
 mod straight;
 mod tags;
-#[cfg(test)]
-mod tests;
 mod usual_reference;
 
 pub use straight::next_tag;

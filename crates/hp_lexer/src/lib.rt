@@ -1,12 +1,8 @@
 //! The whole lexer (13.2.5), over a text in any pieces.
 #![tactic(auto)]
 
-#[cfg(test)]
-mod cases;
 mod laws;
 mod lexer;
-#[cfg(test)]
-mod tests;
 mod turns;
 
 pub use hp_tokens::{Cursor, LexState};

@@ -2,6 +2,10 @@
 #![tactic(auto)]
 
 #[cfg(test)]
+mod control;
+#[cfg(test)]
+mod elements;
+#[cfg(test)]
 mod lexing;
 #[cfg(test)]
 mod views;

@@ -71,6 +71,26 @@ fn make<'p>(
     Ok(())
 }
 
+fn new_element(tag: Tag) -> Edit<'static> {
+    Edit::NewElement { tag }
+}
+
+fn put_element(id: u64, parent: u64) -> Edit<'static> {
+    let child = Child::Element(Ref::Fixed(id));
+    let place = Place::Into(Ref::Fixed(parent));
+    Edit::Put { child, place }
+}
+
+fn put_empty_comment(place: Place) -> Edit<'static> {
+    let child = Child::Comment(Text::new());
+    Edit::Put { child, place }
+}
+
+fn put_letter(place: Place) -> Edit<'static> {
+    let child = Child::Text(Text::of_char('t'));
+    Edit::Put { child, place }
+}
+
 /// Makes an element, and puts it last into another.
 fn add(
     rt: &impl Abort,
@@ -80,10 +100,8 @@ fn add(
     parent: u64,
 ) -> Result<(), NoMemory> {
     let id = tree.len() as u64;
-    make(rt, alloc, tree, Edit::NewElement { tag })?;
-    let child = Child::Element(Ref::Fixed(id));
-    let place = Place::Into(Ref::Fixed(parent));
-    make(rt, alloc, tree, Edit::Put { child, place })
+    make(rt, alloc, tree, new_element(tag))?;
+    make(rt, alloc, tree, put_element(id, parent))
 }
 
 fn identifier(
@@ -494,9 +512,8 @@ fn a_million_siblings(rt: HostRuntime) -> Result<(), Fail> {
     let alloc = rt.alloc();
     let mut tree = tree_of(&rt, alloc, &PAGE)?;
     for _ in 0..1_000_000 {
-        let child = Child::Comment(Text::new());
         let place = Place::Into(Ref::Fixed(3));
-        make(&rt, alloc, &mut tree, Edit::Put { child, place })?;
+        make(&rt, alloc, &mut tree, put_empty_comment(place))?;
     }
     assert_eq!(rt; print_tree(alloc, &tree)?.len(), 31 + 1_000_000 * 16);
     Ok(())
@@ -514,19 +531,8 @@ fn many_children_before_one_table(rt: HostRuntime) -> Result<(), Fail> {
     };
     add(&rt, alloc, &mut tree, tag, 3)?;
     for _ in 0..100_000 {
-        let comment = Child::Comment(Text::new());
-        let place = before(4);
-        make(
-            &rt,
-            alloc,
-            &mut tree,
-            Edit::Put {
-                child: comment,
-                place,
-            },
-        )?;
-        let text = Child::Text(Text::of_char('t'));
-        make(&rt, alloc, &mut tree, Edit::Put { child: text, place })?;
+        make(&rt, alloc, &mut tree, put_empty_comment(before(4)))?;
+        make(&rt, alloc, &mut tree, put_letter(before(4)))?;
     }
     assert_eq!(rt;
         print_tree(alloc, &tree)?.len(),

@@ -1,4 +1,3 @@
-use Rattle.std.proofs.Common.{◌≡◌}
 use Rattle.std.specs.Vec.Iter.{into_iter_items}
 use Rattle.hp_fragment.proofs.Growth.{Grows}
 use Rattle.hp_fragment.proofs.builder.apply_all.Given as goal

@@ -1,4 +1,4 @@
-use Rattle.std.proofs.Common.{rules, ◌≡◌, Option, sym, subst, ◌∙◌}
+use Rattle.std.proofs.Common.{rules, Option, sym, subst, ◌∙◌}
 use Rattle.hp_elements.specs.declared.token.Rest.{Rest}
 use Rattle.hp_elements.specs.declared.token.Token.{Token}
 use Rattle.hp_model.specs.Whole.{IsRead}

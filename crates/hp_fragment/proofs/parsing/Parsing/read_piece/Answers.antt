@@ -1,4 +1,4 @@
-use Rattle.std.proofs.Common.{rules, ◌≡◌, false}
+use Rattle.std.proofs.Common.{rules}
 use Rattle.hp_fragment.proofs.Steps.{reads-more}
 use Rattle.hp_fragment.proofs.parsing.Parsing.read_piece.Goals as goal
 

@@ -1,4 +1,4 @@
-use Rattle.std.proofs.Common.{rules, ◌≡◌, false}
+use Rattle.std.proofs.Common.{rules}
 use Rattle.hp_fragment.proofs.Steps.{reads-all}
 use Rattle.hp_fragment.proofs.parsing.Parsing.run.Goals as goal
 

@@ -1,7 +1,7 @@
 use Rattle.std.proofs.Common.{refl}
 use Rattle.hp_lexer.specs.declared.lexer.Step.TheVariants as steps
 use Rattle.hp_fragment.proofs.Steps.{step-cdata, step-cut, step-read, step-tokens, told-step}
-use Rattle.hp_fragment.proofs.parsing.Parsing.step.Goals as goal
+use Rattle.hp_fragment.proofs.parsing.Parsing.step_by_table.Goals as goal
 
 pub handle-requires-clause-asked : goal.handle-requires-clause-asked
 handle-requires-clause-asked c =

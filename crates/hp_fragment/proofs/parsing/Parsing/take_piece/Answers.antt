@@ -1,4 +1,4 @@
-use Rattle.std.proofs.Common.{rules, ◌≡◌, true, false, ap, refl, sym, ◌∙◌}
+use Rattle.std.proofs.Common.{rules, ap, refl, ◌∙◌}
 use Rattle.std.specs.Str.{chars}
 use Rattle.std.proofs.lemmas.Str.{chars-nil}
 use Rattle.hp_tokens.specs.Reading.{Unread}
@@ -9,7 +9,7 @@ pub returns-then-is_last-clause-reads : goal.returns-then-is_last-clause-reads
 returns-then-is_last-clause-reads c = λ refs page ended. record {
   ended = ended;
   later = ap chars (c.is_last.ensures.last (search rules)) ∙ chars-nil;
-  used = c.is_used_up.ensures (search rules);
+  used = c.requires.at_end.used;
 }
 
 pub returns-clause-takes : goal.returns-clause-takes
@@ -20,5 +20,5 @@ returns-clause-takes c = (
 
 pub returns-clause-reads : goal.returns-clause-reads
 returns-clause-reads c = λ refs page ended.
-    piece-taken refs page c.args.self.now _ (chars c.cut.result.0.now) ended (c.is_used_up.ensures (search rules)) (c.holds_nothing.ensures (search rules))
+    piece-taken refs page c.args.self.now _ (chars c.cut.result.0.now) ended (c.requires.at_end.used) (c.holds_nothing.ensures (search rules))
     c.cut.ensures.whole c.cut.ensures.closed refl (ap (λ (u : Unread). u.text) c.of_str-self.ensures) refl

@@ -1,6 +1,6 @@
 //! The tokens of short texts behind `<!`, whole and cut at each place, as an independent lexer gives them.
-use crate::{advance, at_end, is_here};
 use hp_elements::{Doctype, Rest, Text, Token, Tokens};
+use hp_lex_markup::{advance, at_end, is_here};
 use hp_tokens::{Cursor, LexState, NoMemory, ORIGIN, Part, State, Turn};
 use std::alloc::Global;
 use std::test::Fail;

@@ -1,5 +1,5 @@
 //! Calls that take memory, and the sizes of the types that a page is made of.
-use crate::{
+use hp_elements::{
     Attribute, AttributeSpace, Chain, CharClass, Doctype, DoctypeParts, Known, List, Name,
     Namespace, Respelling, Rest, Tag, Text, Token,
 };

@@ -1,6 +1,6 @@
 //! The tokens of short texts, whole and cut at each place, as an independent lexer gives them.
-use crate::{advance, at_end, is_here, next_tag};
 use hp_elements::{Rest, Token, Tokens};
+use hp_lex_tags::{advance, at_end, is_here, next_tag};
 use hp_names::Names;
 use hp_tokens::{Cursor, LexState, NoMemory, ORIGIN, Turn};
 use std::alloc::Global;

@@ -1,26 +1,26 @@
 //! What no contract says: that calls which may want memory succeed where there is some.
-ghost use Rattle.hp_control.specs.Nothing.{nothing};
 ghost use Rattle.hp_control.specs.Truth.{answer_of};
 
-use crate::below::answer_nothing;
-use crate::{
-    Answer, Below, Control, EntryKind, FactKind, Guess, Nothing, OpenElement, Predictor, Question,
-    Stack, truth,
+use hp_control::{
+    Answer, Below, Child, Control, Edit, Edits, EntryKind, FactKind, Guess, Nothing, OpenElement,
+    Place, Predictor, Question, Ref, Stack, answer, truth,
 };
 use hp_elements::{Chain, Kinds, Known, Mode, Name, Namespace, NoMemory, Point, SetName, Tag};
 use std::alloc::Global;
 use std::process::Abort;
 use std::test::Fail;
 
-/// Says what the state before the first token says.
+/// Says what a stored state says.
 #[derive(Drop)]
-struct Stored;
+struct Stored {
+    control: Control,
+}
 
 impl Predictor for Stored {
-    ghost says = { λ _. answer_of nothing };
+    ghost says = { λ stored. answer_of stored.control };
 
     fn say(&self, alloc: Global, question: &Question) -> Result<Answer, NoMemory> {
-        answer_nothing(alloc, question)
+        answer(alloc, &self.control, question)
     }
 }
 
@@ -43,7 +43,9 @@ fn asks(
 
 #[test]
 fn a_guess_keeps_true_answers_of_a_stored_state(rt: HostRuntime) -> Result<(), Fail> {
-    let mut guess = Guess::new(Stored);
+    let mut guess = Guess::new(Stored {
+        control: Control::start(),
+    });
     let names = Kinds::Set(SetName::ButtonScopeEnds);
     asks(
         &rt,
@@ -117,5 +119,39 @@ fn a_stack_grows_at_its_top(rt: HostRuntime) -> Result<(), Fail> {
     assert_eq!(rt; stack.at(2).id, 1);
     stack.drop_top(2);
     assert_eq!(rt; stack.len(), 1);
+    Ok(())
+}
+
+#[test]
+fn edits_are_kept_in_order(rt: HostRuntime) -> Result<(), Fail> {
+    let mut edits = Edits::new();
+    assert!(rt; edits.is_empty());
+    edits.push(
+        rt.alloc(),
+        Edit::Detach {
+            node: Ref::Fixed(7),
+        },
+    )?;
+    edits.push(
+        rt.alloc(),
+        Edit::Put {
+            child: Child::Element(Ref::Own(1)),
+            place: Place::Into(Ref::Older(2)),
+        },
+    )?;
+    assert_eq!(rt; edits.len(), 2);
+    assert_eq!(rt; edits.room(), 2);
+    let mut all = Vec::new(rt.alloc());
+    edits.take_into(&mut all);
+    assert!(rt; edits.is_empty());
+    assert!(rt;
+        matches!(
+            all.last(),
+            Some(Edit::Put {
+                place: Place::Into(Ref::Older(2)),
+                ..
+            })
+        )
+    );
     Ok(())
 }

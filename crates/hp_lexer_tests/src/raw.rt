@@ -1,6 +1,6 @@
 //! The tokens of short texts, whole and cut at each place, as an independent lexer gives them.
-use crate::{advance, at_end, is_here};
 use hp_elements::{Rest, Token, Tokens};
+use hp_lex_raw::{advance, at_end, is_here};
 use hp_tokens::{Cursor, LexState, Machine, NoMemory, ORIGIN, OwnedText, State, Turn};
 use std::alloc::Global;
 use std::test::Fail;

@@ -3,8 +3,8 @@ ghost use Rattle.std.specs.Prelude.{◌≡◌, not};
 ghost use Rattle.hp_lexer.specs.Standing.{is_answered};
 
 use crate::cases::{CASES, Case};
-use crate::{Asked, Cursor, Lexer, NoMemory, Step};
 use hp_elements::{CharClass, Known, Name, Token};
+use hp_lexer::{Asked, Cursor, Lexer, NoMemory, Step};
 use hp_tokens::ORIGIN;
 use std::alloc::Global;
 use std::test::Fail;
