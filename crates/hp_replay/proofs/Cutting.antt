@@ -1,6 +1,6 @@
 -- A text that is cut behind its first `>`.
-use Rattle.std.proofs.Common.{◌≡◌, ℕ, zero, suc, ◌+◌, ◌<◌, ◌≤◌, List, [], ◌∷◌, ◌++◌, length, take, drop, refl, sym, ap, subst, ◌∙◌, arith, add-one, ⊎_elim, Option, None, Some}
-use Rattle.std.specs.Prelude.{◌==◌, true, IsUtf8, slice_index}
+use Rattle.std.proofs.Common.{◌≡◌, ℕ, zero, suc, ◌+◌, ◌<◌, ◌≤◌, List, [], ◌∷◌, ◌++◌, length, take, drop, refl, sym, ap, subst, ◌∙◌, arith, add-one, Option, None, Some}
+use Rattle.std.specs.Prelude.{IsUtf8, slice_index}
 use Rattle.std.specs.Str.{chars, IsCharBoundary}
 use Rattle.memchr.specs.Find.{IsFirstByte, is_byte}
 use Rattle.std.proofs.lemmas.Bool.{eq-eqb, eqb-true}

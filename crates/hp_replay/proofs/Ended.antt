@@ -1,13 +1,12 @@
 -- What the tokens of the end of input do is the end of input.
-use Rattle.std.proofs.Common.{◌≡◌, ℕ, List, [], ◌∷◌, ◌++◌, ◌^◌, refl, ap, ◌∙◌, sym, subst, append-nil, append_assoc, map}
+use Rattle.std.proofs.Common.{◌≡◌, ℕ, List, [], ◌∷◌, ◌++◌, ◌^◌, refl, ap, ◌∙◌, sym, subst, append-nil, map}
 use Rattle.std.specs.Prelude.{All}
 use Rattle.std.proofs.lemmas.List.Elements.{All-cons, All-nil}
 use Rattle.hp_elements.specs.declared.token.Token.{Token}
 use Rattle.hp_names.specs.BuiltIn.{built_in}
 use Rattle.hp_names.specs.References.{Reference}
 use Rattle.hp_tokens.specs.Advancing.{AreRuns, Ends as EndsText, end_of_text, lexing, singles, tokens_of}
-use Rattle.hp_tokens.specs.Moves.{Emitted, Lexing, Rules, end_move, ends}
-use Rattle.hp_tokens.specs.Runs.{Leads, here, onward}
+use Rattle.hp_tokens.specs.Moves.{Lexing}
 use Rattle.hp_tokens.specs.declared.lexing.LexState.{LexState}
 use Rattle.hp_control.specs.Apply.{named, named_child, named_edit, named_place}
 use Rattle.hp_control.specs.Edits.{IsFixed, IsFixedChild, IsFixedEdit, IsFixedPlace}
@@ -28,11 +27,11 @@ use Rattle.hp_lexer.specs.declared.lexer.Lexer.{Lexer}
 use Rattle.hp_lexer.specs.Table.{table}
 use Rattle.hp_model.specs.AtOnce.{RunsAtOnce, handle_at_once}
 use Rattle.hp_model.specs.Handling.{handle}
-use Rattle.hp_model.specs.Runs.{EndsWith, before_it, last}
+use Rattle.hp_model.specs.Runs.{EndsWith}
 use Rattle.hp_steps.proofs.Began.{tokens-append}
 use Rattle.hp_steps.proofs.Ending.{end-goes}
 use Rattle.hp_steps.proofs.Together.{Comes, together}
-use Rattle.hp_steps.specs.Handling.{AreQuiet, left_after, made_after}
+use Rattle.hp_steps.specs.Handling.{AreQuiet, made_after}
 use Rattle.hp_pieces.proofs.SameRuns.{end-same}
 use Rattle.hp_pieces.specs.Fragments.{IsEnd}
 use Rattle.hp_pieces.specs.Running.{parser_in}
@@ -52,7 +51,7 @@ child-fixed : (c : Child) → IsFixedChild (named_child nothing c)
 child-fixed (child.Element node) = named-fixed node
 child-fixed (child.Text text) = tt
 child-fixed (child.Comment text) = tt
-child-fixed (child.Doctype name public system) = tt
+child-fixed (child.Doctype doctype) = tt
 
 edit-fixed : (e : Edit) → IsFixedEdit (named_edit nothing e)
 edit-fixed (NewElement tag) = tt

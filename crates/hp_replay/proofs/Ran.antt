@@ -1,11 +1,10 @@
 -- The run over a piece, and over the pieces of a text.
-use Rattle.std.proofs.Common.{◌≡◌, ℕ, ◌^◌, List, [], ◌∷◌, ◌++◌, map, refl, ap, ◌∙◌, sym, subst, append-nil, append_assoc, arith, ◌≤◌}
+use Rattle.std.proofs.Common.{◌≡◌, ℕ, ◌^◌, List, [], ◌++◌, map, refl, ap, ◌∙◌, sym, subst, append-nil, append_assoc, arith}
 use Rattle.std.specs.Prelude.{All}
 use Rattle.std.specs.Str.{IsUtf8, chars}
 use Rattle.hp_names.specs.BuiltIn.{built_in}
 use Rattle.hp_tokens.specs.Advancing.{held}
-use Rattle.hp_tokens.specs.Moves.{Lexing, Move, needs_more, move}
-use Rattle.hp_tokens.specs.Reading.{Unread}
+use Rattle.hp_tokens.specs.Moves.{Move, needs_more, move}
 use Rattle.hp_tokens.specs.Runs.{followed_by as more_unread}
 use Rattle.hp_tokens.specs.declared.lexing.LexState.{LexState}
 use Rattle.hp_tokens.specs.declared.machine.Machine.{Machine}
@@ -21,8 +20,7 @@ use Rattle.hp_lexer.specs.declared.lexer.Asked.{Asked}
 use Rattle.hp_lexer.specs.declared.lexer.Lexer.{Lexer}
 use Rattle.hp_lexer.specs.Standing.{is_answered, opened, stands}
 use Rattle.hp_lexer.specs.Table.{table}
-use Rattle.hp_model.specs.AtOnce.{MakeSame}
-use Rattle.hp_model.specs.Runs.{Goes, here, Parser, Step, rests, goes, followed_by, step, step_by}
+use Rattle.hp_model.specs.Runs.{Goes, here, Parser, rests, goes, followed_by, step, step_by}
 use Rattle.hp_steps.specs.Alike.{SameMove}
 use Rattle.hp_steps.specs.Closing.{EndsAtTag}
 use Rattle.hp_steps.specs.Standing.{HasGone}
@@ -31,7 +29,7 @@ use Rattle.hp_steps.proofs.Shifting.{move-same}
 use Rattle.hp_steps.proofs.Together.{applied-append}
 use Rattle.hp_pieces.specs.Fragments.{IsRun}
 use Rattle.hp_pieces.specs.Laws.{LeadsJoin, LeadsValid}
-use Rattle.hp_pieces.specs.Running.{Leads, parser_in, state_at}
+use Rattle.hp_pieces.specs.Running.{Leads, parser_in}
 use Rattle.hp_pieces.proofs.HandlingLex.{goes-leave}
 use Rattle.hp_replay.specs.Collecting.{IsKnown, control_of, edits_of}
 use Rattle.hp_replay.specs.Reading.{HasEnded, IsAtEnd, IsBetween, IsReady, IsWithin, RanOver, Reads, control_in, edits_in, state_of}

@@ -93,10 +93,7 @@ pub(crate) fn collect_all<'p>(
 }
 
 /// Whether there is an adjusted current node outside the HTML namespace.
-pub(crate) fn is_foreign<'p>(
-    alloc: Global,
-    view: &mut View<'p, Nothing>,
-) -> Result<bool, NoMemory>
+pub(crate) fn is_foreign<'p>(alloc: Global, view: &mut View<'p, Nothing>) -> Result<bool, NoMemory>
     requires known { IsKnown (split_of view.old) }
     ensures foreign { IfOk result (λ foreign. foreign ≡ is_foreign_now (control_of (split_of view.old))) }
     ensures same { OnOk result (split_of view.new ≡ split_of view.old) }

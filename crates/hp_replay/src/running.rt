@@ -4,20 +4,21 @@ ghost use Rattle.std.specs.Str.{chars};
 ghost use Rattle.hp_tokens.specs.Advancing.{AreRuns};
 ghost use Rattle.hp_control.specs.States.{ControlState, IsValid};
 ghost use Rattle.hp_control.specs.declared.edit.Edit.{Edit as EditOf};
+ghost use Rattle.hp_views.specs.Begins.{with_lexer};
 ghost use Rattle.hp_views.specs.View.{split_of};
 ghost use Rattle.hp_lexer.specs.declared.lexer.Asked.TheVariants as asked;
 ghost use Rattle.hp_model.specs.Whole.{IsRead};
 ghost use Rattle.hp_steps.specs.Closing.{EndsAtTag};
 ghost use Rattle.hp_steps.specs.Handling.{AllRead};
-ghost use Rattle.hp_replay.specs.Collecting.{IsKnown};
+ghost use Rattle.hp_replay.specs.Collecting.{control_of, edits_of, IsKnown};
 ghost use Rattle.hp_replay.specs.Reading.{edits_in, state_of, HasEnded, IsAtEnd, IsBetween, IsReady, IsWithin, RanOver, Reads, ReadsOn, StepsOn, Took};
 
 use crate::NoMemory;
 use crate::collecting::{apart, collect, collect_all, is_foreign};
 use crate::laws::{never_asked, runs_join, runs_stay_valid};
 use crate::pieces::{cut, is_over};
-use crate::told::told_all;
 use crate::tokens::is_character;
+use crate::told::told_all;
 use hp_control::{Control, Edits, Nothing};
 use hp_elements::{Token, Tokens};
 use hp_lexer::{Cursor, Lexer, Step};
@@ -38,14 +39,14 @@ impl<'p> Running<'p> {
     /// The parser in this state, without edits.
     pub fn of_state(alloc: Global, from: Control) -> Result<Running<'p>, NoMemory>
         ensures between { IfOk result IsBetween }
-        ensures state { IfOk result (λ running. state_of running ≡ from.entry) }
+        ensures state { IfOk result (λ running. state_of running ≡ from) }
         ensures edits { IfOk result (λ running. running.view.edits ≡ []) }
     {
+        let input = Cursor::of_str("");
         let (control, lex) = apart(from);
-        let lexer = Lexer::from_state(alloc, &lex)?;
         control.is_kept();
         let view = View::whole(control);
-        let input = Cursor::of_str("");
+        let lexer = Lexer::from_state(alloc, &lex)?;
         Ok(Running { lexer, input, view })
     }
 
@@ -188,9 +189,23 @@ impl<'p> Running<'p> {
         ensures edits { IfOk result (λ parts. parts.1 ≡ edits_in self.entry) }
     {
         let Running { lexer, view, .. } = self;
-        let lex = lexer.state(alloc)?;
-        let (control, edits) = view.into_control(lex);
-        let edits = told_all(alloc, edits)?;
-        Ok((control, edits))
+        ended(alloc, &lexer, view)
     }
+}
+
+/// The state of this lexer and of this view, and the view's edits.
+fn ended<'p>(
+    alloc: Global,
+    lexer: &Lexer,
+    view: View<'p, Nothing>,
+) -> Result<(Control, Edits<'p>), NoMemory>
+    requires asked { lexer.now.asked ≡ asked.Nothing }
+    requires valid { IsValid (with_lexer lexer.now.lex (control_of (split_of view))) }
+    ensures state { IfOk result (λ parts. parts.0 ≡ with_lexer lexer.now.lex (control_of (split_of view.entry))) }
+    ensures edits { IfOk result (λ parts. parts.1 ≡ edits_of (split_of view.entry)) }
+{
+    let lex = lexer.state(alloc)?;
+    let (control, edits) = view.into_control(lex);
+    let edits = told_all(alloc, edits)?;
+    Ok((control, edits))
 }

@@ -1,4 +1,4 @@
-use Rattle.std.proofs.Common.{rules, sym, subst, ◌∙◌, Option, None}
+use Rattle.std.proofs.Common.{rules, sym, subst, ◌∙◌, Option}
 use Rattle.hp_elements.specs.declared.token.Rest.{Rest}
 use Rattle.hp_views.specs.View.{split_of}
 use Rattle.hp_steps.specs.Handling.{AllRead}

@@ -1,19 +1,14 @@
-use Rattle.std.proofs.Common.{sym, subst, ◌∙◌}
-use Rattle.hp_control.specs.States.{IsValid}
-use Rattle.hp_replay.proofs.Ran.{replayed}
+use Rattle.std.proofs.Common.{ℕ, List, ap, sym, subst, ◌∙◌}
+use Rattle.hp_pieces.specs.Fragments.{IsRun, Known}
 use Rattle.hp_replay.proofs.replaying.replay.Goals as goal
 
-pub run-requires-clause-valid : goal.run-requires-clause-valid
-run-requires-clause-valid c = subst IsValid (c.in_ok-entry.ensures ∙ sym c.in_ok-running.ensures.state) c.is_kept.ensures
-
-pub into_parts-requires-clause-asked : goal.into_parts-requires-clause-asked
-into_parts-requires-clause-asked c = c.in_ok-run.ensures.between.at_end.asked
-
-pub into_parts-requires-clause-valid : goal.into_parts-requires-clause-valid
-into_parts-requires-clause-valid c = c.in_ok-run.ensures.valid
-
-pub of_run-requires : goal.of_run-requires
-of_run-requires c = record {
-  run = replayed c.as_bytes-bytes.result.now c.in_ok-running.running c.run.new.self c.in_ok-entry.entry c.in_ok-into_parts.field-0.0 c.in_ok-into_parts.field-0.1 ? c.in_ok-run.ensures.ran c.in_ok-running.ensures.edits
-      (c.in_ok-running.ensures.state ∙ sym c.in_ok-entry.ensures) c.in_ok-into_parts.ensures.state c.in_ok-into_parts.ensures.edits;
+pub of_run-exact-requires : goal.of_run-exact-requires
+of_run-exact-requires c = record {
+  run = subst (λ (t : List ℕ). IsRun (record { text = t; entry = c.args.from; exit = c.in_ok-parts.parts.0; edits = c.in_ok-parts.parts.1 })) (sym c.as_bytes-bytes.ensures.value) c.in_ok-parts.ensures;
 }
+
+pub returns-clause-text : goal.returns-clause-text
+returns-clause-text c = ap (λ (k : Known). k.text) c.of_run-exact.ensures ∙ (c.as_bytes-bytes.ensures.value ∙ c.chunk_text-text.ensures)
+
+pub returns-clause-exact : goal.returns-clause-exact
+returns-clause-exact c = ap (λ (k : Known). k.entry) c.of_run-exact.ensures

@@ -1,4 +1,4 @@
-use Rattle.std.proofs.Common.{rules, ◌≡◌, List, ◌∷◌, [], length, sym, subst}
+use Rattle.std.proofs.Common.{rules, List, sym, subst}
 use Rattle.hp_elements.specs.declared.token.Token.{Token}
 use Rattle.hp_tokens.specs.Advancing.{AreRuns}
 use Rattle.hp_steps.specs.Handling.{AllRead}

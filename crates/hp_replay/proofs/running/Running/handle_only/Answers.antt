@@ -1,4 +1,4 @@
-use Rattle.std.proofs.Common.{rules, ◌≡◌, false, Option, refl, sym, subst, ◌∙◌}
+use Rattle.std.proofs.Common.{rules, Option, refl, subst}
 use Rattle.hp_elements.specs.declared.token.Rest.{Rest}
 use Rattle.hp_views.specs.View.{split_of}
 use Rattle.hp_replay.specs.Collecting.{Collects}

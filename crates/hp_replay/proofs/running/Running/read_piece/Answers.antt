@@ -1,4 +1,4 @@
-use Rattle.std.proofs.Common.{rules, ◌≡◌, false}
+use Rattle.std.proofs.Common.{rules}
 use Rattle.hp_replay.proofs.Ran.{within-so}
 use Rattle.hp_replay.proofs.Steps.{reads-more}
 use Rattle.hp_replay.proofs.running.Running.read_piece.Goals as goal
