@@ -1,13 +1,12 @@
 -- What the tokens of the end of input do is the end of input.
-use Rattle.std.proofs.Common.{◌≡◌, ℕ, List, [], ◌∷◌, ◌++◌, ◌^◌, refl, ap, ◌∙◌, sym, subst, append-nil, append_assoc, map}
+use Rattle.std.proofs.Common.{◌≡◌, ℕ, List, [], ◌∷◌, ◌++◌, ◌^◌, refl, ap, ◌∙◌, sym, subst, append-nil, map}
 use Rattle.std.specs.Prelude.{All}
 use Rattle.std.proofs.lemmas.List.Elements.{All-cons, All-nil}
 use Rattle.hp_elements.specs.declared.token.Token.{Token}
 use Rattle.hp_names.specs.BuiltIn.{built_in}
 use Rattle.hp_names.specs.References.{Reference}
 use Rattle.hp_tokens.specs.Advancing.{AreRuns, Ends as EndsText, end_of_text, lexing, singles, tokens_of}
-use Rattle.hp_tokens.specs.Moves.{Emitted, Lexing, Rules, end_move, ends}
-use Rattle.hp_tokens.specs.Runs.{Leads, here, onward}
+use Rattle.hp_tokens.specs.Moves.{Lexing}
 use Rattle.hp_tokens.specs.declared.lexing.LexState.{LexState}
 use Rattle.hp_control.specs.Apply.{named, named_child, named_edit, named_place}
 use Rattle.hp_control.specs.Edits.{IsFixed, IsFixedChild, IsFixedEdit, IsFixedPlace}
@@ -28,11 +27,11 @@ use Rattle.hp_lexer.specs.declared.lexer.Lexer.{Lexer}
 use Rattle.hp_lexer.specs.Table.{table}
 use Rattle.hp_model.specs.AtOnce.{RunsAtOnce, handle_at_once}
 use Rattle.hp_model.specs.Handling.{handle}
-use Rattle.hp_model.specs.Runs.{EndsWith, before_it, last}
-use Rattle.hp_steps.proofs.Batches.{at, built-made, made-append, quiet-split, quiet-step}
+use Rattle.hp_model.specs.Runs.{EndsWith}
 use Rattle.hp_steps.proofs.Began.{tokens-append}
+use Rattle.hp_steps.proofs.Ending.{end-goes}
 use Rattle.hp_steps.proofs.Together.{Comes, together}
-use Rattle.hp_steps.specs.Handling.{AreQuiet, left_after, made_after}
+use Rattle.hp_steps.specs.Handling.{AreQuiet, made_after}
 use Rattle.hp_pieces.proofs.SameRuns.{end-same}
 use Rattle.hp_pieces.specs.Fragments.{IsEnd}
 use Rattle.hp_pieces.specs.Running.{parser_in}
@@ -52,7 +51,7 @@ child-fixed : (c : Child) → IsFixedChild (named_child nothing c)
 child-fixed (child.Element node) = named-fixed node
 child-fixed (child.Text text) = tt
 child-fixed (child.Comment text) = tt
-child-fixed (child.Doctype parts) = tt
+child-fixed (child.Doctype doctype) = tt
 
 edit-fixed : (e : Edit) → IsFixedEdit (named_edit nothing e)
 edit-fixed (NewElement tag) = tt
@@ -64,21 +63,6 @@ edit-fixed (AddMissing node attributes) = named-fixed node
 pub told-fixed : (es : List Edit) → All IsFixedEdit (map (named_edit nothing) es)
 told-fixed [] = All-nil IsFixedEdit
 told-fixed (e ∷ es) = All-cons IsFixedEdit (named_edit nothing e) (map (named_edit nothing) es) (edit-fixed e) (told-fixed es)
-
--- the moves of the end, of whose tokens none switches the lexer
-end-goes : (rules : Rules) {l k : Lexing} {es : List Emitted} (c : ControlState) (rest : List Emitted) → Leads (end_move rules) l es k → end_move rules k ≡ ends rest
-    → AreQuiet handle c (tokens_of es ++ tokens_of rest) → EndsWith rules (at l c) (made_after handle c (tokens_of es ++ tokens_of rest))
-end-goes rules {l} c rest here ended q = subst (EndsWith rules (at l c)) (built-made rest (at l c)) (last ended)
-end-goes rules {l} c rest (onward {m = m} {es = es} {fs = fs} made more) ended q =
-    let same : tokens_of (es ++ fs) ++ tokens_of rest ≡ tokens_of es ++ (tokens_of fs ++ tokens_of rest) =
-    ap (λ (ts : List Token). ts ++ tokens_of rest) (tokens-append es fs) ∙ append_assoc (tokens_of es) (tokens_of fs) (tokens_of rest) in
-    let mid : ControlState = left_after handle c (tokens_of es) in
-    let parts : AreQuiet handle c (tokens_of es) × AreQuiet handle mid (tokens_of fs ++ tokens_of rest) =
-    quiet-split handle c (tokens_of es) (tokens_of fs ++ tokens_of rest) (subst (AreQuiet handle c) same q) in
-    let way : EndsWith rules (at l c) (made_after handle c (tokens_of es) ++ made_after handle mid (tokens_of fs ++ tokens_of rest)) =
-    before_it (quiet-step l m es c (end_move rules l) made parts.0) (end-goes rules mid rest more ended parts.1) in
-    let P : List Token → Type 0 = λ ts. EndsWith rules (at l c) (made_after handle c ts) in
-    subst P (sym same) (subst (EndsWith rules (at l c)) (sym (made-append handle c (tokens_of es) (tokens_of fs ++ tokens_of rest))) way)
 
 -- the moves of the end are an end of the run
 ends-run : (l : Lexing) (c : ControlState) (tokens : List Token) → EndsText (table built_in) l [] tokens → AreQuiet handle c (singles tokens)

@@ -1,3 +1,9 @@
 pub mod Toward
 pub mod Ended
 pub mod Collected
+pub mod Cutting
+pub mod Ahead
+pub mod Going
+pub mod Took
+pub mod Steps
+pub mod Ran

@@ -30,7 +30,7 @@ pub toward_start : (v : Split) (tokens : List Token) → IsKnown v → AreRuns t
 toward_start v tokens h runs = record { read = λ r. r; runs = runs; known = h; quiet = λ q. q; control = refl; edits = λ t. refl }
 
 -- a token at once leaves a valid state
-at_once-valid : RunsAtOnce → (t : Token) (c : ControlState) → IsRead t → AreRuns (t ∷ []) → IsValid c → IsValid (left_by (handle_at_once c t))
+pub at_once-valid : RunsAtOnce → (t : Token) (c : ControlState) → IsRead t → AreRuns (t ∷ []) → IsValid c → IsValid (left_by (handle_at_once c t))
 at_once-valid law t c read runs v = subst IsValid (law t c read runs.0 v).control (handle-valid t c read v)
 
 -- edits of the same effect, with more behind them
@@ -86,3 +86,7 @@ pub told_on : (f : Edit → Edit) (old new before rest all : List Edit) (edit to
 told_on f old new before rest all edit told h is same made =
     ap (λ (es : List Edit). es ++ map f rest) (made ∙ ap (λ (e : Edit). old ++ e ∷ []) same)
     ∙ (append_assoc old (f edit ∷ []) (map f rest) ∙ (sym (ap (λ (es : List Edit). old ++ map f es) is) ∙ h))
+
+-- the next of tokens as the lexer reads them
+pub next_read : (before rest : List Token) (t : Token) → AllRead before → before ≡ t ∷ rest → IsRead t × AllRead rest
+next_read before rest t h is = subst AllRead is h

@@ -1,10 +1,12 @@
 // Tree construction over a known state, whose edits are kept.
 ghost use Rattle.std.specs.Prelude.{◌≡◌, IfOk, OnOk};
 ghost use Rattle.hp_tokens.specs.Advancing.{AreRuns};
+ghost use Rattle.hp_control.specs.Composed.{is_foreign_now};
 ghost use Rattle.hp_control.specs.States.{lex_start};
 ghost use Rattle.hp_model.specs.Whole.{IsRead};
 ghost use Rattle.hp_views.specs.View.{split_of};
-ghost use Rattle.hp_replay.specs.Collecting.{Collects, CollectsAll, IsKnown};
+ghost use Rattle.hp_steps.specs.Handling.{AllRead};
+ghost use Rattle.hp_replay.specs.Collecting.{control_of, Collects, CollectsAll, IsKnown};
 
 use crate::NoMemory;
 use crate::tokens::{is_start, of_page};
@@ -68,6 +70,35 @@ pub(crate) fn collect<'p>(
         Ok(handled) => Ok(handled.switch),
         Err(_) => Err(NoMemory),
     }
+}
+
+/// Handles tokens one behind the other, of which none is to call for another state of the lexer.
+pub(crate) fn collect_all<'p>(
+    alloc: Global,
+    view: &mut View<'p, Nothing>,
+    tokens: Tokens<'p>,
+) -> Result<(), NoMemory>
+    requires known { IsKnown (split_of view.old) }
+    requires read { AllRead tokens }
+    requires runs { AreRuns tokens }
+    ensures { OnOk result (CollectsAll (split_of view.old) (split_of view.new) tokens.entry) }
+{
+    hp_model::at_once();
+    for token in tokens {
+        if collect(alloc, view, token)?.is_some() {
+            return Err(NoMemory);
+        }
+    }
+    Ok(())
+}
+
+/// Whether there is an adjusted current node outside the HTML namespace.
+pub(crate) fn is_foreign<'p>(alloc: Global, view: &mut View<'p, Nothing>) -> Result<bool, NoMemory>
+    requires known { IsKnown (split_of view.old) }
+    ensures foreign { IfOk result (λ foreign. foreign ≡ is_foreign_now (control_of (split_of view.old))) }
+    ensures same { OnOk result (split_of view.new ≡ split_of view.old) }
+{
+    view.foreign_now(alloc)
 }
 
 /// Handles the tokens of the end of input, of which none is a start tag.

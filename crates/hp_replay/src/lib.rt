@@ -3,8 +3,13 @@
 
 mod at_end;
 mod collecting;
+mod laws;
+mod pieces;
+mod replaying;
+mod running;
 mod tokens;
 mod told;
 
 pub use at_end::ending;
 pub use hp_elements::NoMemory;
+pub use replaying::replay;

@@ -1,0 +1,211 @@
+// The run of the sequential parser over a text from a known state.
+ghost use Rattle.std.specs.Prelude.{◌≡◌, ℕ, List, [], ◌∷◌, true, IfOk, OnOk};
+ghost use Rattle.std.specs.Str.{chars};
+ghost use Rattle.hp_tokens.specs.Advancing.{AreRuns};
+ghost use Rattle.hp_control.specs.States.{ControlState, IsValid};
+ghost use Rattle.hp_control.specs.declared.edit.Edit.{Edit as EditOf};
+ghost use Rattle.hp_views.specs.Begins.{with_lexer};
+ghost use Rattle.hp_views.specs.View.{split_of};
+ghost use Rattle.hp_lexer.specs.declared.lexer.Asked.TheVariants as asked;
+ghost use Rattle.hp_model.specs.Whole.{IsRead};
+ghost use Rattle.hp_steps.specs.Closing.{EndsAtTag};
+ghost use Rattle.hp_steps.specs.Handling.{AllRead};
+ghost use Rattle.hp_replay.specs.Collecting.{control_of, edits_of, IsKnown};
+ghost use Rattle.hp_replay.specs.Reading.{edits_in, state_of, HasEnded, IsAtEnd, IsBetween, IsReady, IsWithin, RanOver, Reads, ReadsOn, StepsOn, Took};
+
+use crate::NoMemory;
+use crate::collecting::{apart, collect, collect_all, is_foreign};
+use crate::laws::{never_asked, runs_join, runs_stay_valid};
+use crate::pieces::{cut, is_over};
+use crate::tokens::is_character;
+use crate::told::told_all;
+use hp_control::{Control, Edits, Nothing};
+use hp_elements::{Token, Tokens};
+use hp_lexer::{Cursor, Lexer, Step};
+use hp_views::View;
+use std::alloc::Global;
+
+/// The sequential parser within a text. It reads the text in pieces, each of which ends at a `>`, so that the lexer goes no
+/// further than to the end of a tag that may switch it.
+#[derive(Drop)]
+pub(crate) struct Running<'p> {
+    lexer: Lexer,
+    /// What is still to be read of the piece.
+    input: Cursor<'p>,
+    view: View<'p, Nothing>,
+}
+
+impl<'p> Running<'p> {
+    /// The parser in this state, without edits.
+    pub fn of_state(alloc: Global, from: Control) -> Result<Running<'p>, NoMemory>
+        ensures between { IfOk result IsBetween }
+        ensures state { IfOk result (λ running. state_of running ≡ from) }
+        ensures edits { IfOk result (λ running. running.view.edits ≡ []) }
+    {
+        let input = Cursor::of_str("");
+        let (control, lex) = apart(from);
+        control.is_kept();
+        let view = View::whole(control);
+        let lexer = Lexer::from_state(alloc, &lex)?;
+        Ok(Running { lexer, input, view })
+    }
+
+    /// Reads a text to its end.
+    pub fn run(&mut self, alloc: Global, text: &'p str) -> Result<(), NoMemory>
+        requires between { IsBetween self.old }
+        requires valid { IsValid (state_of self.old) }
+        ensures between { OnOk result (IsBetween self.new) }
+        ensures valid { OnOk result (IsValid (state_of self.new)) }
+        ensures ran { OnOk result (RanOver (chars text.now) self.old self.new) }
+    {
+        let (first, rest) = cut(text);
+        self.run_piece(alloc, first)?;
+        let mut later = rest;
+        'pieces: while !is_over(later) {
+            let (piece, rest) = cut(later);
+            self.run_piece(alloc, piece)?;
+            later = rest;
+            runs_join();
+        }
+        Ok(())
+    }
+
+    /// Reads a piece to its end.
+    fn run_piece(&mut self, alloc: Global, piece: &'p str) -> Result<(), NoMemory>
+        requires between { IsBetween self.old }
+        requires valid { IsValid (state_of self.old) }
+        requires closed { EndsAtTag (chars piece.now) }
+        ensures between { OnOk result (IsBetween self.new) }
+        ensures valid { OnOk result (IsValid (state_of self.new)) }
+        ensures ran { OnOk result (RanOver (chars piece.now) self.old self.new) }
+    {
+        self.input = Cursor::of_str(piece);
+        self.read_piece(alloc)?;
+        if !self.is_used_up() {
+            return Err(NoMemory);
+        }
+        runs_stay_valid();
+        Ok(())
+    }
+
+    /// Whether nothing of the piece is left.
+    fn is_used_up(&self) -> bool
+        ensures { result ≡ true → self.now.input.text ≡ [] }
+    {
+        self.input.peek().is_none()
+    }
+
+    /// Reads what is left of the piece.
+    fn read_piece(&mut self, alloc: Global) -> Result<(), NoMemory>
+        requires ready { IsReady self.old }
+        requires within { IsWithin self.old }
+        ensures at_end { OnOk result (IsAtEnd self.new) }
+        ensures reads { OnOk result ((piece : List ℕ) (from : ControlState) (before : List EditOf) → IsValid from → Reads piece from before self.old → HasEnded piece from before self.new) }
+    {
+        'steps: loop {
+            if !self.step(alloc)? {
+                return Ok(());
+            }
+        }
+    }
+
+    /// One step of the lexer, and what it calls for. Answers whether the piece goes on.
+    fn step(&mut self, alloc: Global) -> Result<bool, NoMemory>
+        requires ready { IsReady self.old }
+        requires within { IsWithin self.old }
+        ensures steps { IfOk result (StepsOn self.old self.new) }
+        ensures reads { IfOk result (λ more. (piece : List ℕ) (from : ControlState) (before : List EditOf) → IsValid from → Reads piece from before self.old → ReadsOn piece from before self.new more) }
+    {
+        hp_model::at_once();
+        hp_lexer::steps_fall();
+        never_asked();
+        match self.lexer.next(alloc, &mut self.input)? {
+            Step::Tokens { tokens, .. } => {
+                self.handle(alloc, tokens)?;
+                Ok(true)
+            }
+            Step::AskCdata => {
+                let foreign = is_foreign(alloc, &mut self.view)?;
+                self.lexer.answer_cdata(foreign);
+                Ok(true)
+            }
+            // The name was told with the state, so that it isn't asked.
+            Step::AskLastTag => unreachable!(),
+            Step::AtCut => Ok(false),
+        }
+    }
+
+    /// Handles the tokens of a step.
+    fn handle(&mut self, alloc: Global, tokens: Tokens<'p>) -> Result<(), NoMemory>
+        requires asked { self.old.lexer.asked ≡ asked.Nothing }
+        requires known { IsKnown (split_of self.old.view) }
+        requires read { AllRead tokens }
+        requires runs { AreRuns tokens }
+        ensures { OnOk result (Took self.old self.new tokens.entry) }
+    {
+        let mut tokens = tokens;
+        if tokens.len() != 1 {
+            collect_all(alloc, &mut self.view, tokens)?;
+            return Ok(());
+        }
+        match tokens.pop() {
+            Some(token) => {
+                self.handle_only(alloc, token)?;
+                Ok(())
+            }
+            None => Err(NoMemory),
+        }
+    }
+
+    /// Handles the only token of a step, and switches the lexer where a tag calls for that.
+    fn handle_only(&mut self, alloc: Global, token: Token<'p>) -> Result<(), NoMemory>
+        requires asked { self.old.lexer.asked ≡ asked.Nothing }
+        requires known { IsKnown (split_of self.old.view) }
+        requires read { IsRead token }
+        requires runs { AreRuns (token ∷ []) }
+        ensures { OnOk result (Took self.old self.new (token.entry ∷ [])) }
+    {
+        hp_model::at_once();
+        hp_lexer::steps_fall();
+        let is_text = is_character(&token);
+        let switch = collect(alloc, &mut self.view, token)?;
+        match switch {
+            None => Ok(()),
+            Some(rest) => {
+                if is_text {
+                    return Err(NoMemory);
+                }
+                self.lexer.switch(rest);
+                Ok(())
+            }
+        }
+    }
+
+    /// The state that was reached, and the edits that led there.
+    pub fn into_parts(self, alloc: Global) -> Result<(Control, Edits<'p>), NoMemory>
+        requires asked { self.lexer.asked ≡ asked.Nothing }
+        requires valid { IsValid (state_of self) }
+        ensures state { IfOk result (λ parts. parts.0 ≡ state_of self.entry) }
+        ensures edits { IfOk result (λ parts. parts.1 ≡ edits_in self.entry) }
+    {
+        let Running { lexer, view, .. } = self;
+        ended(alloc, &lexer, view)
+    }
+}
+
+/// The state of this lexer and of this view, and the view's edits.
+fn ended<'p>(
+    alloc: Global,
+    lexer: &Lexer,
+    view: View<'p, Nothing>,
+) -> Result<(Control, Edits<'p>), NoMemory>
+    requires asked { lexer.now.asked ≡ asked.Nothing }
+    requires valid { IsValid (with_lexer lexer.now.lex (control_of (split_of view))) }
+    ensures state { IfOk result (λ parts. parts.0 ≡ with_lexer lexer.now.lex (control_of (split_of view.entry))) }
+    ensures edits { IfOk result (λ parts. parts.1 ≡ edits_of (split_of view.entry)) }
+{
+    let lex = lexer.state(alloc)?;
+    let (control, edits) = view.into_control(lex);
+    let edits = told_all(alloc, edits)?;
+    Ok((control, edits))
+}
