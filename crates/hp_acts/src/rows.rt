@@ -95,6 +95,7 @@ pub(crate) fn foreign_row(token: &Token<'_>) -> Row
 
 impl Row {
     /// The act of the row at that place; none where the row has no act there.
+    #[inline(always)]
     pub(crate) fn act(self, at: u32) -> Option<Act>
         ensures value { result ≡ slice_get self.acts at }
         ensures planned { IfSome result (λ act. is_planned act ≡ true) }
@@ -104,6 +105,7 @@ impl Row {
         self.act_at(at)
     }
 
+    #[inline(always)]
     fn act_at(self, at: u32) -> Option<Act>
         ensures { result ≡ slice_get self.acts at }
     {

@@ -295,6 +295,7 @@ fn most_turns(elements: usize) -> u128
 }
 
 /// Handles a token until no rule asks for it again.
+#[inline(never)]
 fn take_turns<'p, B: Below>(
     alloc: Global,
     view: &mut View<'p, B>,
@@ -316,6 +317,7 @@ fn take_turns<'p, B: Below>(
 
 /// Handles one token whole: dispatch, the rows of the rules with their acts, and again where the rules say so. A line feed that
 /// is to be dropped isn't handled. After a refusal the view is spent.
+#[inline(always)]
 pub fn handle<'p, B: Below>(
     alloc: Global,
     view: &mut View<'p, B>,
