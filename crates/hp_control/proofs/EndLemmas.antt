@@ -1,9 +1,9 @@
 -- Where the walks from a stack's elements end, as the stack changes.
-use Rattle.std.proofs.Common.{◌≡◌, ℕ, zero, suc, ◌+◌, ◌-◌, ◌<◌, ◌≤◌, List, [], ◌∷◌, ◌++◌, length, take, drop, get_or, set, refl, ap, sym, subst, ◌∙◌, arith, drop-cons, drop_at, length-append, length-drop}
+use Rattle.std.proofs.Common.{◌≡◌, ℕ, zero, suc, ◌+◌, ◌-◌, ◌<◌, List, [], ◌∷◌, ◌++◌, length, take, drop, get_or, set, refl, ap, sym, subst, ◌∙◌, arith, drop-cons, drop_at, length-append, length-drop}
 use Rattle.std.proofs.lemmas.List.{drop-set, length-take-le}
 use Rattle.hp_control.specs.declared.element.OpenElement.{OpenElement}
 use Rattle.hp_control.specs.declared.open_elements.WalkEnd.{WalkEnd}
-use Rattle.hp_control.specs.Ends.{end_of, end_from, paragraph_from, paragraph_end, paragraph_ends, AreEnds, first_end}
+use Rattle.hp_control.specs.Ends.{paragraph_from, paragraph_end, paragraph_ends, AreEnds, first_end}
 
 counted : (xs : List OpenElement) → length (paragraph_ends xs) ≡ length xs
 counted [] = refl

@@ -1,4 +1,4 @@
-use Rattle.std.proofs.Common.{◌≡◌, ◌∷◌, arith}
+use Rattle.std.proofs.Common.{◌≡◌, arith}
 use Rattle.hp_control.specs.Ends.{paragraph_from, paragraph_end}
 use Rattle.hp_control.proofs.EndLemmas.{ends_put}
 use Rattle.hp_control.proofs.open_elements.OpenElements.push.Goals as goal

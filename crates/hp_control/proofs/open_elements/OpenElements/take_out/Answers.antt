@@ -1,4 +1,4 @@
-use Rattle.std.proofs.Common.{◌≡◌, ◌<◌, length, ap, arith}
+use Rattle.std.proofs.Common.{◌<◌, length, ap, arith}
 use Rattle.hp_control.proofs.EndLemmas.{ends_under, ends_without}
 use Rattle.hp_control.proofs.open_elements.OpenElements.take_out.Goals as goal
 
