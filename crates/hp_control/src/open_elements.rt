@@ -90,6 +90,7 @@ impl OpenElements {
     }
 
     /// The number of elements.
+    #[inline(always)]
     pub fn len(&self) -> usize
         ensures { result ≡ length self.now }
     {
@@ -97,6 +98,7 @@ impl OpenElements {
     }
 
     /// Whether there is no element.
+    #[inline(always)]
     pub fn is_empty(&self) -> bool
         ensures { result ≡ (length self.now == 0) }
     {
@@ -104,6 +106,7 @@ impl OpenElements {
     }
 
     /// The element at a depth; the current node is at 0.
+    #[inline(always)]
     pub fn at(&self, depth: usize) -> &OpenElement
         requires { depth < length self.now }
         ensures { result.now ≡ slice_index_or self.now depth result.now }
@@ -112,6 +115,7 @@ impl OpenElements {
     }
 
     /// Whether a p element is in button scope, as far as these elements tell.
+    #[inline]
     #[tactic(auto, using(crate::proofs::EndLemmas::ends_first))]
     pub fn paragraph(&self) -> WalkEnd
         ensures { result ≡ paragraph_end self.now }

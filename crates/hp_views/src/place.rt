@@ -138,6 +138,7 @@ impl<'p, B: Below> View<'p, B> {
     }
 
     /// The appropriate place for inserting a node; `fostering` says that it may not stand in a table.
+    #[inline(always)]
     pub fn place(&mut self, alloc: Global, fostering: bool) -> Result<Place, Refusal>
         ensures { Answers result (sight B.heard self.old) (sight B.heard self.new) (place_plan fostering) }
     {
