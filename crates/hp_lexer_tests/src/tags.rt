@@ -193,7 +193,8 @@ impl Run {
         if !self.straight || self.state.ahead.len_bytes() > input.place() {
             return Ok(());
         }
-        if let Some(tag) = next_tag(alloc, &mut self.state, input, &mut self.rested)? {
+        let state = &mut self.state;
+        if let Some(tag) = next_tag(alloc, &self.names, state, input, &mut self.rested)? {
             let began = self.rested.wrapping_sub(ORIGIN).wrapping_add(self.start);
             self.teller.tell(&tag, began)?;
         }
