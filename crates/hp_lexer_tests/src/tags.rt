@@ -77,6 +77,7 @@ const CASES: &[Case] = &[
         "<a\u{fffd} \u{fffd}=\u{fffd} c=\u{fffd}>@0$",
     ),
     ("<a b=c&#65>x", "<a b=cA>@0[x]$"),
+    ("<a b='&lt;x&gt;' c=\"&amp;&amp;\">", "<a b=<x> c=&&>@0$"),
     ("<p><q></q></p>", "<p>@0<q>@3</q>@6</p>@10$"),
     ("&am", "[&am]$"),
     ("&amp", "[&]$"),
