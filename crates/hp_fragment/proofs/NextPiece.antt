@@ -1,7 +1,7 @@
 -- The next piece of a page.
 use Rattle.std.proofs.Common.{◌≡◌, ℕ, ◌^◌, List, [], ◌++◌, ap, ◌∙◌, sym, subst}
 use Rattle.std.specs.Str.{chars}
-use Rattle.hp_names.specs.References.{Reference}
+use Rattle.hp_names.specs.BuiltIn.{built_in}
 use Rattle.hp_tokens.specs.Advancing.{held}
 use Rattle.hp_tokens.specs.Runs.{followed_by as more_unread}
 use Rattle.hp_control.specs.States.{ControlState}
@@ -24,14 +24,14 @@ piece-ready old new at_end lexer place builder = record {
 }
 
 -- the next piece of the page
-pub piece-taken : (refs : List Reference) (page : List ℕ) (old new : Parsing) (piece : List ℕ) → HasEnded refs page old → old.input.text ≡ [] → old.lexer.lex.ahead ≡ [] → chars old.later.now ≡ piece ++ chars new.later.now
-    → EndsAtTag piece → new.lexer ≡ old.lexer → new.input.text ≡ piece → new.builder ≡ old.builder → Reads refs page new
-piece-taken refs page old new piece ended used ahead cut closed lexer input builder = record {
+pub piece-taken : (page : List ℕ) (old new : Parsing) (piece : List ℕ) → HasEnded page old → old.input.text ≡ [] → old.lexer.lex.ahead ≡ [] → chars old.later.now ≡ piece ++ chars new.later.now
+    → EndsAtTag piece → new.lexer ≡ old.lexer → new.input.text ≡ piece → new.builder ≡ old.builder → Reads page new
+piece-taken page old new piece ended used ahead cut closed lexer input builder = record {
   edits = ended.reads.edits;
-  read = subst (λ (c : ControlState). HasRead refs page (stands new.lexer new.input) (chars new.later.now) c ended.reads.edits) (ap control_of (sym builder))
-      (like-on refs page (more_unread (stands old.lexer old.input) piece) (stands new.lexer new.input) (chars new.later.now) (control_of old.builder) ended.reads.edits
-      (piece-on refs page (stands old.lexer old.input) piece (chars new.later.now) (control_of old.builder) ended.reads.edits
-      (subst (λ (t : List ℕ). HasRead refs page (stands old.lexer old.input) t (control_of old.builder) ended.reads.edits) cut ended.reads.read))
+  read = subst (λ (c : ControlState). HasRead built_in page (stands new.lexer new.input) (chars new.later.now) c ended.reads.edits) (ap control_of (sym builder))
+      (like-on built_in page (more_unread (stands old.lexer old.input) piece) (stands new.lexer new.input) (chars new.later.now) (control_of old.builder) ended.reads.edits
+      (piece-on built_in page (stands old.lexer old.input) piece (chars new.later.now) (control_of old.builder) ended.reads.edits
+      (subst (λ (t : List ℕ). HasRead built_in page (stands old.lexer old.input) t (control_of old.builder) ended.reads.edits) cut ended.reads.read))
       (record { machine = ap (λ (l : Lexer). opened l.asked l.lex.machine) lexer; unread = unread ∙ sym front }));
   grown = ap grown builder ∙ ended.reads.grown;
   closed = subst EndsAtTag (sym unread) closed;

@@ -5,8 +5,6 @@ mod builder;
 mod last;
 mod parsing;
 mod pieces;
-#[cfg(test)]
-mod tests;
 mod whole;
 
 pub use hp_elements::NoMemory;
