@@ -125,3 +125,9 @@ pub never_asked : (text : List ℕ) (s : ControlState) (p : Parser) (es : List E
     → move (table built_in) p.lexing ≡ asks_last_tag → ⊥
 never_asked text s p es v g e =
     subst (MoveKeeps p.lexing.machine.state p.lexing.unread) e (move_keeps p.lexing (goes_keep g (from_parts s.lex.machine v.lex.parts v.lex.last_tag)))
+
+-- where more text is needed, what was read ahead may go on
+pub rests-ahead : (text : List ℕ) (s : ControlState) (p : Parser) (es : List Edit) → IsValid s → Goes (step (table built_in)) (followed_by (parser_in s) text) es p
+    → move (table built_in) p.lexing ≡ needs_more → may_be_ahead p.lexing.machine.state p.lexing.unread ≡ true
+rests-ahead text s p es v g e =
+    subst (MoveKeeps p.lexing.machine.state p.lexing.unread) e (move_keeps p.lexing (goes_keep g (from_parts s.lex.machine v.lex.parts v.lex.last_tag)))
