@@ -38,6 +38,11 @@ pub record Reads (page : List ℕ) (p : Parsing) : Type 0 where
   pub closed : EndsAtTag (stands p.lexer p.input).unread
   pub names : p.lexer.names ≡ built_in
 
+-- some run over a page has come there
+pub record IsWithin (p : Parsing) : Type 0 where
+  pub page : List ℕ
+  pub reads : Reads page p
+
 -- the piece is used up
 pub record HasEnded (page : List ℕ) (p : Parsing) : Type 0 where
   pub reads : Reads page p

@@ -15,16 +15,17 @@ ghost use Rattle.hp_model.specs.Whole.{IsRead};
 ghost use Rattle.hp_run.specs.Pages.{IsTreeOf};
 ghost use Rattle.hp_steps.specs.Handling.{AllRead};
 ghost use Rattle.hp_fragment.specs.Building.{IsBuilder, HandledLast};
-ghost use Rattle.hp_fragment.specs.Reading.{IsReady, IsAtEnd, Reads, HasEnded, HasReadAll, StepsOn, ReadsOn, TakesPiece, ReadsPiece, Took, TookText, Tried};
+ghost use Rattle.hp_fragment.specs.Reading.{IsReady, IsAtEnd, IsWithin, Reads, HasEnded, HasReadAll, StepsOn, ReadsOn, TakesPiece, ReadsPiece, Took, TookText, Tried};
 
 use crate::NoMemory;
 use crate::builder::Builder;
 use crate::last::{is_start, of_page};
-use crate::pieces::cut;
+use crate::laws::{never_asked, rests_ahead};
 use hp_arena::Tree;
 use hp_control::Control;
 use hp_elements::{Rest, Text, Token, Tokens};
 use hp_lexer::{Cursor, Lexer, Step};
+use hp_pieces::cut;
 use hp_text::Page;
 use hp_tokens::{LexState, Machine, OwnedText};
 use std::alloc::Global;
@@ -59,12 +60,13 @@ impl<'p> Parsing<'p> {
     /// Reads the page to its end.
     pub fn run(&mut self, alloc: Global) -> Result<(), NoMemory>
         requires ready { IsReady self.old }
+        requires within { IsWithin self.old }
         ensures at_end { OnOk result (IsAtEnd self.new) }
         ensures reads { OnOk result ((page : List ℕ) → Reads page self.old → HasReadAll page self.new) }
     {
         'pieces: loop {
             self.read_piece(alloc)?;
-            if !self.take_piece()? {
+            if !self.take_piece() {
                 return Ok(());
             }
         }
@@ -73,6 +75,7 @@ impl<'p> Parsing<'p> {
     /// Reads the piece to its end.
     fn read_piece(&mut self, alloc: Global) -> Result<(), NoMemory>
         requires ready { IsReady self.old }
+        requires within { IsWithin self.old }
         ensures at_end { OnOk result (IsAtEnd self.new) }
         ensures later { OnOk result (self.new.later ≡ self.old.later) }
         ensures reads { OnOk result ((page : List ℕ) → Reads page self.old → HasEnded page self.new) }
@@ -85,21 +88,19 @@ impl<'p> Parsing<'p> {
     }
 
     /// Goes on with the next piece of the page. Answers whether there is one.
-    fn take_piece(&mut self) -> Result<bool, NoMemory>
+    fn take_piece(&mut self) -> bool
         requires at_end { IsAtEnd self.old }
-        ensures takes { IfOk result (TakesPiece self.old self.new) }
-        ensures reads { IfOk result (λ more. (page : List ℕ) → HasEnded page self.old → ReadsPiece page self.new more) }
+        ensures takes { TakesPiece self.old self.new result }
+        ensures reads { (page : List ℕ) → HasEnded page self.old → ReadsPiece page self.new result }
     {
+        rests_ahead();
         if self.is_last() {
-            return Ok(false);
-        }
-        if !self.holds_nothing() {
-            return Err(NoMemory);
+            return false;
         }
         let (piece, later) = cut(self.later);
         self.input = Cursor::of_str(piece);
         self.later = later;
-        Ok(true)
+        true
     }
 
     /// Whether nothing follows the piece.
@@ -110,16 +111,10 @@ impl<'p> Parsing<'p> {
         self.later.is_empty()
     }
 
-    /// Whether the lexer has read nothing ahead.
-    fn holds_nothing(&self) -> bool
-        ensures { result ≡ true → self.now.lexer.lex.ahead ≡ [] }
-    {
-        self.lexer.lex.ahead.is_empty()
-    }
-
     /// One step of the lexer, and what it calls for. Answers whether the piece goes on.
     fn step(&mut self, alloc: Global) -> Result<bool, NoMemory>
         requires ready { IsReady self.old }
+        requires within { IsWithin self.old }
         ensures steps { IfOk result (StepsOn self.old self.new) }
         ensures reads { IfOk result (λ more. (page : List ℕ) → Reads page self.old → ReadsOn page self.new more) }
     {
@@ -143,6 +138,7 @@ impl<'p> Parsing<'p> {
     /// One step where the piece isn't known to be used up.
     fn go_on(&mut self, alloc: Global) -> Result<bool, NoMemory>
         requires ready { IsReady self.old }
+        requires within { IsWithin self.old }
         ensures steps { IfOk result (StepsOn self.old self.new) }
         ensures reads { IfOk result (λ more. (page : List ℕ) → Reads page self.old → ReadsOn page self.new more) }
     {
@@ -211,11 +207,13 @@ impl<'p> Parsing<'p> {
     #[inline(never)]
     fn step_by_table(&mut self, alloc: Global) -> Result<bool, NoMemory>
         requires ready { IsReady self.old }
+        requires within { IsWithin self.old }
         ensures steps { IfOk result (StepsOn self.old self.new) }
         ensures reads { IfOk result (λ more. (page : List ℕ) → Reads page self.old → ReadsOn page self.new more) }
     {
         hp_model::at_once();
         hp_lexer::steps_fall();
+        never_asked();
         match self.lexer.next(alloc, &mut self.input)? {
             Step::Tokens { tokens, .. } => {
                 self.handle(alloc, tokens)?;
@@ -227,7 +225,7 @@ impl<'p> Parsing<'p> {
                 Ok(true)
             }
             // The page's lexer was told a name, so that it asks for none.
-            Step::AskLastTag => Err(NoMemory),
+            Step::AskLastTag => unreachable!(),
             Step::AtCut => Ok(false),
         }
     }

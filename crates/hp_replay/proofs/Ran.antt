@@ -34,7 +34,7 @@ use Rattle.hp_pieces.proofs.HandlingLex.{goes-leave}
 use Rattle.hp_replay.specs.Collecting.{IsKnown, control_of, edits_of}
 use Rattle.hp_replay.specs.Reading.{HasEnded, IsAtEnd, IsBetween, IsReady, IsWithin, RanOver, Reads, control_in, edits_in, state_of}
 use Rattle.hp_replay.specs.declared.running.Running.{Running}
-use Rattle.hp_replay.proofs.Ahead.{ahead-ends}
+use Rattle.hp_pieces.proofs.Ahead.{ahead-ends}
 use Rattle.hp_replay.proofs.Ended.{told-fixed}
 
 -- before a piece the lexer may be called

@@ -1,5 +1,5 @@
 // The run of the sequential parser over a text from a known state.
-ghost use Rattle.std.specs.Prelude.{◌≡◌, ℕ, List, [], IfOk, OnOk};
+ghost use Rattle.std.specs.Prelude.{◌≡◌, ◌≢◌, ℕ, List, [], true, false, IfOk, OnOk};
 ghost use Rattle.std.specs.Str.{chars};
 ghost use Rattle.hp_tokens.specs.Advancing.{AreRuns};
 ghost use Rattle.hp_control.specs.States.{ControlState, IsValid};
@@ -16,11 +16,11 @@ ghost use Rattle.hp_replay.specs.Reading.{edits_in, state_of, HasEnded, IsAtEnd,
 use crate::NoMemory;
 use crate::collecting::{apart, collect, is_foreign};
 use crate::laws::{never_asked, runs_join, runs_stay_valid};
-use crate::pieces::{cut, is_over};
 use crate::told::told_all;
 use hp_control::{Control, Edits, Nothing};
 use hp_elements::{Token, Tokens};
 use hp_lexer::{Cursor, Lexer, Step};
+use hp_pieces::cut;
 use hp_views::View;
 use std::alloc::Global;
 
@@ -180,4 +180,12 @@ fn ended<'p>(
     let (control, edits) = view.into_control(lex);
     let edits = told_all(alloc, edits)?;
     Ok((control, edits))
+}
+
+/// Whether nothing of the text is left.
+fn is_over(text: &str) -> bool
+    ensures done { result ≡ true → text.now ≡ [] }
+    ensures more { result ≡ false → text.now ≢ [] }
+{
+    text.is_empty()
 }

@@ -20,5 +20,5 @@ returns-clause-takes c = (
 
 pub returns-clause-reads : goal.returns-clause-reads
 returns-clause-reads c = λ page ended.
-    piece-taken page c.args.self.now _ (chars c.cut.result.0.now) ended (c.requires.at_end.used) (c.holds_nothing.ensures (search rules))
+    piece-taken c.rests_ahead.ensures page c.args.self.now _ (chars c.cut.result.0.now) ended c.requires.at_end.used
     c.cut.ensures.whole c.cut.ensures.closed refl (ap (λ (u : Unread). u.text) c.of_str-self.ensures) refl
