@@ -1,7 +1,5 @@
 //! Pages, and how many elements their trees have, with the document.
-ghost use Rattle.std.specs.Prelude.{◌≡◌};
-
-use crate::parse_whole;
+use hp_fragment::parse_whole;
 use hp_text::check_page;
 use std::test::Fail;
 

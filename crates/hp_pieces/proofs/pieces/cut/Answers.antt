@@ -1,8 +1,8 @@
 use Rattle.std.proofs.Common.{◌+◌, sym, ap, ◌∙◌, append-nil, ◌++◌}
 use Rattle.std.specs.Str.{chars}
 use Rattle.std.proofs.lemmas.Str.{chars-nil}
-use Rattle.hp_replay.proofs.Cutting.{boundary-behind, cut-closed, cut-whole, ends-chars, first-of, none-of, unfound-ends}
-use Rattle.hp_replay.proofs.pieces.cut.Goals as goal
+use Rattle.hp_pieces.proofs.Cutting.{boundary-behind, cut-closed, cut-whole, ends-chars, first-of, none-of, unfound-ends}
+use Rattle.hp_pieces.proofs.pieces.cut.Goals as goal
 
 pub split_at-requires : goal.split_at-requires
 split_at-requires c =
