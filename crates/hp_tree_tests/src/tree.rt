@@ -1,7 +1,6 @@
 //! Trees that edits make, read back.
 
-use crate::links::Node;
-use crate::{NodeView, Runs, Tree};
+use hp_arena::{NodeView, Runs, Tree};
 use hp_control::{Child, Edit, Edits, Place, Ref};
 use hp_elements::{
     Attribute, AttributeSpace, Chain, Doctype, DoctypeParts, Known, Name, Namespace, Tag, Text,
@@ -295,9 +294,4 @@ fn readers_come_to_contents(rt: HostRuntime) -> Result<(), Fail> {
     assert!(rt; matches!(tree.view(inner), NodeView::Element { id: 2, .. }));
     assert!(rt; tree.contents(inner).is_none());
     Ok(())
-}
-
-#[test]
-fn a_node_takes_16_bytes(rt: HostRuntime) {
-    assert!(rt; size_of::<Node>() == 16);
 }

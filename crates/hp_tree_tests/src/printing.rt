@@ -1,12 +1,12 @@
 //! Trees that edits make, printed.
 
-use crate::print_tree;
 use hp_arena::Tree;
 use hp_control::{Child, Edit, Edits, Place, Ref};
 use hp_elements::{
     Attribute, AttributeSpace, Chain, Doctype, DoctypeParts, Known, Name, Namespace, NoMemory, Tag,
     Text,
 };
+use hp_print::print_tree;
 use std::alloc::Global;
 use std::mem;
 use std::process::Abort;

@@ -1,5 +1,5 @@
 use Rattle.hp_print.proofs.Pieces.{prints_then}
-use Rattle.hp_print.proofs.attributes.print_attribute.Goals as goal
+use Rattle.hp_print.proofs.attributes.print_deep.Goals as goal
 
 pub returns : goal.returns
 returns c =
