@@ -12,7 +12,9 @@ ghost use Rattle.hp_adoption.specs.Turning.{Turns, last_within, seat_depth};
 
 use crate::adopting::{Tangle, untangle};
 use crate::entries::strike;
-use hp_control::{Below, Crossing, EntryKind, FormattingEntry, OpenElements, Refusal, is_within};
+use hp_control::{
+    Below, Crossing, EntryKind, FormattingEntry, OpenElements, Refusal, Stack, is_within,
+};
 use hp_elements::{Kinds, Name, NoMemory, SetName, Tag};
 use hp_views::{View, Walk, name_walk, older_listed, open_walk};
 use std::alloc::Global;
