@@ -5,12 +5,12 @@ ghost use Rattle.hp_views.specs.Walks.{IsWithin};
 ghost use Rattle.hp_adoption.specs.ReconPlans.{is_settled as spec_is_settled, stale_walk as spec_stale_walk, renew_plan, renew_down_plan, reconstruct_plan};
 
 use crate::elements::point_of;
-use hp_control::{Below, Change, Crossing, FormattingEntry, OpenElement, Refusal, Stack};
+use hp_control::{Below, Change, Crossing, FormattingEntry, OpenElements, Refusal};
 use hp_views::{View, Walk, older_quiet, open_walk};
 use std::alloc::Global;
 
 /// Whether the entry is a marker or its element is open.
-fn is_settled(stack: &Stack<OpenElement>, entry: &FormattingEntry) -> bool
+fn is_settled(stack: &OpenElements, entry: &FormattingEntry) -> bool
     ensures { result ≡ spec_is_settled stack.now entry.now }
 {
     match entry {
@@ -19,7 +19,7 @@ fn is_settled(stack: &Stack<OpenElement>, entry: &FormattingEntry) -> bool
     }
 }
 
-fn is_open(stack: &Stack<OpenElement>, id: u64) -> bool
+fn is_open(stack: &OpenElements, id: u64) -> bool
     ensures { result ≡ is_found (id_walk id stack.now) }
 {
     match open_walk(stack, id) {
@@ -47,6 +47,7 @@ fn stale_walk(change: &Change) -> Walk
 
 /// Makes the element of an own entry anew.
 #[tactic(auto, using(crate::proofs::Renewing::got, crate::proofs::Renewing::put_back, crate::proofs::Renewing::past_end, crate::proofs::Renewing::set_twice))]
+#[inline(never)]
 fn renew<'p, B: Below>(
     alloc: Global,
     view: &mut View<'p, B>,
@@ -76,6 +77,7 @@ fn renew<'p, B: Below>(
 }
 
 /// Makes the elements of so many own entries anew, the last entry's last.
+#[inline(always)]
 fn renew_down<'p, B: Below>(
     alloc: Global,
     view: &mut View<'p, B>,
@@ -107,6 +109,7 @@ pub fn reconstruct<'p, B: Below>(
 }
 
 /// The same where no own entry is a marker or open.
+#[inline(always)]
 fn reconstruct_below<'p, B: Below>(
     alloc: Global,
     view: &mut View<'p, B>,

@@ -27,6 +27,7 @@ pub struct Nothing;
 impl Below for Nothing {
     ghost heard = { λ _. record { says = answer_of nothing; kept = None } };
 
+    #[inline(always)]
     fn ask(&mut self, alloc: Global, question: Question) -> Result<Answer, NoMemory> {
         answer_nothing(alloc, &question)
     }

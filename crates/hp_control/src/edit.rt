@@ -113,6 +113,7 @@ impl<'p> Edits<'p> {
     }
 
     /// One more edit, made after the others.
+    #[inline(always)]
     pub fn push(&mut self, alloc: Global, edit: Edit<'p>) -> Result<(), AllocError>
         ensures ok { OnOk result (self.new ≡ self.old ++ edit.entry ∷ []) }
         ensures err { OnErr result (self.new ≡ self.old) }
@@ -175,6 +176,7 @@ impl<'p> Edits<'p> {
 }
 
 /// One more edit. At an `Err` the edits are as before.
+#[inline(always)]
 fn add<'p>(
     alloc: Global,
     edits: &mut Option<Vec<Edit<'p>>>,
@@ -198,6 +200,7 @@ fn add<'p>(
 ghost use Rattle.hp_control.specs.Held.{held};
 
 /// A `Vec` of one edit.
+#[inline(never)]
 fn one_edit<'p>(alloc: Global, edit: Edit<'p>) -> Result<Vec<Edit<'p>>, AllocError>
     ensures { IfOk result (λ items. items.items ≡ edit.entry ∷ []) }
 {

@@ -8,6 +8,7 @@ use crate::spelled::has_name;
 use hp_elements::{Kinds, Known, Namespace};
 
 /// Whether it is an HTML element.
+#[inline(always)]
 pub fn is_html(element: &OpenElement) -> bool
     ensures { result ≡ is_html element.now }
 {
@@ -25,6 +26,7 @@ pub fn is_named(known: Known, element: &OpenElement) -> bool
 }
 
 /// Whether the element is of these kinds.
+#[inline(always)]
 pub fn is_within(kinds: &Kinds, element: &OpenElement) -> bool
     ensures { result ≡ within kinds.now element.now }
 {

@@ -54,6 +54,7 @@ impl<T> Stack<T> {
 
 impl<T: Drop> Stack<T> {
     /// Puts an item on top. At an `Err`, which comes only for want of memory, the stack is as before and the item comes back.
+    #[inline(always)]
     pub fn push(&mut self, alloc: Global, item: T) -> Result<(), AllocFailed<T>>
         ensures ok { OnOk result (self.new ≡ item ∷ self.old) }
         ensures err { OnErr result (self.new ≡ self.old) }
@@ -76,6 +77,9 @@ impl<T: Drop> Stack<T> {
         requires { depth < length self.old }
         ensures { self.new ≡ take depth self.old ++ drop (depth + 1) self.old }
     {
+        if depth == 0 {
+            return self.drop_top(1);
+        }
         let at = self.items.len() - 1 - depth;
         let _ = self.items.remove(at);
     }

@@ -31,6 +31,7 @@ impl Kinds {
     ghost use Rattle.hp_elements.specs.Kinds.{is_of};
 
     /// Whether an element of that namespace, that name and that integration point is of the kind.
+    #[inline(always)]
     pub fn has(&self, namespace: Namespace, name: &Name, point: Point) -> bool
         ensures { result ≡ is_of self.now namespace name.now point }
     {

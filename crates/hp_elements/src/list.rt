@@ -110,7 +110,7 @@ impl<T> List<T> {
 
 impl<T: Drop> List<T> {
     /// Appends an item. At an `Err`, which comes only for want of memory, the list is as before and the item comes back.
-    #[inline]
+    #[inline(always)]
     pub fn push(&mut self, alloc: Global, item: T) -> Result<(), AllocFailed<T>>
         ensures ok { OnOk result (self.new ≡ self.old ++ item ∷ []) }
         ensures err { OnErr result (self.new ≡ self.old) }

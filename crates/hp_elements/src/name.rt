@@ -113,6 +113,7 @@ impl Name {
     }
 
     /// The name that a text has once its ASCII upper case letters are lowered.
+    #[inline(always)]
     pub fn from_lowered(alloc: Global, text: &str) -> Result<Name, AllocError>
         ensures { IfOk result (λ name. name ≡ lowered (chars text.now)) }
     {
@@ -141,7 +142,7 @@ impl Name {
     }
 
     /// Whether two names have the same text.
-    #[inline]
+    #[inline(always)]
     pub fn same(&self, other: &Name) -> bool
         ensures { IsTrue result ↔ (self.now ≡ other.now) }
     {
@@ -162,7 +163,7 @@ impl Name {
     }
 
     /// A name of the same text.
-    #[inline]
+    #[inline(always)]
     pub fn copy(&self, alloc: Global) -> Result<Name, AllocError>
         ensures { IfOk result (λ copy. copy ≡ self.now) }
     {

@@ -119,6 +119,7 @@ impl SetName {
     ghost use Rattle.hp_elements.specs.Sets.{turned};
 
     /// Whether the elements of that namespace and name are in the set.
+    #[inline(always)]
     pub fn has(self, namespace: Namespace, name: &Name) -> bool
         ensures { result ≡ in_set self namespace name.now }
     {
@@ -129,6 +130,7 @@ impl SetName {
     }
 
     /// Whether the elements of names that no list names are in the set.
+    #[inline(always)]
     fn has_others(self) -> bool
         ensures { result ≡ turned self false }
     {
@@ -140,6 +142,7 @@ impl SetName {
 }
 
 /// Whether the elements of that namespace and name are in the set. One look-up.
+#[inline(always)]
 pub fn is_in(set: SetName, namespace: Namespace, name: Known) -> bool
     ensures { result ≡ in_set set namespace (text_of name) }
 {
@@ -147,6 +150,7 @@ pub fn is_in(set: SetName, namespace: Namespace, name: Known) -> bool
 }
 
 /// The sets that the elements of a namespace and a known name are in.
+#[inline(always)]
 fn sets_of(namespace: Namespace, name: Known) -> u64
     ensures { result ≡ slice_index (masks_of namespace) (index_of name) }
 {

@@ -65,7 +65,7 @@ impl Machine {
     }
 
     /// Goes to a state. The parts that it does not use are emptied.
-    #[inline]
+    #[inline(always)]
     pub fn enter(&mut self, state: State)
         ensures { self.new ≡ enter state self.old }
     {
@@ -85,7 +85,7 @@ impl Machine {
     }
 
     /// Drops what is built. Where nothing is, nothing is written, since to write it takes long.
-    #[inline]
+    #[inline(always)]
     fn build_nothing(&mut self)
         ensures { self.new ≡ record self.old { building = nothing_built } }
     {
