@@ -11,13 +11,13 @@ ghost use Rattle.std.specs.Str.{chars};
 
 use crate::turns::{Handled, NOTHING};
 use hp_adoption::reconstruct;
-use hp_control::{Below, Child, OpenElement, Refusal, Stack, is_html};
+use hp_control::{Below, Child, OpenElements, Refusal, is_html};
 use hp_elements::{CharClass, Mode, Text, Token};
 use hp_views::View;
 use std::alloc::Global;
 
 /// Whether the current node is an own HTML element.
-fn is_in_html(stack: &Stack<OpenElement>) -> bool
+fn is_in_html(stack: &OpenElements) -> bool
     ensures { result ≡ has_html_top stack.now }
 {
     !stack.is_empty() && is_html(stack.at(0))

@@ -10,7 +10,8 @@ use crate::climb::{Climb, own_ref};
 use crate::elements::element_for;
 use crate::entries::{follow, strike, supplant};
 use hp_control::{
-    Below, Change, Child, Edit, Edits, FormattingEntry, OpenElement, Place, Ref, Refusal, Stack,
+    Below, Change, Child, Edit, Edits, FormattingEntry, OpenElement, OpenElements, Place, Ref,
+    Refusal, Stack,
 };
 use hp_elements::{List, NoMemory, Tag};
 use hp_views::View;
@@ -39,11 +40,7 @@ struct Over {
 
 /// Takes the stack off down to the formatting element, and with it.
 #[tactic(auto, using(crate::proofs::Apart::none_below, crate::proofs::Apart::rest_below, crate::proofs::Apart::head_below, crate::proofs::Apart::between_of, crate::proofs::Apart::under_of, crate::proofs::Apart::above_of, crate::proofs::Apart::between_fits, crate::proofs::Apart::one_fits))]
-fn take_apart(
-    alloc: Global,
-    stack: &mut Stack<OpenElement>,
-    tangle: Tangle,
-) -> Result<Over, NoMemory>
+fn take_apart(alloc: Global, stack: &mut OpenElements, tangle: Tangle) -> Result<Over, NoMemory>
     requires block { tangle.block < tangle.depth }
     requires inside { tangle.depth < length stack.old }
     ensures above { IfOk result (λ over. over.above ≡ take tangle.block (take tangle.depth stack.old)) }
@@ -157,7 +154,7 @@ fn climbed<'p>(
 /// Puts the new element on what was kept of the block and the nodes, and what stood above the block on that.
 fn restack(
     alloc: Global,
-    stack: &mut Stack<OpenElement>,
+    stack: &mut OpenElements,
     kept: List<OpenElement>,
     element: OpenElement,
     above: List<OpenElement>,

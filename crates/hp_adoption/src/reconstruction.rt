@@ -5,12 +5,12 @@ ghost use Rattle.hp_views.specs.Walks.{IsWithin};
 ghost use Rattle.hp_adoption.specs.ReconPlans.{is_settled as spec_is_settled, stale_walk as spec_stale_walk, renew_plan, renew_down_plan, reconstruct_plan};
 
 use crate::elements::point_of;
-use hp_control::{Below, Change, Crossing, FormattingEntry, OpenElement, Refusal, Stack};
+use hp_control::{Below, Change, Crossing, FormattingEntry, OpenElements, Refusal};
 use hp_views::{View, Walk, older_quiet, open_walk};
 use std::alloc::Global;
 
 /// Whether the entry is a marker or its element is open.
-fn is_settled(stack: &Stack<OpenElement>, entry: &FormattingEntry) -> bool
+fn is_settled(stack: &OpenElements, entry: &FormattingEntry) -> bool
     ensures { result ≡ spec_is_settled stack.now entry.now }
 {
     match entry {
@@ -19,7 +19,7 @@ fn is_settled(stack: &Stack<OpenElement>, entry: &FormattingEntry) -> bool
     }
 }
 
-fn is_open(stack: &Stack<OpenElement>, id: u64) -> bool
+fn is_open(stack: &OpenElements, id: u64) -> bool
     ensures { result ≡ is_found (id_walk id stack.now) }
 {
     match open_walk(stack, id) {

@@ -13,14 +13,14 @@ ghost use Rattle.hp_adoption.specs.Turning.{Turns, last_within, seat_depth};
 use crate::adopting::{Tangle, untangle};
 use crate::entries::strike;
 use hp_control::{
-    Below, Crossing, EntryKind, FormattingEntry, OpenElement, Refusal, Stack, is_within,
+    Below, Crossing, EntryKind, FormattingEntry, OpenElements, Refusal, Stack, is_within,
 };
 use hp_elements::{Kinds, Name, NoMemory, SetName, Tag};
 use hp_views::{View, Walk, name_walk, older_listed, open_walk};
 use std::alloc::Global;
 
 /// Whether an element of these kinds stands above that depth.
-fn is_above(kinds: &Kinds, stack: &Stack<OpenElement>, depth: usize) -> bool
+fn is_above(kinds: &Kinds, stack: &OpenElements, depth: usize) -> bool
     requires { depth ≤ length stack.now }
     ensures { result ≡ list_any (within kinds.now) (take depth stack.now) }
 {
@@ -33,7 +33,7 @@ fn is_above(kinds: &Kinds, stack: &Stack<OpenElement>, depth: usize) -> bool
 }
 
 /// Whether an end of a scope stands above that depth.
-fn hides(stack: &Stack<OpenElement>, depth: usize) -> bool
+fn hides(stack: &OpenElements, depth: usize) -> bool
     requires { depth ≤ length stack.now }
     ensures { result ≡ spec_hides (take depth stack.now) }
 {
@@ -41,7 +41,7 @@ fn hides(stack: &Stack<OpenElement>, depth: usize) -> bool
 }
 
 /// The depth of the element of these kinds above that depth that is nearest to it.
-fn last_above(kinds: &Kinds, stack: &Stack<OpenElement>, depth: usize) -> Option<usize>
+fn last_above(kinds: &Kinds, stack: &OpenElements, depth: usize) -> Option<usize>
     requires { depth ≤ length stack.now }
     ensures found { result ≡ last_within (within kinds.now) (take depth stack.now) }
     ensures above { IfSome result (λ block. block < depth) }
@@ -56,7 +56,7 @@ fn last_above(kinds: &Kinds, stack: &Stack<OpenElement>, depth: usize) -> Option
 }
 
 /// The depth of the special element above that depth that is nearest to it.
-fn furthest(stack: &Stack<OpenElement>, depth: usize) -> Option<usize>
+fn furthest(stack: &OpenElements, depth: usize) -> Option<usize>
     requires { depth ≤ length stack.now }
     ensures found { result ≡ seat_depth (spec_furthest (take depth stack.now)) }
     ensures above { IfSome result (λ block. block < depth) }

@@ -2,6 +2,7 @@ pub mod Rooms
 pub mod Reversed
 pub mod RestLemmas
 pub mod WalkLemmas
+pub mod EndLemmas
 pub mod NothingLemmas
 pub mod TextTests
 pub mod StartLemmas

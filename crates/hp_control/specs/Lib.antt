@@ -4,6 +4,7 @@ pub mod Tree
 pub mod States
 pub mod KindTests
 pub mod Walks
+pub mod Ends
 pub mod Truth
 pub mod Viewing
 pub mod Parts

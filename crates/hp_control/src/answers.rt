@@ -3,7 +3,8 @@ ghost use Rattle.std.specs.Prelude.{◌≡◌, ◌+◌, ◌<◌, ◌^◌, IfOk, 
 ghost use Rattle.hp_control.specs.Truth.{answer_of, yes_or_no, depth_answer, away_or, pointer_answer, element_answer, entry_answer, rest_of, fact_answer, listed_answer};
 
 use crate::control::Control;
-use crate::element::{FormattingEntry, OpenElement};
+use crate::element::FormattingEntry;
+use crate::open_elements::OpenElements;
 use crate::question::{Answer, FactKind, Question};
 use crate::reset::reset_from;
 use crate::stack::Stack;
@@ -41,7 +42,7 @@ fn away_or(from: u64, found: Option<usize>) -> Answer
 }
 
 /// How the element of the form pointer stands.
-fn pointer_answer(stack: &Stack<OpenElement>, from: u64, form: Option<u64>) -> Answer
+fn pointer_answer(stack: &OpenElements, from: u64, form: Option<u64>) -> Answer
     ensures { result ≡ pointer_answer from form (drop from stack.now) }
 {
     match form {
@@ -51,7 +52,7 @@ fn pointer_answer(stack: &Stack<OpenElement>, from: u64, form: Option<u64>) -> A
 }
 
 /// The element at the depth.
-fn element_answer(alloc: Global, stack: &Stack<OpenElement>, depth: u64) -> Result<Answer, NoMemory>
+fn element_answer(alloc: Global, stack: &OpenElements, depth: u64) -> Result<Answer, NoMemory>
     ensures { IfOk result (λ answer. answer ≡ element_answer (slice_get stack.now depth)) }
 {
     let depth = depth as usize;
@@ -68,7 +69,7 @@ fn element_answer(alloc: Global, stack: &Stack<OpenElement>, depth: u64) -> Resu
 
 /// How the last entry of the name stands in the list from a place on.
 fn listed_answer(
-    stack: &Stack<OpenElement>,
+    stack: &OpenElements,
     depth: usize,
     list: &Stack<FormattingEntry>,
     from: usize,

@@ -2,7 +2,8 @@
 ghost use Rattle.std.specs.Prelude.{◌≡◌};
 ghost use Rattle.hp_control.specs.declared.change.Refusal.TheVariants as refusal;
 
-use crate::element::{FormattingEntry, OpenElement};
+use crate::element::FormattingEntry;
+use crate::open_elements::OpenElements;
 use crate::question::Crossing;
 use crate::stack::Stack;
 use hp_elements::{Mode, Text};
@@ -26,7 +27,7 @@ pub struct Change {
     /// How often the older formatting list was cleared up to its last marker.
     pub cuts: u64,
     /// The chunk's own elements, which stand on what is left.
-    pub stack: Stack<OpenElement>,
+    pub stack: OpenElements,
     /// The chunk's own entries, which stand on what is left.
     pub formatting: Stack<FormattingEntry>,
     pub lex: LexState,

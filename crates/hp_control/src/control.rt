@@ -2,7 +2,8 @@
 ghost use Rattle.std.specs.Prelude.{◌≡◌, IsTrue, ◌↔◌, IfOk};
 
 use crate::copies::{copy_list, copy_modes, copy_stack};
-use crate::element::{FormattingEntry, OpenElement};
+use crate::element::FormattingEntry;
+use crate::open_elements::OpenElements;
 use crate::sameness::{same_elements, same_entries, same_original, same_templates};
 use crate::stack::Stack;
 use hp_elements::{Mode, NoMemory, Rest, Text};
@@ -20,7 +21,7 @@ pub struct Control {
     pub original: Option<Mode>,
     pub templates: Stack<Mode>,
     /// The stack of open elements.
-    pub stack: Stack<OpenElement>,
+    pub stack: OpenElements,
     /// The list of active formatting elements.
     pub formatting: Stack<FormattingEntry>,
     pub head: Option<u64>,
@@ -60,7 +61,7 @@ impl Control {
             mode: Mode::Initial,
             original: None,
             templates: Stack::new(),
-            stack: Stack::new(),
+            stack: OpenElements::new(),
             formatting: Stack::new(),
             head: None,
             form: None,

@@ -2,6 +2,7 @@
 ghost use Rattle.std.specs.Prelude.{◌≡◌, IfOk};
 
 use crate::element::{FormattingEntry, OpenElement};
+use crate::open_elements::OpenElements;
 use crate::stack::Stack;
 use hp_elements::{Mode, NoMemory};
 use std::alloc::Global;
@@ -32,14 +33,11 @@ fn copy_entry(alloc: Global, entry: &FormattingEntry) -> Result<FormattingEntry,
 }
 
 /// The same stack once more.
-pub(crate) fn copy_stack(
-    alloc: Global,
-    stack: &Stack<OpenElement>,
-) -> Result<Stack<OpenElement>, NoMemory>
+pub(crate) fn copy_stack(alloc: Global, stack: &OpenElements) -> Result<OpenElements, NoMemory>
     ensures { IfOk result (λ copy. copy ≡ stack.now) }
 {
     let count = stack.len();
-    let mut copies = Stack::new();
+    let mut copies = OpenElements::new();
     for turn in 0..count {
         let copy = copy_element(alloc, stack.at(count - 1 - turn))?;
         copies.push(alloc, copy)?;

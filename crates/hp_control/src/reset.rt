@@ -4,6 +4,7 @@ ghost use Rattle.hp_control.specs.Walks.{mode_at, mode_of, is_cell, is_last, res
 
 use crate::element::OpenElement;
 use crate::kinds::{is_named, is_within};
+use crate::open_elements::OpenElements;
 use crate::stack::Stack;
 use crate::walks::reach_from;
 use hp_elements::{Kinds, Known, Mode, Name, SetName};
@@ -20,7 +21,7 @@ fn last_template_mode(templates: &Stack<Mode>) -> Mode
 }
 
 /// Whether a table comes from this depth down before a template.
-fn table_comes(stack: &Stack<OpenElement>, depth: usize) -> bool
+fn table_comes(stack: &OpenElements, depth: usize) -> bool
     ensures { result ≡ table_comes (drop depth stack.now) }
 {
     let table = Kinds::Html(Name::of_known(Known::Table));
@@ -55,7 +56,7 @@ fn is_cell(element: &OpenElement) -> bool
 }
 
 /// Whether no element stands at this depth.
-fn is_last(stack: &Stack<OpenElement>, depth: usize) -> bool
+fn is_last(stack: &OpenElements, depth: usize) -> bool
     ensures { result ≡ is_last (drop depth stack.now) }
 {
     if depth < stack.len() { false } else { true }
@@ -66,7 +67,7 @@ fn mode_at(
     has_head: bool,
     templates: &Stack<Mode>,
     element: &OpenElement,
-    stack: &Stack<OpenElement>,
+    stack: &OpenElements,
     below: usize,
 ) -> Option<Mode>
     ensures { result ≡ mode_at has_head templates.now element.now (drop below stack.now) }
@@ -122,7 +123,7 @@ fn mode_of(element: &OpenElement) -> Option<Mode>
 pub fn reset_from(
     has_head: bool,
     templates: &Stack<Mode>,
-    stack: &Stack<OpenElement>,
+    stack: &OpenElements,
     depth: usize,
 ) -> Mode
     ensures { result ≡ reset_mode has_head templates.now (drop depth stack.now) }

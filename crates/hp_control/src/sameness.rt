@@ -2,6 +2,7 @@
 ghost use Rattle.std.specs.Prelude.{◌≡◌, ◌↔◌, ◌<◌, IsTrue, length};
 
 use crate::element::{FormattingEntry, OpenElement};
+use crate::open_elements::OpenElements;
 use crate::stack::Stack;
 use hp_elements::Mode;
 
@@ -15,7 +16,7 @@ fn same_element(element: &OpenElement, other: &OpenElement) -> bool
 }
 
 /// Whether the two stacks have the same elements.
-pub(crate) fn same_elements(stack: &Stack<OpenElement>, other: &Stack<OpenElement>) -> bool
+pub(crate) fn same_elements(stack: &OpenElements, other: &OpenElements) -> bool
     ensures { IsTrue result ↔ (stack.now ≡ other.now) }
 {
     if stack.len() != other.len() {

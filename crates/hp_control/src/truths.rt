@@ -8,6 +8,7 @@ ghost use Rattle.hp_control.specs.Walks.{second_is_body, is_quiet, last_named};
 use crate::control::Control;
 use crate::element::{FormattingEntry, OpenElement};
 use crate::kinds::is_named;
+use crate::open_elements::OpenElements;
 use crate::question::{Answer, EntryKind, FactKind, Question};
 use crate::reset::reset_from;
 use crate::sameness::same_original;
@@ -73,7 +74,7 @@ fn is_below(from: u64, found: Option<usize>, depth: u64) -> bool
 }
 
 /// Whether the answer is how the element of the form pointer stands.
-fn is_pointer(stack: &Stack<OpenElement>, from: u64, form: Option<u64>, answer: &Answer) -> bool
+fn is_pointer(stack: &OpenElements, from: u64, form: Option<u64>, answer: &Answer) -> bool
     ensures { IsTrue result ↔ (pointer_answer from form (drop from stack.now) ≡ answer.now) }
 {
     match form {
@@ -93,7 +94,7 @@ fn is_away_or(from: u64, found: Option<usize>, answer: &Answer) -> bool
 }
 
 /// Whether the answer is the element at the depth.
-fn is_element(stack: &Stack<OpenElement>, depth: u64, answer: &Answer) -> bool
+fn is_element(stack: &OpenElements, depth: u64, answer: &Answer) -> bool
     ensures { IsTrue result ↔ (element_answer (slice_get stack.now depth) ≡ answer.now) }
 {
     let depth = depth as usize;
@@ -119,7 +120,7 @@ fn is_that_element(element: &OpenElement, answer: &Answer) -> bool
 }
 
 /// How the entry with this id stands.
-fn kind_at(stack: &Stack<OpenElement>, depth: usize, id: u64) -> EntryKind
+fn kind_at(stack: &OpenElements, depth: usize, id: u64) -> EntryKind
     ensures { result ≡ kind_at id (drop depth stack.now) }
 {
     if open_from(stack, depth, id).is_none() {
@@ -134,7 +135,7 @@ fn kind_at(stack: &Stack<OpenElement>, depth: usize, id: u64) -> EntryKind
 
 /// How the last entry of the name stands.
 pub(crate) fn kind_of(
-    stack: &Stack<OpenElement>,
+    stack: &OpenElements,
     depth: usize,
     list: &Stack<FormattingEntry>,
     from: usize,
@@ -150,7 +151,7 @@ pub(crate) fn kind_of(
 
 /// Whether the element at the depth has an entry.
 pub(crate) fn top_has_entry(
-    stack: &Stack<OpenElement>,
+    stack: &OpenElements,
     depth: usize,
     list: &Stack<FormattingEntry>,
     from: usize,
@@ -175,7 +176,7 @@ fn is_listed(kind: EntryKind, top: bool, answer: &Answer) -> bool
 
 /// Whether nothing below is to be reconstructed.
 pub(crate) fn is_quiet(
-    stack: &Stack<OpenElement>,
+    stack: &OpenElements,
     depth: usize,
     list: &Stack<FormattingEntry>,
     from: usize,
@@ -192,7 +193,7 @@ pub(crate) fn is_quiet(
 }
 
 /// Whether the second element is an HTML `body` that stands at the depth or below.
-pub(crate) fn second_is_body(stack: &Stack<OpenElement>, depth: usize) -> bool
+pub(crate) fn second_is_body(stack: &OpenElements, depth: usize) -> bool
     ensures { result ≡ second_is_body (drop depth stack.now) }
 {
     match second_place(stack.len(), depth) {

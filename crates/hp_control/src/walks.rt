@@ -6,20 +6,16 @@ ghost use Rattle.hp_elements.specs.declared.kinds.Kinds.TheVariants as of_kind;
 ghost use Rattle.hp_control.specs.States.{is_template};
 ghost use Rattle.hp_control.specs.Walks.{reach, run_of, open_at, scope_at, second_is_body, cleared, cleared_by, is_quiet, last_named, has_entry, equals_of};
 
-use crate::element::{FormattingEntry, OpenElement};
+use crate::element::FormattingEntry;
 use crate::kinds::{is_named, is_within};
+use crate::open_elements::OpenElements;
 use crate::spelled::same_name;
 use crate::stack::Stack;
 use crate::tags::same_tag;
 use hp_elements::{Kinds, Known, Name, SetName, Tag};
 
 /// How many elements stand from this depth down to the first that is a goal or a stop; `None` where that is no goal.
-pub fn reach_from(
-    stack: &Stack<OpenElement>,
-    depth: usize,
-    goals: &Kinds,
-    stops: &Kinds,
-) -> Option<usize>
+pub fn reach_from(stack: &OpenElements, depth: usize, goals: &Kinds, stops: &Kinds) -> Option<usize>
     ensures reach { result ≡ reach goals.now stops.now (drop depth stack.now) }
     ensures short { IfSome result (λ found. depth + found < 2 ^ 64) }
 {
@@ -36,7 +32,7 @@ pub fn reach_from(
 }
 
 /// How many elements from this depth on are of these kinds, one after the other.
-pub fn run_from(stack: &Stack<OpenElement>, depth: usize, names: &Kinds) -> usize
+pub fn run_from(stack: &OpenElements, depth: usize, names: &Kinds) -> usize
     ensures { result ≡ run_of names.now (drop depth stack.now) }
 {
     for at in depth..stack.len() {
@@ -48,7 +44,7 @@ pub fn run_from(stack: &Stack<OpenElement>, depth: usize, names: &Kinds) -> usiz
 }
 
 /// Whether an HTML `template` stands at this depth or below.
-pub fn has_template(stack: &Stack<OpenElement>, depth: usize) -> bool
+pub fn has_template(stack: &OpenElements, depth: usize) -> bool
     ensures { result ≡ list_any is_template (drop depth stack.now) }
 {
     for at in depth..stack.len() {
@@ -60,7 +56,7 @@ pub fn has_template(stack: &Stack<OpenElement>, depth: usize) -> bool
 }
 
 /// How many elements stand from this depth down to the one of this id.
-pub fn open_from(stack: &Stack<OpenElement>, depth: usize, id: u64) -> Option<usize>
+pub fn open_from(stack: &OpenElements, depth: usize, id: u64) -> Option<usize>
     ensures { result ≡ open_at id (drop depth stack.now) }
 {
     for at in depth..stack.len() {
@@ -72,7 +68,7 @@ pub fn open_from(stack: &Stack<OpenElement>, depth: usize, id: u64) -> Option<us
 }
 
 /// How many elements stand from this depth down to the one of this id, where no end of a scope stands above it.
-pub fn scope_from(stack: &Stack<OpenElement>, depth: usize, id: u64) -> Option<usize>
+pub fn scope_from(stack: &OpenElements, depth: usize, id: u64) -> Option<usize>
     ensures scope { result ≡ scope_at id (drop depth stack.now) }
     ensures short { IfSome result (λ found. depth + found < 2 ^ 64) }
 {

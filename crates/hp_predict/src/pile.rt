@@ -8,14 +8,14 @@ ghost use Rattle.hp_predict.specs.Guess.{entry, first_of, with_ends};
 ghost use Rattle.hp_predict.specs.Piling.{IsOf};
 
 use crate::name::TagName;
-use hp_control::{FormattingEntry, OpenElement, Stack};
+use hp_control::{FormattingEntry, OpenElement, OpenElements, Stack};
 use hp_elements::{Chain, Known, Mode, Namespace, NoMemory, Point, SetName, Tag};
 use std::alloc::Global;
 
 /// The parts of a state that its open elements decide.
 #[derive(Drop)]
 pub struct Pile {
-    pub stack: Stack<OpenElement>,
+    pub stack: OpenElements,
     pub formatting: Stack<FormattingEntry>,
     pub templates: Stack<Mode>,
     pub form: Option<u64>,
@@ -82,7 +82,7 @@ impl Pile {
         ensures none { result.stack ≡ [] }
     {
         Pile {
-            stack: Stack::new(),
+            stack: OpenElements::new(),
             formatting: Stack::new(),
             templates: Stack::new(),
             form: None,

@@ -15,7 +15,7 @@ ghost use Rattle.hp_predict.specs.Laws.{IsGuess};
 use crate::name::{TagName, has_name};
 use crate::open_names::read_tags;
 use crate::pile::piled;
-use hp_control::{Answer, Control, OpenElement, Predictor, Question, Stack, answer, reset_from};
+use hp_control::{Answer, Control, OpenElements, Predictor, Question, Stack, answer, reset_from};
 use hp_elements::{Known, Mode, Name, NoMemory, Rest, Text};
 use hp_text::Chunk;
 use hp_tokens::{LexState, Machine, OwnedText};
@@ -98,7 +98,7 @@ fn lex_for(alloc: Global, after_cr: bool, name: &Name) -> Result<LexState, NoMem
 /// The mode, and the one that it goes back to, where the current node has that name.
 fn modes_for(
     templates: &Stack<Mode>,
-    stack: &Stack<OpenElement>,
+    stack: &OpenElements,
     name: &Name,
 ) -> (Mode, Option<Mode>)
     ensures mode { result.0 ≡ (if spec_is_text name.now then modes.Text else reset_mode true templates.now stack.now) }

@@ -1,9 +1,7 @@
 //! Guesses as an independent model makes them, and what each predictor says.
 
 use crate::{Contrary, Prescan, Quiet};
-use hp_control::{
-    Answer, Control, FactKind, FormattingEntry, OpenElement, Predictor, Question, Stack, truth,
-};
+use hp_control::{Answer, Control, FactKind, FormattingEntry, OpenElements, Predictor, Question, Stack, truth};
 use hp_elements::{Chain, Kinds, Known, Mode, Name, Namespace, Rest, SetName, Tag};
 use hp_text::{Chunk, Page, check_page};
 use std::alloc::Global;
@@ -42,7 +40,7 @@ fn rest_of<'p>(rt: &impl Abort, page: Page<'p>, from: usize) -> Chunk<'p> {
     }
 }
 
-fn put_names(line: &mut String, stack: &Stack<OpenElement>) -> Result<(), Fail> {
+fn put_names(line: &mut String, stack: &OpenElements) -> Result<(), Fail> {
     for depth in 0..stack.len() {
         line.push_str(" ")?;
         line.push_str(stack.at(depth).name.as_str())?;

@@ -2,3 +2,4 @@ pub mod Ends
 pub mod Carrying
 pub mod Resetting
 pub mod Wholes
+pub mod Paragraphs

@@ -72,6 +72,7 @@ fn count_in(answer: &Answer) -> u64
 }
 
 /// Whether a goal stands above each stop, from this depth downward.
+#[inline(never)]
 pub fn older_seen<B: Below>(
     below: &mut B,
     alloc: Global,
@@ -91,6 +92,7 @@ pub fn older_seen<B: Below>(
 }
 
 /// How many elements stand above it, from this depth downward.
+#[inline(never)]
 pub fn older_reach<B: Below>(
     below: &mut B,
     alloc: Global,
@@ -111,6 +113,7 @@ pub fn older_reach<B: Below>(
 }
 
 /// How many elements from this depth on are of these kinds.
+#[inline(never)]
 pub fn older_run<B: Below>(
     below: &mut B,
     alloc: Global,
@@ -125,6 +128,7 @@ pub fn older_run<B: Below>(
 }
 
 /// Whether an HTML `template` stands at this depth or below.
+#[inline(never)]
 pub fn older_template<B: Below>(below: &mut B, alloc: Global, depth: u64) -> Result<bool, NoMemory>
     ensures { Learns result (B.heard below.old) (B.heard below.new) (ask_template depth) }
 {
@@ -133,6 +137,7 @@ pub fn older_template<B: Below>(below: &mut B, alloc: Global, depth: u64) -> Res
 }
 
 /// The mode to which the insertion mode is reset, seen from this depth.
+#[inline(never)]
 pub fn older_reset<B: Below>(below: &mut B, alloc: Global, depth: u64) -> Result<Mode, NoMemory>
     ensures { Learns result (B.heard below.old) (B.heard below.new) (ask_reset depth) }
 {
@@ -143,6 +148,7 @@ pub fn older_reset<B: Below>(below: &mut B, alloc: Global, depth: u64) -> Result
 }
 
 /// Whether nothing of the older list is to be reconstructed.
+#[inline(always)]
 pub fn older_quiet<B: Below>(
     below: &mut B,
     alloc: Global,
@@ -156,6 +162,7 @@ pub fn older_quiet<B: Below>(
 }
 
 /// How the last entry of that name stands.
+#[inline(never)]
 pub fn older_listed<B: Below>(
     below: &mut B,
     alloc: Global,
@@ -175,6 +182,7 @@ pub fn older_listed<B: Below>(
 }
 
 /// How many entries are equal to the tag.
+#[inline(never)]
 pub fn older_same<B: Below>(
     below: &mut B,
     alloc: Global,
@@ -189,6 +197,7 @@ pub fn older_same<B: Below>(
 }
 
 /// Where the form pointer points.
+#[inline(never)]
 pub fn older_pointer<B: Below>(
     below: &mut B,
     alloc: Global,
@@ -208,6 +217,7 @@ pub fn older_pointer<B: Below>(
 }
 
 /// Whether the page is in quirks mode.
+#[inline(never)]
 pub fn older_quirks<B: Below>(below: &mut B, alloc: Global) -> Result<bool, NoMemory>
     ensures { Learns result (B.heard below.old) (B.heard below.new) ask_quirks }
 {
@@ -219,6 +229,7 @@ pub fn older_quirks<B: Below>(below: &mut B, alloc: Global) -> Result<bool, NoMe
 }
 
 /// The name of the last start tag.
+#[inline(never)]
 pub fn older_last_tag<B: Below>(below: &mut B, alloc: Global) -> Result<Name, NoMemory>
     ensures { Learns result (B.heard below.old) (B.heard below.new) ask_last_tag }
 {
@@ -239,6 +250,7 @@ fn no_name(alloc: Global) -> Result<Name, NoMemory>
 }
 
 /// Whether the second element is an HTML `body` and stands at this depth or below.
+#[inline(never)]
 pub fn older_body<B: Below>(below: &mut B, alloc: Global, depth: u64) -> Result<bool, NoMemory>
     ensures { Learns result (B.heard below.old) (B.heard below.new) (ask_body depth) }
 {
@@ -249,6 +261,7 @@ pub fn older_body<B: Below>(below: &mut B, alloc: Global, depth: u64) -> Result<
 }
 
 /// Whether an element stands at this depth that isn't an HTML one.
+#[inline(never)]
 pub fn older_foreign<B: Below>(below: &mut B, alloc: Global, depth: u64) -> Result<bool, NoMemory>
     ensures { Learns result (B.heard below.old) (B.heard below.new) (ask_foreign depth) }
 {
@@ -257,6 +270,7 @@ pub fn older_foreign<B: Below>(below: &mut B, alloc: Global, depth: u64) -> Resu
 }
 
 /// Whether an element stands at this depth.
+#[inline(never)]
 pub fn older_there<B: Below>(below: &mut B, alloc: Global, depth: u64) -> Result<bool, NoMemory>
     ensures { Learns result (B.heard below.old) (B.heard below.new) (ask_there depth) }
 {
@@ -284,6 +298,7 @@ fn is_there(answer: &Answer) -> bool
 ghost use Rattle.hp_views.specs.Asking.{is_foreign as spec_is_foreign, is_there as spec_is_there};
 
 /// Whether a frameset may still replace the body.
+#[inline(never)]
 pub fn older_frameset<B: Below>(below: &mut B, alloc: Global, depth: u64) -> Result<bool, NoMemory>
     ensures { Learns result (B.heard below.old) (B.heard below.new) (ask_frameset depth) }
 {

@@ -6,9 +6,14 @@ ghost use Rattle.hp_elements.specs.declared.kinds.Kinds.TheVariants as kinds;
 ghost use Rattle.hp_views.specs.View.{sight, Meets};
 ghost use Rattle.hp_views.specs.Steps.{implied_step, implied_except_step, implied_thoroughly_step, through_named_step, walk_step, close_step, close_paragraph_step, close_item_step, close_description_step, end_form_in_template_step};
 ghost use Rattle.hp_views.specs.View.{Answers, Carries};
+ghost use Rattle.hp_views.specs.StackPlans.{in_scope_plan};
+ghost use Rattle.hp_elements.specs.declared.act.Scope.TheVariants as scope;
+ghost use Rattle.hp_elements.specs.declared.known.Known.TheVariants as known;
 ghost use Rattle.hp_views.specs.ClosingPlans.{is_item_plan, close_term_plan, through_form_plan};
 
+use crate::asking::older_seen;
 use crate::view::View;
+use crate::walks::{Walk, paragraph_walk};
 use hp_control::{Below, Refusal};
 use hp_elements::{Kinds, Known, Name, Scope, SetName};
 use std::alloc::Global;
@@ -76,12 +81,27 @@ impl<'p, B: Below> View<'p, B> {
         self.through_named(alloc, Name::of_known(name))
     }
 
+    /// Whether a p element is in button scope. The stack knows it of its own elements, so that none of them is passed.
+    pub fn has_paragraph(&mut self, alloc: Global) -> Result<bool, Refusal>
+        ensures { Answers result (sight B.heard self.old) (sight B.heard self.new) (in_scope_plan scope.Button (kinds.Html (text_of known.P))) }
+    {
+        match paragraph_walk(&self.change.stack) {
+            Walk::Found(_) => Ok(true),
+            Walk::Stopped => Ok(false),
+            Walk::PastAll => {
+                let depth = self.change.popped;
+                let paragraph = Kinds::Html(Name::of_known(Known::P));
+                let ends = Kinds::Set(SetName::ButtonScopeEnds);
+                Ok(older_seen(&mut self.below, alloc, depth, paragraph, ends)?)
+            }
+        }
+    }
+
     /// Closes a p element, where one is in button scope.
     pub fn close_paragraph(&mut self, alloc: Global) -> Result<(), Refusal>
         ensures { Meets result (sight B.heard self.old) (sight B.heard self.new) close_paragraph_step }
     {
-        let paragraph = Kinds::Html(Name::of_known(Known::P));
-        if self.in_scope(alloc, Scope::Button, paragraph)? {
+        if self.has_paragraph(alloc)? {
             self.close(alloc, Known::P)
         } else {
             Ok(())

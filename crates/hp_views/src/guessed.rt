@@ -5,9 +5,7 @@ ghost use Rattle.hp_views.specs.Begins.{begun_by, Begins, ended};
 ghost use Rattle.hp_views.specs.View.{split_of};
 
 use crate::view::View;
-use hp_control::{
-    Answer, Assumptions, Below, Change, Edits, FormChange, Guess, Predictor, Question, Stack,
-};
+use hp_control::{Answer, Assumptions, Below, Change, Edits, FormChange, Guess, OpenElements, Predictor, Question, Stack};
 use hp_elements::{Mode, NoMemory, Rest, Text};
 use hp_tokens::LexState;
 use std::alloc::Global;
@@ -19,7 +17,7 @@ fn begun(lex: LexState, mode: Mode, original: Option<Mode>, skip_lf: bool) -> Ch
     Change {
         popped: 0,
         cuts: 0,
-        stack: Stack::new(),
+        stack: OpenElements::new(),
         formatting: Stack::new(),
         lex,
         last_tag_set: false,

@@ -7,12 +7,12 @@ ghost use Rattle.hp_views.specs.PlacePlans.{own_ref, top_ref, current_ref, first
 use crate::asking::older_reach;
 use crate::view::View;
 use crate::walks::{Walk, element_walk};
-use hp_control::{Below, OpenElement, Place, Ref, Refusal, Stack};
+use hp_control::{Below, OpenElements, Place, Ref, Refusal};
 use hp_elements::{Kinds, Known, Name, SetName};
 use std::alloc::Global;
 
 /// The id of the first element, or of the document.
-pub fn first_id(stack: &Stack<OpenElement>) -> u64
+pub fn first_id(stack: &OpenElements) -> u64
     ensures { result ≡ spec_first_id stack.now }
 {
     let count = stack.len();
@@ -24,7 +24,7 @@ pub fn first_id(stack: &Stack<OpenElement>) -> u64
 }
 
 /// The id of the second element, or of the document.
-pub fn second_id(stack: &Stack<OpenElement>) -> u64
+pub fn second_id(stack: &OpenElements) -> u64
     ensures { result ≡ spec_second_id stack.now }
 {
     let count = stack.len();
@@ -138,6 +138,7 @@ impl<'p, B: Below> View<'p, B> {
     }
 
     /// The appropriate place for inserting a node; `fostering` says that it may not stand in a table.
+    #[inline(always)]
     pub fn place(&mut self, alloc: Global, fostering: bool) -> Result<Place, Refusal>
         ensures { Answers result (sight B.heard self.old) (sight B.heard self.new) (place_plan fostering) }
     {

@@ -9,7 +9,7 @@ use crate::asking::{
 };
 use crate::view::View;
 use crate::walks::{Walk, element_walk};
-use hp_control::{Below, FormChange, OpenElement, Refusal, Stack, is_html, is_named, is_within};
+use hp_control::{Below, FormChange, OpenElements, Refusal, is_html, is_named, is_within};
 use hp_elements::{Kinds, Known, Mode, Name, NoMemory, Scope, SetName};
 use std::alloc::Global;
 
@@ -29,7 +29,7 @@ fn ends_of(scope: Scope) -> SetName
 ghost use Rattle.hp_control.specs.Composed.{ends_of as spec_ends_of};
 
 /// Whether the second element is an HTML `body`.
-fn second_is_body(stack: &Stack<OpenElement>) -> bool
+fn second_is_body(stack: &OpenElements) -> bool
     ensures { result ≡ spec_second_is_body stack.now }
 {
     let count = stack.len();
@@ -37,7 +37,7 @@ fn second_is_body(stack: &Stack<OpenElement>) -> bool
 }
 
 /// Whether the first element of the stack is an HTML `body`.
-fn last_is_body(stack: &Stack<OpenElement>) -> bool
+fn last_is_body(stack: &OpenElements) -> bool
     ensures { result ≡ spec_last_is_body stack.now }
 {
     let count = stack.len();

@@ -2,7 +2,7 @@
 ghost use Rattle.std.specs.Prelude.{◌≡◌, drop};
 ghost use Rattle.hp_views.specs.Walks.{walk_of, run_walk, id_walk, id_scope_walk, id_stop_walk, id_entry_walk, marker_of, entry_walk, IsWithin, EndsAs};
 
-use hp_control::{FormattingEntry, OpenElement, Stack, is_within};
+use hp_control::{FormattingEntry, OpenElements, Stack, WalkEnd, is_within};
 use hp_elements::{Kinds, Name, SetName};
 
 /// Where a walk ended: at a goal, at a stop, or below the last of its own.
@@ -14,7 +14,7 @@ pub enum Walk {
 }
 
 /// Walks down to the first element that is a goal or a stop.
-pub fn element_walk(stack: &Stack<OpenElement>, goals: &Kinds, stops: &Kinds) -> Walk
+pub fn element_walk(stack: &OpenElements, goals: &Kinds, stops: &Kinds) -> Walk
     ensures walk { result ≡ walk_of goals.now stops.now stack.now }
     ensures within { IsWithin result stack.now }
 {
@@ -30,9 +30,34 @@ pub fn element_walk(stack: &Stack<OpenElement>, goals: &Kinds, stops: &Kinds) ->
     Walk::PastAll
 }
 
-/// The same from a depth on; where it is found doesn't count from there.
+/// Walks down to a p element in button scope; where it is found doesn't count.
+#[tactic(auto, using(crate::proofs::Paragraphs::paragraph_walked))]
+pub fn paragraph_walk(stack: &OpenElements) -> Walk
+    ensures { EndsAs (walk_of (kinds.Html (text_of known.P)) (kinds.Set sets.ButtonScopeEnds) stack.now) result }
+{
+    walk_to(stack.paragraph())
+}
+
+/// The walk that ends so.
+fn walk_to(end: WalkEnd) -> Walk
+    ensures { result ≡ walk_to end }
+{
+    match end {
+        WalkEnd::Goal => Walk::Found(0),
+        WalkEnd::Stop => Walk::Stopped,
+        WalkEnd::BelowAll => Walk::PastAll,
+    }
+}
+
+ghost use Rattle.hp_elements.specs.Names.{text_of};
+ghost use Rattle.hp_elements.specs.declared.kinds.Kinds.TheVariants as kinds;
+ghost use Rattle.hp_elements.specs.declared.known.Known.TheVariants as known;
+ghost use Rattle.hp_elements.specs.declared.sets.SetName.TheVariants as sets;
+ghost use Rattle.hp_views.specs.Walks.{walk_to};
+
+/// Walks down from a depth to the first element that is a goal or a stop; where it is found doesn't count from there.
 pub fn element_walk_from(
-    stack: &Stack<OpenElement>,
+    stack: &OpenElements,
     from: usize,
     goals: &Kinds,
     stops: &Kinds,
@@ -52,7 +77,7 @@ pub fn element_walk_from(
 }
 
 /// Walks down to the first element that is not of these kinds.
-pub fn run_of_walk(stack: &Stack<OpenElement>, names: &Kinds) -> Walk
+pub fn run_of_walk(stack: &OpenElements, names: &Kinds) -> Walk
     ensures walk { result ≡ run_walk names.now stack.now }
     ensures within { IsWithin result stack.now }
 {
@@ -65,7 +90,7 @@ pub fn run_of_walk(stack: &Stack<OpenElement>, names: &Kinds) -> Walk
 }
 
 /// Walks down to the element of this id.
-pub fn open_walk(stack: &Stack<OpenElement>, id: u64) -> Walk
+pub fn open_walk(stack: &OpenElements, id: u64) -> Walk
     ensures walk { result ≡ id_walk id stack.now }
     ensures within { IsWithin result stack.now }
 {
@@ -78,7 +103,7 @@ pub fn open_walk(stack: &Stack<OpenElement>, id: u64) -> Walk
 }
 
 /// Walks down to the element of this id, or to the first that ends a scope.
-pub fn scope_walk(stack: &Stack<OpenElement>, id: u64) -> Walk
+pub fn scope_walk(stack: &OpenElements, id: u64) -> Walk
     ensures walk { result ≡ id_scope_walk id stack.now }
     ensures within { IsWithin result stack.now }
 {
@@ -86,7 +111,7 @@ pub fn scope_walk(stack: &Stack<OpenElement>, id: u64) -> Walk
 }
 
 /// Walks down to the element of this id, or to the first that is a stop.
-fn id_walk_to(stack: &Stack<OpenElement>, id: u64, stops: &Kinds) -> Walk
+fn id_walk_to(stack: &OpenElements, id: u64, stops: &Kinds) -> Walk
     ensures walk { result ≡ id_stop_walk stops.now id stack.now }
     ensures within { IsWithin result stack.now }
 {

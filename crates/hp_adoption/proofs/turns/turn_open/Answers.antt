@@ -1,9 +1,6 @@
-use Rattle.std.proofs.Common.{◌≡◌, ◌∙◌, Ok, Err, ap, slice_get, sym}
-use Rattle.hp_elements.specs.declared.tag.Tag.{Tag}
-use Rattle.hp_views.specs.View.{Sight, sight}
+use Rattle.std.proofs.Common.{◌∙◌, Ok, sym}
+use Rattle.hp_views.specs.View.{sight}
 use Rattle.hp_views.specs.declared.walks.Walk.TheVariants.{Found}
-use Rattle.hp_adoption.specs.AdoptPlans.{own_turn}
-use Rattle.hp_adoption.specs.Entries.{tag_in}
 use Rattle.hp_adoption.proofs.TurnSteps.{turns_of}
 use Rattle.hp_adoption.proofs.Untangling.{turn_tangled}
 use Rattle.hp_adoption.proofs.turns.turn_open.Goals as goal
