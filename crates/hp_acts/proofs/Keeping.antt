@@ -1,13 +1,13 @@
--- Over the whole table: along each way through a row, no act reads what an earlier one gave away.
-use Rattle.std.proofs.Common.{◌≡◌, ℕ, zero, suc, Bool, true, List, [], ◌∷◌, get_or, map, refl, Option, slice_get, IfSome, subst, sym}
+-- Over the whole table: along each way through a row, no act reads what an earlier one gave away; each act has a plan; and each
+-- row ends.
+use Rattle.std.proofs.Common.{◌≡◌, ◌≤◌, ℕ, zero, suc, Bool, true, List, [], ◌∷◌, get_or, length, leb, map, refl, ap, sym, ◌∙◌, ◌&&◌, subst}
 use Rattle.std.specs.List.{list_all}
-use Rattle.std.proofs.lemmas.Bool.{and_parts}
-use Rattle.hp_elements.specs.Rules.{acts_of}
+use Rattle.std.proofs.lemmas.Bool.{and_parts, leb-true}
+use Rattle.hp_elements.specs.Rules.{acts_numbered, acts_of, go_later, rows_end}
 use Rattle.hp_elements.specs.declared.act.Act.{Act}
 use Rattle.hp_acts.specs.declared.rows.Part.{Part}
 use Rattle.hp_acts.specs.declared.rows.Part.TheVariants as part
-use Rattle.hp_acts.specs.declared.rows.Row.{Row}
-use Rattle.hp_acts.specs.Rows.{acts_in, is_planned, rows_in, rows_planned}
+use Rattle.hp_acts.specs.Rows.{is_planned, rows_in, rows_planned}
 use Rattle.hp_acts.specs.Spending.{row_keeps, rows_keep}
 
 part_keeps : (p : Part) → rows_keep (rows_in p) ≡ true
@@ -21,22 +21,31 @@ passes_at test [] i none h = none
 passes_at test (acts ∷ rows) zero none h = (and_parts (test acts) (list_all test rows) h).0
 passes_at test (acts ∷ rows) (suc i) none h = passes_at test rows i none (and_parts (test acts) (list_all test rows) h).1
 
-pub each_keeps : (row : Row) → row_keeps true 0 0 (acts_in row) ≡ true
-each_keeps row = passes_at (row_keeps true 0 0) (map acts_of (rows_in row.part)) row.number refl (part_keeps row.part)
-
 part_planned : (p : Part) → rows_planned (rows_in p) ≡ true
 part_planned part.Page = refl
 part_planned part.Body = refl
 part_planned part.Table = refl
 part_planned part.Rest = refl
 
-planned_at : (acts : List Act) (at : ℕ) → list_all is_planned acts ≡ true → IfSome (slice_get acts at) (λ a. is_planned a ≡ true)
-planned_at [] at h = tt
-planned_at (a ∷ acts) zero h = (and_parts (is_planned a) (list_all is_planned acts) h).0
-planned_at (a ∷ acts) (suc at) h = planned_at acts at (and_parts (is_planned a) (list_all is_planned acts) h).1
+part_ends : (p : Part) → rows_end (rows_in p) ≡ true
+part_ends part.Page = refl
+part_ends part.Body = refl
+part_ends part.Table = refl
+part_ends part.Rest = refl
 
--- and each act of a row has a plan
-pub each_planned : (row : Row) (at : ℕ) (result : Option Act) → result ≡ slice_get (acts_in row) at → IfSome result (λ a. is_planned a ≡ true)
-each_planned row at result e =
-    let P : Option Act → Type 0 = λ o. IfSome o (λ a. is_planned a ≡ true) in
-    subst P (sym e) (planned_at (acts_in row) at (passes_at (list_all is_planned) (map acts_of (rows_in row.part)) row.number refl (part_planned row.part)))
+-- the row of that number in a crate
+module _ (p : Part) (number : ℕ) (acts : List Act) (is : acts ≡ acts_numbered (rows_in p) number) where
+  pub numbered_keeps : row_keeps true 0 0 acts ≡ true
+  numbered_keeps = ap (row_keeps true 0 0) is ∙ passes_at (row_keeps true 0 0) (map acts_of (rows_in p)) number refl (part_keeps p)
+
+  pub numbered_planned : list_all is_planned acts ≡ true
+  numbered_planned = ap (list_all is_planned) is ∙ passes_at (list_all is_planned) (map acts_of (rows_in p)) number refl (part_planned p)
+
+  ends : (go_later 0 acts && leb (length acts) 8) ≡ true
+  ends = ap (λ (found : List Act). go_later 0 found && leb (length found) 8) is ∙ passes_at (λ found. go_later 0 found && leb (length found) 8) (map acts_of (rows_in p)) number refl (part_ends p)
+
+  pub numbered_later : go_later 0 acts ≡ true
+  numbered_later = (and_parts (go_later 0 acts) (leb (length acts) 8) ends).0
+
+  pub numbered_short : length acts ≤ 8
+  numbered_short = leb-true _ _ (and_parts (go_later 0 acts) (leb (length acts) 8) ends).1

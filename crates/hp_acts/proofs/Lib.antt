@@ -3,6 +3,7 @@ pub mod RowLemmas
 pub mod TokenLeft
 pub mod RowRuns
 pub mod Keeping
+pub mod ActsAt
 pub mod Matching
 pub mod SuitingAny
 pub mod RowMatches

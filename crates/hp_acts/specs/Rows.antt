@@ -5,14 +5,13 @@ use Rattle.hp_elements.specs.declared.act.Act.{Act}
 use Rattle.hp_elements.specs.declared.act.Act.TheVariants as act
 use Rattle.hp_elements.specs.declared.token.Mode.{Mode}
 use Rattle.hp_elements.specs.declared.token.Mode.TheVariants as mode
-use Rattle.hp_elements.specs.Rules.{Row as RuleRow, acts_numbered, acts_of}
+use Rattle.hp_elements.specs.Rules.{Row, acts_of}
 use Rattle.hp_rules_page.specs.Table as page
 use Rattle.hp_rules_body.specs.Table as body
 use Rattle.hp_rules_table.specs.Table as table
 use Rattle.hp_rules_rest.specs.Table as rest
 use Rattle.hp_acts.specs.declared.rows.Part.{Part}
 use Rattle.hp_acts.specs.declared.rows.Part.TheVariants as part
-use Rattle.hp_acts.specs.declared.rows.Row.{Row}
 
 -- the crate that has the rules of the mode
 abbrev pub part_in : Mode → Part
@@ -31,27 +30,23 @@ part_in mode.InTemplate = part.Rest
 part_in _ = part.Page
 
 -- the rows of a crate, as they are numbered
-abbrev pub rows_in : Part → List RuleRow
+abbrev pub rows_in : Part → List Row
 rows_in part.Page = page.all_rows
 rows_in part.Body = body.all_rows
 rows_in part.Table = table.all_rows
 rows_in part.Rest = rest.all_rows
 
 -- the rows of a mode in a crate
-abbrev pub mode_rows_in : Part → Mode → Option (List RuleRow)
+abbrev pub mode_rows_in : Part → Mode → Option (List Row)
 mode_rows_in part.Page m = page.rows_of m
 mode_rows_in part.Body m = body.rows_of m
 mode_rows_in part.Table m = table.rows_of m
 mode_rows_in part.Rest m = rest.rows_of m
-
--- the acts of a row
-abbrev pub acts_in : Row → List Act
-acts_in row = acts_numbered (rows_in row.part) row.number
 
 -- the acts of rows: each has a plan
 abbrev pub is_planned : Act → Bool
 is_planned (act.TakeOff which) = false
 is_planned _ = true
 
-abbrev pub rows_planned : List RuleRow → Bool
+abbrev pub rows_planned : List Row → Bool
 rows_planned rows = list_all (list_all is_planned) (map acts_of rows)

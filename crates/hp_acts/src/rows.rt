@@ -1,10 +1,12 @@
 //! The row that a token has, among the rules of all modes.
-ghost use Rattle.std.specs.Prelude.{◌≡◌, ◌<◌, [], true, IfSome, is_some, unwrap_or, slice_get};
-ghost use Rattle.hp_elements.specs.Rules.{acts_for, acts_numbered, goes_later};
+ghost use Rattle.std.specs.Prelude.{◌≡◌, ◌<◌, ◌≤◌, [], true, IfSome, is_some, length, unwrap_or, slice_get};
+ghost use Rattle.std.specs.List.{list_all};
+ghost use Rattle.hp_elements.specs.Rules.{acts_for, acts_numbered, go_later, goes_later};
 ghost use Rattle.hp_elements.specs.Tokens.{kind_of};
 ghost use Rattle.hp_rules_rest.specs.Foreign.{foreign};
 ghost use Rattle.hp_rules_rest.specs.Whole.{every_mode_rows};
-ghost use Rattle.hp_acts.specs.Rows.{part_in, rows_in, mode_rows_in, acts_in, is_planned};
+ghost use Rattle.hp_acts.specs.Rows.{part_in, rows_in, mode_rows_in, is_planned};
+ghost use Rattle.hp_acts.specs.Spending.{row_keeps};
 
 use hp_elements::{Act, Mode, Token};
 
@@ -17,11 +19,15 @@ pub(crate) enum Part {
     Rest,
 }
 
-/// A row of the rules.
-#[derive(Clone, Copy, PartialEq, Eq)]
+/// A row of the rules: its acts. Each of them has a plan, and along each way through the row it finds the token as it wants it;
+/// a test goes on behind its own place, and there are no more than eight acts, so that each row ends.
+#[derive(Clone, Copy)]
 pub(crate) struct Row {
-    part: Part,
-    number: u16,
+    acts: &'static [Act],
+    ghost keeps: { row_keeps true 0 0 acts ≡ true },
+    ghost planned: { list_all is_planned acts ≡ true },
+    ghost later: { go_later 0 acts ≡ true },
+    ghost short: { length acts ≤ 8 },
 }
 
 /// The crate that has the rules of the mode.
@@ -50,31 +56,48 @@ fn number_in(part: Part, mode: Mode, token: &Token<'_>) -> Option<u16>
     }
 }
 
+/// The acts of the row that has a number in that crate.
+fn acts_numbered(part: Part, number: u16) -> &'static [Act]
+    ensures { result.now ≡ acts_numbered (rows_in part) number }
+{
+    match part {
+        Part::Page => hp_rules_page::acts_numbered(number),
+        Part::Body => hp_rules_body::acts_numbered(number),
+        Part::Table => hp_rules_table::acts_numbered(number),
+        Part::Rest => hp_rules_rest::acts_numbered(number),
+    }
+}
+
+fn row_numbered(part: Part, number: u16) -> Row
+    ensures { result.acts ≡ acts_numbered (rows_in part) number }
+{
+    let acts = acts_numbered(part, number);
+    Row { acts }
+}
+
 /// The row that the token has in the mode.
 pub(crate) fn row_in(mode: Mode, token: &Token<'_>) -> Row
-    ensures { acts_in result ≡ acts_for (every_mode_rows mode) (kind_of token.now) }
+    ensures { result.acts ≡ acts_for (every_mode_rows mode) (kind_of token.now) }
 {
     let part = part_in(mode);
     match number_in(part, mode, token) {
-        Some(number) => Row { part, number },
+        Some(number) => row_numbered(part, number),
         None => unreachable!(),
     }
 }
 
 /// The row that the token has in foreign content.
 pub(crate) fn foreign_row(token: &Token<'_>) -> Row
-    ensures { acts_in result ≡ acts_for foreign (kind_of token.now) }
+    ensures { result.acts ≡ acts_for foreign (kind_of token.now) }
 {
-    Row {
-        part: Part::Rest,
-        number: hp_rules_rest::foreign_row(token),
-    }
+    row_numbered(Part::Rest, hp_rules_rest::foreign_row(token))
 }
 
 impl Row {
     /// The act of the row at that place; none where the row has no act there.
+    #[inline(always)]
     pub(crate) fn act(self, at: u32) -> Option<Act>
-        ensures value { result ≡ slice_get (acts_in self) at }
+        ensures value { result ≡ slice_get self.acts at }
         ensures planned { IfSome result (λ act. is_planned act ≡ true) }
         ensures later { IfSome result (λ act. goes_later at act ≡ true) }
         ensures short { IfSome result (λ act. at < 8) }
@@ -82,16 +105,10 @@ impl Row {
         self.act_at(at)
     }
 
+    #[inline(always)]
     fn act_at(self, at: u32) -> Option<Act>
-        ensures value { result ≡ slice_get (acts_in self) at }
-        ensures later { IfSome result (λ act. goes_later at act ≡ true) }
-        ensures short { IfSome result (λ act. at < 8) }
+        ensures { result ≡ slice_get self.acts at }
     {
-        match self.part {
-            Part::Page => hp_rules_page::act(self.number, at),
-            Part::Body => hp_rules_body::act(self.number, at),
-            Part::Table => hp_rules_table::act(self.number, at),
-            Part::Rest => hp_rules_rest::act(self.number, at),
-        }
+        self.acts.get(at as usize).copied()
     }
 }

@@ -21,6 +21,7 @@ pub enum Spending {
     Moves,
 }
 
+#[inline(never)]
 fn no_name(alloc: Global) -> Result<Name, NoMemory>
     ensures { IfOk result (λ name. name ≡ []) }
 {
@@ -29,6 +30,7 @@ fn no_name(alloc: Global) -> Result<Name, NoMemory>
 }
 
 /// The token's own name; the empty one where it has none.
+#[inline(always)]
 fn own_name(alloc: Global, token: &Token<'_>) -> Result<Name, NoMemory>
     ensures { IfOk result (λ name. name ≡ name_of token.now) }
 {
@@ -43,6 +45,7 @@ fn own_name(alloc: Global, token: &Token<'_>) -> Result<Name, NoMemory>
 }
 
 /// The name that an act is about.
+#[inline(always)]
 pub(crate) fn name_of(alloc: Global, token: &Token<'_>, which: Which) -> Result<Name, NoMemory>
     ensures { IfOk result (λ name. name ≡ name_for token.now which) }
 {
@@ -53,6 +56,7 @@ pub(crate) fn name_of(alloc: Global, token: &Token<'_>, which: Which) -> Result<
 }
 
 /// The HTML elements of the name that an act is about.
+#[inline(always)]
 pub(crate) fn html_of(alloc: Global, token: &Token<'_>, which: Which) -> Result<Kinds, NoMemory>
     ensures { IfOk result (λ names. names ≡ kinds.Html (name_for token.now which)) }
 {
@@ -105,6 +109,7 @@ pub(crate) fn take_attributes(
 }
 
 /// The HTML tag of a start tag. Of another token it has its name and no attributes.
+#[inline(always)]
 pub(crate) fn take_tag(
     alloc: Global,
     token: &mut Token<'_>,

@@ -1,5 +1,5 @@
 //! One token, handled whole (13.2.6).
-ghost use Rattle.std.specs.Prelude.{◌≡◌, ℕ, ◌<◌, ◌+◌, ◌*◌, Bool, true, false, if◌then◌else◌, IfOk, List, length, drop};
+ghost use Rattle.std.specs.Prelude.{◌≡◌, ℕ, ◌<◌, ◌+◌, ◌*◌, Bool, true, false, if◌then◌else◌, ◌||◌, IfOk, List, length, drop};
 ghost use Rattle.std.specs.List.{list_any};
 ghost use Rattle.hp_elements.specs.Rules.{goes_later};
 ghost use Rattle.hp_elements.specs.declared.token.Mode.{Mode};
@@ -10,17 +10,17 @@ ghost use Rattle.hp_acts.specs.Carrying.{Comes, Goes, GoesBy, Stays, going, next
 ghost use Rattle.hp_acts.specs.HandlePlans.{all_turns_plan, handle_plan, handle_rest, without_line_feed};
 ghost use Rattle.hp_acts.specs.Handling.{GoesLater, Handles, unskipped};
 ghost use Rattle.hp_acts.specs.RowPlans.{Reached, Came, act_then, is_early, turn_plan};
-ghost use Rattle.hp_acts.specs.Rows.{acts_in, is_planned};
+ghost use Rattle.hp_acts.specs.Rows.{is_planned};
 ghost use Rattle.hp_acts.specs.Spending.{IsLeftOf, gives_away, is_of_attributes, leaves_whole, reads_attributes};
 ghost use Rattle.hp_acts.specs.declared.token_parts.Spending.TheVariants.{Copies};
-ghost use Rattle.hp_acts.specs.declared.turns.Next.TheVariants.{At};
+ghost use Rattle.hp_acts.specs.declared.turns.Next.TheVariants.{Again, At, Done, Rules};
 
 use crate::acts::carry_out;
 use crate::plain::{is_plain, put_plain};
 use crate::questions::holds;
 use crate::rows::{Row, foreign_row, row_in};
 use crate::token_parts::{Spending, after_line_feed, rename};
-use hp_control::{Below, Crossing, Refusal};
+use hp_control::{Below, Change, Crossing, Refusal};
 use hp_elements::{Act, Mode, Rest, Test, Token};
 use hp_foreign::goes_to_foreign;
 use hp_views::{PageFacts, View};
@@ -53,7 +53,7 @@ struct Turn<'p> {
 
 /// Whether an act of a row from that place on reads the attributes of the token.
 fn is_read_from(row: Row, from: u32) -> bool
-    ensures { result ≡ list_any reads_attributes (drop from (acts_in row)) }
+    ensures { result ≡ list_any reads_attributes (drop from row.acts) }
 {
     let mut at = from;
     while let Some(act) = row.act(at) {
@@ -87,7 +87,7 @@ fn is_of_attributes(test: Test) -> bool
 /// What becomes of the token's attributes at an act of a row: they are moved unless a later act reads them.
 fn spending_at(row: Row, at: u32, act: Act) -> Spending
     requires { at < 8 }
-    ensures { leaves_whole act (drop (at + 1) (acts_in row)) ≡ true → gives_away act ≡ true → result ≡ Copies }
+    ensures { leaves_whole act (drop (at + 1) row.acts) ≡ true → gives_away act ≡ true → result ≡ Copies }
 {
     match act {
         Act::Insert => {
@@ -124,7 +124,7 @@ fn carry_row<'p, B: Below>(
     fostering: bool,
     depth: u32,
 ) -> Result<bool, Refusal>
-    ensures plan { Comes result (B.heard view.old.below) (B.heard view.new.below) (row_plan depth present fostering turn.old.token 0 0 (acts_in row) (reached view.old turn.old)) turn.new.token (reached view.new turn.new) }
+    ensures plan { Comes result (B.heard view.old.below) (B.heard view.new.below) (row_plan depth present fostering turn.old.token 0 0 row.acts (reached view.old turn.old)) turn.new.token (reached view.new turn.new) }
     ensures left { IfOk result (λ again. again ≡ false → IsLeftOf turn.old.token turn.new.token) }
 {
     let mut at = 0;
@@ -159,6 +159,20 @@ fn present_rules(present: Option<Mode>, at: u32) -> Next
     }
 }
 
+/// The rules of another mode. Fostering is on in them where the act turns it on, or where the row is used with it.
+fn other_rules(mode: Mode, turned_on: bool, fostering: bool) -> Next
+    ensures { result ≡ Rules mode (turned_on || fostering) }
+{
+    Next::Rules(mode, turned_on || fostering)
+}
+
+/// The end of a row, behind which the token is handled again where the act says so.
+fn at_end(again: bool) -> Next
+    ensures { result ≡ (if again then Again else Done) }
+{
+    if again { Next::Again } else { Next::Done }
+}
+
 /// The place behind a test.
 fn behind(at: u32, otherwise: u8, goes_on: bool) -> Next
     requires { at < 8 }
@@ -187,18 +201,18 @@ fn step<'p, B: Below>(
     requires planned { is_planned act ≡ true }
     ensures later { IfOk result (λ next. GoesLater at next) }
     ensures goes { IfOk result (λ next. GoesBy act at next) }
-    ensures stays { IfOk result (λ next. Stays (leaves_whole act (drop (at + 1) (acts_in row))) turn.old.token turn.new.token next) }
+    ensures stays { IfOk result (λ next. Stays (leaves_whole act (drop (at + 1) row.acts)) turn.old.token turn.new.token next) }
     ensures plan { (follow : Bool → Mode → Reached → Plan Came) (go : ℕ → Reached → Plan Came) → Goes result (B.heard view.old.below) (B.heard view.new.below) (act_then follow (present_plan follow present) fostering turn.old.token act at go (reached view.old turn.old)) (λ next. going follow go at (reached view.new turn.new) turn.new.token next) }
 {
     match act {
-        Act::Done => Ok(Next::Done),
-        Act::Again => Ok(Next::Again),
+        Act::Done => Ok(at_end(false)),
+        Act::Again => Ok(at_end(true)),
         Act::AgainAs(name) => {
             rename(&mut turn.token, name);
-            Ok(Next::Again)
+            Ok(at_end(true))
         }
-        Act::As(mode) => Ok(Next::Rules(mode, fostering)),
-        Act::AsFostered(mode) => Ok(Next::Rules(mode, true)),
+        Act::As(mode) => Ok(other_rules(mode, false, fostering)),
+        Act::AsFostered(mode) => Ok(other_rules(mode, true, fostering)),
         Act::AsPresent => Ok(present_rules(present, at)),
         Act::If { test, otherwise } => {
             let holds = holds(alloc, view, &turn.token, test)?;
@@ -281,6 +295,7 @@ fn most_turns(elements: usize) -> u128
 }
 
 /// Handles a token until no rule asks for it again.
+#[inline(never)]
 fn take_turns<'p, B: Below>(
     alloc: Global,
     view: &mut View<'p, B>,
@@ -302,6 +317,7 @@ fn take_turns<'p, B: Below>(
 
 /// Handles one token whole: dispatch, the rows of the rules with their acts, and again where the rules say so. A line feed that
 /// is to be dropped isn't handled. After a refusal the view is spent.
+#[inline(always)]
 pub fn handle<'p, B: Below>(
     alloc: Global,
     view: &mut View<'p, B>,
@@ -319,6 +335,13 @@ pub fn handle<'p, B: Below>(
     handle_skipping(alloc, view, token)
 }
 
+/// From now on no line feed is dropped.
+fn skip_no_more(change: &mut Change)
+    ensures { change.new ≡ record change.old { skip_lf = false } }
+{
+    change.skip_lf = false;
+}
+
 /// The same where a line feed is to be dropped.
 #[inline(never)]
 fn handle_skipping<'p, B: Below>(
@@ -328,7 +351,7 @@ fn handle_skipping<'p, B: Below>(
 ) -> Result<Handled, Refusal>
     ensures plan { Handles result (sight B.heard view.old) (sight B.heard view.new) (λ v. handle_rest (without_line_feed token.entry) (unskipped v)) }
 {
-    view.change.skip_lf = false;
+    skip_no_more(&mut view.change);
     match after_line_feed(alloc, token)? {
         Some(token) => take_turns(alloc, view, token),
         None => Ok(NOTHING),

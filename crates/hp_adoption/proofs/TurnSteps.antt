@@ -1,20 +1,30 @@
 -- The turns of an adoption, carried out one after the other.
-use Rattle.std.proofs.Common.{◌≡◌, ℕ, suc, Bool, true, false, List, Option, Some, Result, Ok, Err, sym, subst}
+use Rattle.std.proofs.Common.{◌≡◌, ℕ, suc, Bool, true, false, List, Option, Some, Result, Ok, Err, ap, refl, slice_get, sym, subst}
+use Rattle.hp_elements.specs.declared.tag.Tag.{Tag}
 use Rattle.hp_control.specs.declared.change.Refusal.{Refusal}
 use Rattle.hp_control.specs.declared.change.Refusal.TheVariants.{Crossed, NoMemory}
 use Rattle.hp_control.specs.declared.element.FormattingEntry.{FormattingEntry}
-use Rattle.hp_control.specs.declared.element.FormattingEntry.TheVariants.{Marker}
+use Rattle.hp_control.specs.declared.element.FormattingEntry.TheVariants.{Marker, Element}
 use Rattle.hp_control.specs.Faithful.{Split}
 use Rattle.hp_control.specs.Plan.{Plan, Heard, Runs}
 use Rattle.hp_control.specs.Running.{Partway, runs_gives, runs_then, runs_crosses}
 use Rattle.hp_views.specs.View.{Sight, Carries}
-use Rattle.hp_adoption.specs.AdoptPlans.{Turned, entry_turn, turn_plan, turns_on, turns_plan}
+use Rattle.hp_views.specs.Walks.{id_walk}
+use Rattle.hp_views.specs.declared.walks.Walk.{Walk}
+use Rattle.hp_adoption.specs.AdoptPlans.{Turned, entry_turn, own_turn, turn_plan, turns_on, turns_plan}
+use Rattle.hp_adoption.specs.Entries.{tag_in}
 use Rattle.hp_adoption.specs.Turning.{Turns}
 
 pub turn_marker : (now : Heard) (fostering : Bool) (v : Split) (o : Option FormattingEntry) → o ≡ Some Marker → Runs now now (entry_turn fostering v o) (Ok (record { split = v; goes_on = false }))
 turn_marker now fostering v o e =
     let P : Option FormattingEntry → Type 0 = λ x. Runs now now (entry_turn fostering v x) (Ok (record { split = v; goes_on = false })) in
     subst P (sym e) (runs_gives now (record { split = v; goes_on = false }))
+
+-- the tag of an entry is in the list
+pub entry_known : (fostering : Bool) (id : ℕ) (tag : Tag) (v : Split) (o : Option FormattingEntry) → o ≡ Some (Element id tag) → own_turn fostering id (tag_in o) v (id_walk id v.change.stack) ≡ entry_turn fostering v o
+entry_known fostering id tag v o e =
+    let P : Option FormattingEntry → Type 0 = λ x. own_turn fostering id (tag_in x) v (id_walk id v.change.stack) ≡ entry_turn fostering v x in
+    subst P (sym e) refl
 
 -- the same plan, told otherwise
 pub turns_as : (result : Result Bool Refusal) (old new : Sight) (p q : Split → Plan Turned) → p old.split ≡ q old.split → Turns result old new p → Turns result old new q
@@ -23,6 +33,11 @@ turns_as (Ok goes_on) old new p q e run =
 turns_as (Err (Crossed crossing)) old new p q e run =
     let P : Plan Turned → Type 0 = λ x. Runs old.heard new.heard x (Err crossing) in subst P e run
 turns_as (Err NoMemory) old new p q e run = tt
+
+-- the same turn, the tag told by the list
+pub turns_of : (fostering : Bool) (id : ℕ) (tag : Tag) (result : Result Bool Refusal) (old new : Sight) (w : Walk) (at : ℕ) → tag ≡ tag_in (slice_get old.split.change.formatting at) → Turns result old new (λ v. own_turn fostering id tag v w) → Turns result old new (λ v. own_turn fostering id (tag_in (slice_get v.change.formatting at)) v w)
+turns_of fostering id tag result old new w at e run =
+    turns_as result old new (λ v. own_turn fostering id tag v w) (λ v. own_turn fostering id (tag_in (slice_get v.change.formatting at)) v w) (ap (λ (t : Tag). own_turn fostering id t old.split w) e) run
 
 -- one more turn
 pub turn_step : (start now next : Heard) (whole : Plan Split) (fostering : Bool) (name : List ℕ) (n m : ℕ) (v w : Split) (goes_on : Bool) → n ≡ suc m → goes_on ≡ true → Partway start now whole (turns_plan n fostering name v) → Runs now next (turn_plan fostering name v) (Ok (record { split = w; goes_on = goes_on })) → Partway start next whole (turns_plan m fostering name w)

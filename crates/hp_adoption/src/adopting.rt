@@ -9,7 +9,10 @@ ghost use Rattle.hp_adoption.specs.Turning.{adopted_parts, closed_parts, closing
 use crate::climb::{Climb, own_ref};
 use crate::elements::element_for;
 use crate::entries::{follow, strike, supplant};
-use hp_control::{Below, Change, Child, Edit, Edits, FormattingEntry, OpenElement, OpenElements, Place, Ref, Refusal, Stack};
+use hp_control::{
+    Below, Change, Child, Edit, Edits, FormattingEntry, OpenElement, OpenElements, Place, Ref,
+    Refusal, Stack,
+};
 use hp_elements::{List, NoMemory, Tag};
 use hp_views::View;
 use std::alloc::Global;
@@ -37,11 +40,7 @@ struct Over {
 
 /// Takes the stack off down to the formatting element, and with it.
 #[tactic(auto, using(crate::proofs::Apart::none_below, crate::proofs::Apart::rest_below, crate::proofs::Apart::head_below, crate::proofs::Apart::between_of, crate::proofs::Apart::under_of, crate::proofs::Apart::above_of, crate::proofs::Apart::between_fits, crate::proofs::Apart::one_fits))]
-fn take_apart(
-    alloc: Global,
-    stack: &mut OpenElements,
-    tangle: Tangle,
-) -> Result<Over, NoMemory>
+fn take_apart(alloc: Global, stack: &mut OpenElements, tangle: Tangle) -> Result<Over, NoMemory>
     requires block { tangle.block < tangle.depth }
     requires inside { tangle.depth < length stack.old }
     ensures above { IfOk result (λ over. over.above ≡ take tangle.block (take tangle.depth stack.old)) }

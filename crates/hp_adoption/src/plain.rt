@@ -40,6 +40,7 @@ fn same_name(name: &Name, other: &Name) -> bool
 }
 
 /// The same of the older current node.
+#[inline(never)]
 fn is_plain_below<'p, B: Below>(
     alloc: Global,
     view: &mut View<'p, B>,

@@ -47,6 +47,7 @@ fn stale_walk(change: &Change) -> Walk
 
 /// Makes the element of an own entry anew.
 #[tactic(auto, using(crate::proofs::Renewing::got, crate::proofs::Renewing::put_back, crate::proofs::Renewing::past_end, crate::proofs::Renewing::set_twice))]
+#[inline(never)]
 fn renew<'p, B: Below>(
     alloc: Global,
     view: &mut View<'p, B>,
@@ -76,6 +77,7 @@ fn renew<'p, B: Below>(
 }
 
 /// Makes the elements of so many own entries anew, the last entry's last.
+#[inline(always)]
 fn renew_down<'p, B: Below>(
     alloc: Global,
     view: &mut View<'p, B>,
@@ -107,6 +109,7 @@ pub fn reconstruct<'p, B: Below>(
 }
 
 /// The same where no own entry is a marker or open.
+#[inline(always)]
 fn reconstruct_below<'p, B: Below>(
     alloc: Global,
     view: &mut View<'p, B>,

@@ -1,5 +1,5 @@
 //! The turns of the adoption agency algorithm (13.2.6.4.7).
-ghost use Rattle.std.specs.Prelude.{◌≡◌, ◌+◌, ◌^◌, ◌<◌, ◌≤◌, length, slice_get, take, IfSome};
+ghost use Rattle.std.specs.Prelude.{◌≡◌, ◌+◌, ◌^◌, ◌<◌, ◌≤◌, length, slice_get, take, true, IfOk, IfSome};
 ghost use Rattle.std.specs.List.{list_any};
 ghost use Rattle.hp_control.specs.Adoption.{hides as spec_hides, furthest as spec_furthest};
 ghost use Rattle.hp_control.specs.KindTests.{within};
@@ -7,12 +7,15 @@ ghost use Rattle.hp_views.specs.View.{sight, Carries};
 ghost use Rattle.hp_views.specs.Walks.{id_walk};
 ghost use Rattle.hp_views.specs.declared.walks.Walk.TheVariants.{Found};
 ghost use Rattle.hp_adoption.specs.AdoptPlans.{own_turn, entry_turn, walk_turn, older_turn, kind_turn, turn_plan, turns_plan};
+ghost use Rattle.hp_adoption.specs.Entries.{is_element, tag_in};
 ghost use Rattle.hp_adoption.specs.Turning.{Turns, last_within, seat_depth};
 
 use crate::adopting::{Tangle, untangle};
 use crate::entries::strike;
-use hp_control::{Below, Crossing, EntryKind, FormattingEntry, OpenElements, Refusal, is_within};
-use hp_elements::{Kinds, Name, SetName, Tag};
+use hp_control::{
+    Below, Crossing, EntryKind, FormattingEntry, OpenElements, Refusal, Stack, is_within,
+};
+use hp_elements::{Kinds, Name, NoMemory, SetName, Tag};
 use hp_views::{View, Walk, name_walk, older_listed, open_walk};
 use std::alloc::Global;
 
@@ -61,18 +64,32 @@ fn furthest(stack: &OpenElements, depth: usize) -> Option<usize>
     last_above(&Kinds::Set(SetName::Special), stack, depth)
 }
 
-/// A turn whose formatting element is an own one.
+/// The tag of the entry at that depth of the list, which is an element's.
+fn tag_at(alloc: Global, list: &Stack<FormattingEntry>, at: usize) -> Result<Tag, NoMemory>
+    requires inside { at < length list.now }
+    requires listed { is_element (slice_get list.now at) ≡ true }
+    ensures { IfOk result (λ tag. tag ≡ tag_in (slice_get list.now at)) }
+{
+    match list.at(at) {
+        FormattingEntry::Element { tag, .. } => tag.copy(alloc),
+        FormattingEntry::Marker => unreachable!(),
+    }
+}
+
+/// A turn whose formatting element is an own one, with its entry at that depth of the own list.
 fn turn_own<'p, B: Below>(
     alloc: Global,
     view: &mut View<'p, B>,
     fostering: bool,
     id: u64,
-    tag: Tag,
+    at: usize,
 ) -> Result<bool, Refusal>
-    ensures { Turns result (sight B.heard view.old) (sight B.heard view.new) (λ v. own_turn fostering id tag v (id_walk id v.change.stack)) }
+    requires inside { at < length view.old.change.formatting }
+    requires listed { is_element (slice_get view.old.change.formatting at) ≡ true }
+    ensures { Turns result (sight B.heard view.old) (sight B.heard view.new) (λ v. own_turn fostering id (tag_in (slice_get v.change.formatting at)) v (id_walk id v.change.stack)) }
 {
     match open_walk(&view.change.stack, id) {
-        Walk::Found(depth) => turn_open(alloc, view, fostering, id, tag, depth),
+        Walk::Found(depth) => turn_open(alloc, view, fostering, id, at, depth),
         Walk::Stopped => {
             strike(&mut view.change.formatting, id);
             Ok(false)
@@ -90,12 +107,14 @@ fn turn_open<'p, B: Below>(
     view: &mut View<'p, B>,
     fostering: bool,
     id: u64,
-    tag: Tag,
+    at: usize,
     depth: usize,
 ) -> Result<bool, Refusal>
-    requires inside { depth < length view.old.change.stack }
+    requires inside { at < length view.old.change.formatting }
+    requires listed { is_element (slice_get view.old.change.formatting at) ≡ true }
+    requires open { depth < length view.old.change.stack }
     requires small { depth + 1 < 2 ^ 64 }
-    ensures { Turns result (sight B.heard view.old) (sight B.heard view.new) (λ v. own_turn fostering id tag v (Found depth)) }
+    ensures { Turns result (sight B.heard view.old) (sight B.heard view.new) (λ v. own_turn fostering id (tag_in (slice_get v.change.formatting at)) v (Found depth)) }
 {
     if hides(&view.change.stack, depth) {
         return Ok(false);
@@ -107,6 +126,7 @@ fn turn_open<'p, B: Below>(
             Ok(false)
         }
         Some(block) => {
+            let tag = tag_at(alloc, &view.change.formatting, at)?;
             untangle(alloc, view, fostering, Tangle { id, depth, block }, tag)?;
             Ok(true)
         }
@@ -125,10 +145,9 @@ fn turn_entry<'p, B: Below>(
 {
     match view.change.formatting.at(at) {
         FormattingEntry::Marker => Ok(false),
-        FormattingEntry::Element { id, tag } => {
+        FormattingEntry::Element { id, .. } => {
             let id = *id;
-            let tag = tag.copy(alloc)?;
-            turn_own(alloc, view, fostering, id, tag)
+            turn_own(alloc, view, fostering, id, at)
         }
     }
 }

@@ -25,6 +25,8 @@ pub struct Node {
     pub kind: Kind,
 }
 
+const _: () = prove!(size_of::<Node>() == 16);
+
 /// Makes `second` the node after `first`.
 pub fn join(nodes: &mut [Node], first: u32, second: u32)
     requires first_in { first < length nodes.old }

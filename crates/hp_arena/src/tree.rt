@@ -179,6 +179,3 @@ impl<'p> Tree<'p> {
         }
     }
 }
-
-#[cfg(test)]
-mod tests;

@@ -1,6 +1,5 @@
 pub mod Growth
 pub mod Toward
-pub mod Cutting
 pub mod Steps
 pub mod Numbers
 pub mod NextPiece

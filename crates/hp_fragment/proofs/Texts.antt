@@ -17,8 +17,8 @@ use Rattle.hp_views.specs.StackLaws.{full_stack}
 use Rattle.hp_views.specs.View.{split_of}
 use Rattle.hp_model.specs.AtOnce.{handle_at_once}
 use Rattle.hp_model.specs.Texts.{ComesTo, TakesText, TextsAtOnce, as_run, each_at_once, has_html_top, is_text_mode}
-use Rattle.hp_model.specs.Turns.{later, left_by}
-use Rattle.hp_steps.specs.Handling.{AreQuiet, left_after, made_after}
+use Rattle.hp_model.specs.Turns.{left_by}
+use Rattle.hp_steps.specs.Handling.{left_after, made_after}
 use Rattle.hp_acts.specs.Plain.{takes_text}
 use Rattle.hp_fragment.specs.Building.{control_of, grown, IsBuilder, HandledOne, HandledAll}
 use Rattle.hp_fragment.specs.declared.builder.Builder.{Builder}
@@ -70,21 +70,9 @@ each-made : (c : ControlState) (ts : List Token) → (each_at_once c ts).outcome
 each-made c [] = refl
 each-made c (t ∷ ts) = ap (λ (es : List Edit). (handle_at_once c t).outcome.edits ++ es) (each-made (left_by (handle_at_once c t)) ts)
 
-later-none : (a b : Option Rest) → later a b ≡ None → (a ≡ None) × (b ≡ None)
-later-none None None h = (refl, refl)
-later-none (Some x) None h = absurd (cc)
-later-none a (Some y) h = absurd (cc)
-
-each-quiet : (c : ControlState) (ts : List Token) → (each_at_once c ts).switch ≡ None → AreQuiet handle_at_once c ts
-each-quiet c [] h = tt
-each-quiet c (t ∷ ts) h =
-    let parts = later-none (handle_at_once c t).switch (each_at_once (left_by (handle_at_once c t)) ts).switch h in
-    (parts.0, each-quiet (left_by (handle_at_once c t)) ts parts.1)
-
 -- the run was handled, so its code points were
 comes-all : (old new : Builder) (ts : List Token) (run : Token) (to : Option Rest) → ComesTo (control_of old) ts run → HandledOne old new run to → HandledAll old new ts
 comes-all old new ts run to comes one = record {
-  quiet = each-quiet (control_of old) ts (comes.same.switch ∙ comes.quiet);
   control = one.control ∙ (sym comes.same.control ∙ each-left (control_of old) ts);
   grown = one.grown ∙ (sym (comes.same.edits (grown old)) ∙ ap (applied_all (grown old)) (each-made (control_of old) ts));
   builder = record { stands = one.stands; valid = subst IsValid (sym one.control) comes.valid };

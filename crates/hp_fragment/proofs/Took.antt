@@ -1,91 +1,105 @@
 -- The tokens of a step.
-use Rattle.std.proofs.Common.{◌≡◌, ℕ, ◌+◌, ◌≤◌, ◌++◌, arith, length, List, [], ◌∷◌, true, false, inl, inr, refl, ap, ◌∙◌, sym, subst, append-nil, Option, None, Some}
-use Rattle.std.proofs.lemmas.List.{length-append}
+use Rattle.std.proofs.Common.{◌≡◌, ℕ, List, [], ◌∷◌, true, false, refl, ap, ◌∙◌, sym, subst, map, Option}
 use Rattle.hp_elements.specs.declared.token.Rest.{Rest}
 use Rattle.hp_elements.specs.declared.token.Token.{Token}
 use Rattle.hp_elements.specs.declared.token.Token.TheVariants as token
-use Rattle.hp_tokens.specs.Advancing.{AreRuns, held}
-use Rattle.hp_tokens.specs.Ranks.{weight}
+use Rattle.hp_tokens.specs.Advancing.{AreRuns}
 use Rattle.hp_tokens.specs.Reading.{Unread}
-use Rattle.hp_control.specs.States.{IsValid}
-use Rattle.hp_control.specs.Tree.{applied_all}
-use Rattle.hp_lexer.specs.declared.lexer.Asked.TheVariants as asked
+use Rattle.hp_tokens.specs.Rows.{character}
+use Rattle.hp_control.specs.States.{ControlState, IsValid}
+use Rattle.hp_control.specs.Tree.{Tree, applied_all}
+use Rattle.hp_control.specs.declared.edit.Edit.{Edit}
 use Rattle.hp_lexer.specs.declared.lexer.Lexer.{Lexer}
-use Rattle.hp_lexer.specs.Standing.{SwitchesFall, stands, switched}
 use Rattle.hp_model.specs.Whole.{IsRead}
 use Rattle.hp_model.specs.AtOnce.{RunsAtOnce, handle_at_once}
-use Rattle.hp_steps.specs.Closing.{AreCharacters}
-use Rattle.hp_steps.specs.Handling.{made_after}
+use Rattle.hp_model.specs.Turns.{left_by}
+use Rattle.hp_steps.specs.Handling.{AllRead, left_after, lexer_after, made_after, turned}
+use Rattle.hp_steps.proofs.Lexers.{characters-after}
+use Rattle.hp_steps.proofs.Together.{applied-append}
 use Rattle.hp_fragment.proofs.Toward.{at_once-valid}
-use Rattle.hp_fragment.specs.Building.{control_of, grown, is_character, is_start, IsBuilder, HandledOne, HandledAll, HasGrown}
-use Rattle.hp_fragment.specs.Reading.{Took, turned}
+use Rattle.hp_fragment.specs.Building.{control_of, grown, is_start, IsBuilder, HandledOne, HandledAll, HasGrown}
+use Rattle.hp_fragment.specs.Reading.{Took}
 use Rattle.hp_fragment.specs.declared.builder.Builder.{Builder}
 use Rattle.hp_fragment.specs.declared.parsing.Parsing.{Parsing}
-use Rattle.hp_fragment.proofs.Numbers.{same-le}
-
-pub no-character : (t : Token) → is_character t ≡ false → AreCharacters (t ∷ []) → ⊥
-no-character (token.Characters class text) h a = let no : true ≡ false = h in cc
-no-character (token.Start self_closing tag) h a = a
-no-character (token.EndTag name) h a = a
-no-character (token.Comment text) h a = a
-no-character (token.Doctype parts) h a = a
-no-character token.EndOfInput h a = a
 
 pub no-start : (t : Token) → is_start t ≡ false → IsRead t
 no-start (token.Start self_closing tag) h = let no : true ≡ false = h in cc
 no-start _ h = tt
 
--- the tokens of a step
-pub took-all : (old new : Parsing) (mid : Builder) (ts : List Token) → HandledAll old.builder mid ts → HasGrown mid new.builder → new.lexer ≡ old.lexer → new.input ≡ old.input → new.later ≡ old.later → Took old new ts
-took-all old new mid ts all grows lexer input later = record {
+-- a text
+pub took-text : (old new : Parsing) (mid : Builder) (text : List ℕ) → HandledAll old.builder mid (map character text) → HasGrown mid new.builder → new.lexer ≡ old.lexer → new.input ≡ old.input → new.later ≡ old.later
+    → Took old new (map character text)
+took-text old new mid text all grows lexer input later = record {
   input = input;
   later = later;
-  lexer = inl (all.quiet, lexer);
+  lexer = lexer ∙ sym (characters-after (control_of old.builder) text old.lexer);
   control = grows.control ∙ all.control;
   grown = grows.grown ∙ all.grown;
   builder = grows.builder all.builder;
-  asked = ap (λ (l : Lexer). l.asked) lexer;
-  held = ap (λ (l : Lexer). held l.lex) lexer;
-  lighter = same-le (weight (stands new.lexer new.input)) (weight (stands old.lexer old.input)) (ap (λ (u : Unread). weight (stands new.lexer u)) input ∙ ap (λ (l : Lexer). weight (stands l old.input)) lexer);
 }
 
-one-builder : RunsAtOnce → (old mid : Builder) (t : Token) (to : Option Rest) → IsBuilder old → IsRead t → AreRuns (t ∷ []) → HandledOne old mid t to → IsBuilder mid
-one-builder law old mid t to is read runs one = record {
-  stands = one.stands;
-  valid = subst IsValid (sym one.control) (at_once-valid law t (control_of old) read runs is.valid);
-}
-
-one-grown : (old mid : Builder) (t : Token) (to : Option Rest) → HandledOne old mid t to → grown mid ≡ applied_all (grown old) (made_after handle_at_once (control_of old) (t ∷ []))
-one-grown old mid t to one = one.grown ∙ ap (applied_all (grown old)) (sym (append-nil (handle_at_once (control_of old) t).outcome.edits))
-
-pub took-quiet : RunsAtOnce → (old new : Parsing) (mid : Builder) (t : Token) → IsBuilder old.builder → IsRead t → AreRuns (t ∷ []) → HandledOne old.builder mid t None → HasGrown mid new.builder
-    → new.lexer ≡ old.lexer → new.input ≡ old.input → new.later ≡ old.later → Took old new (t ∷ [])
-took-quiet law old new mid t is read runs one grows lexer input later =
-    took-all old new mid (t ∷ []) (record { quiet = (sym one.switch, tt); control = one.control; grown = one-grown old.builder mid t None one; builder = one-builder law old.builder mid t None is read runs one })
-    grows lexer input later
-
-pub took-loud : RunsAtOnce → SwitchesFall → (old new : Parsing) (mid : Builder) (t : Token) (rest : Rest) → IsBuilder old.builder → IsRead t → AreRuns (t ∷ []) → old.lexer.asked ≡ asked.Nothing
-    → HandledOne old.builder mid t (Some rest) → HasGrown mid new.builder → is_character t ≡ false → new.lexer ≡ switched rest old.lexer → new.input ≡ old.input → new.later ≡ old.later → Took old new (t ∷ [])
-took-loud law falls old new mid t rest is read runs nothing one grows other lexer input later = record {
+-- one token, whatever it calls for
+pub took-one : RunsAtOnce → (old new : Parsing) (mid : Builder) (t : Token) (to : Option Rest) → IsBuilder old.builder → IsRead t → AreRuns (t ∷ []) → HandledOne old.builder mid t to → HasGrown mid new.builder
+    → new.lexer ≡ turned to old.lexer → new.input ≡ old.input → new.later ≡ old.later → Took old new (t ∷ [])
+took-one law old new mid t to is read runs one grows lexer input later = record {
   input = input;
   later = later;
-  lexer = inr (t, refl, no-character t other, lexer ∙ ap (λ (s : Option Rest). turned s old.lexer) one.switch);
+  lexer = lexer ∙ ap (λ (s : Option Rest). turned s old.lexer) one.switch;
   control = grows.control ∙ one.control;
-  grown = grows.grown ∙ one-grown old.builder mid t (Some rest) one;
-  builder = grows.builder (one-builder law old.builder mid t (Some rest) is read runs one);
-  asked = ap (λ (l : Lexer). l.asked) lexer;
-  held = ap (λ (l : Lexer). held l.lex) lexer;
-  lighter = subst (λ (n : ℕ). n ≤ weight (stands old.lexer old.input)) (ap (λ (l : Lexer). weight (stands l old.input)) (sym lexer) ∙ ap (λ (u : Unread). weight (stands new.lexer u)) (sym input))
-      (falls rest old.lexer old.input nothing);
+  grown = grows.grown ∙ (one.grown ∙ sym (applied-append (grown old.builder) (handle_at_once (control_of old.builder) t).outcome.edits []));
+  builder = grows.builder (record { stands = one.stands; valid = subst IsValid (sym one.control) (at_once-valid law t (control_of old.builder) read runs is.valid) });
 }
 
--- the only token of a list
-pub one-left : (old new : List Token) (t : Token) → length old ≡ 1 → old ≡ new ++ t ∷ [] → old ≡ t ∷ []
-one-left old [] t one is = is
-one-left old (x ∷ xs) t one is =
-    let long : length old ≡ length ((x ∷ xs) ++ (t ∷ [])) = ap length is in
-    let more : length ((x ∷ xs) ++ (t ∷ [])) ≡ length (x ∷ xs) + length (t ∷ []) = length-append (x ∷ xs) (t ∷ []) in
-    absurd (too_long (length xs) (one, long, more))
+-- what is left to do leads to what all tokens do
+pub record Going (start now : Parsing) (tokens rest : List Token) : Type 0 where
+  pub read : AllRead rest
+  pub runs : AreRuns rest
+  pub builder : IsBuilder now.builder
+  pub input : now.input ≡ start.input
+  pub later : now.later ≡ start.later
+  pub lexer : lexer_after handle_at_once (control_of now.builder) rest now.lexer ≡ lexer_after handle_at_once (control_of start.builder) tokens start.lexer
+  pub control : left_after handle_at_once (control_of now.builder) rest ≡ left_after handle_at_once (control_of start.builder) tokens
+  pub grown : applied_all (grown now.builder) (made_after handle_at_once (control_of now.builder) rest) ≡ applied_all (grown start.builder) (made_after handle_at_once (control_of start.builder) tokens)
+
+pub going_start : (p : Parsing) (tokens : List Token) → IsBuilder p.builder → AllRead tokens → AreRuns tokens → Going p p tokens tokens
+going_start p tokens is read runs = record { read = read; runs = runs; builder = is; input = refl; later = refl; lexer = refl; control = refl; grown = refl }
+
+pub going_next : (start now : Parsing) (tokens before rest : List Token) (t : Token) → Going start now tokens before → before ≡ t ∷ rest → Going start now tokens (t ∷ rest)
+going_next start now tokens before rest t h is = subst (Going start now tokens) is h
+
+pub going_on : (start now next : Parsing) (tokens rest : List Token) (t : Token) → Going start now tokens (t ∷ rest) → Took now next (t ∷ []) → Going start next tokens rest
+going_on start now next tokens rest t here one = record {
+  read = here.read.1;
+  runs = here.runs.1;
+  builder = one.builder;
+  input = one.input ∙ here.input;
+  later = one.later ∙ here.later;
+  lexer =
+      ap (λ (c : ControlState). lexer_after handle_at_once c rest next.lexer) one.control
+      ∙ (ap (lexer_after handle_at_once (left_by (handle_at_once (control_of now.builder) t)) rest) one.lexer ∙ here.lexer);
+  control = ap (λ (c : ControlState). left_after handle_at_once c rest) one.control ∙ here.control;
+  grown =
+      ap (λ (c : ControlState). applied_all (grown next.builder) (made_after handle_at_once c rest)) one.control
+      ∙ (ap (λ (x : Tree). applied_all x more) one.grown
+      ∙ (ap (λ (x : Tree). applied_all x more) (applied-append (grown now.builder) first [])
+      ∙ (sym (applied-append (grown now.builder) first more) ∙ here.grown)));
+}
   where
-    too_long : (n : ℕ) → (length old ≡ 1) × (length old ≡ length ((x ∷ xs) ++ (t ∷ []))) × (length ((x ∷ xs) ++ (t ∷ [])) ≡ length (x ∷ xs) + length (t ∷ [])) → ⊥
-    too_long n (one, long, more) = omega (arith, one, long, more)
+    first : List Edit
+    first = (handle_at_once (control_of now.builder) t).outcome.edits
+
+    more : List Edit
+    more = made_after handle_at_once (left_by (handle_at_once (control_of now.builder) t)) rest
+
+pub going_end : (start now : Parsing) (tokens rest : List Token) → Going start now tokens rest → rest ≡ [] → Took start now tokens
+going_end start now tokens rest h is = record {
+  input = here.input;
+  later = here.later;
+  lexer = here.lexer;
+  control = here.control;
+  grown = here.grown;
+  builder = here.builder;
+}
+  where
+    here : Going start now tokens []
+    here = subst (Going start now tokens) is h

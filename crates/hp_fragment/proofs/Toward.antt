@@ -13,7 +13,7 @@ use Rattle.hp_model.specs.AtOnce.{RunsAtOnce, handle_at_once}
 use Rattle.hp_steps.specs.Handling.{AllRead, AreQuiet, left_after, made_after}
 use Rattle.hp_steps.proofs.Together.{applied-append}
 use Rattle.hp_fragment.specs.declared.builder.Builder.{Builder}
-use Rattle.hp_fragment.specs.Building.{control_of, grown, IsBuilder, HandledOne, HandledAll, HandledLast}
+use Rattle.hp_fragment.specs.Building.{control_of, grown, IsBuilder, HandledOne, HandledLast}
 
 -- what is left to do leads to what all tokens do
 pub record Toward (start now : Builder) (tokens rest : List Token) : Type 0 where
@@ -47,17 +47,6 @@ toward_on law start now next tokens before rest t h is read one = record {
     here : Toward start now tokens (t ∷ rest)
     here = subst (Toward start now tokens) is h
 
-pub toward_end : (start now : Builder) (tokens rest : List Token) → Toward start now tokens rest → rest ≡ [] → HandledAll start now tokens
-toward_end start now tokens rest h is = record {
-  quiet = here.quiet tt;
-  control = here.control;
-  grown = here.grown;
-  builder = here.builder;
-}
-  where
-    here : Toward start now tokens []
-    here = subst (Toward start now tokens) is h
-
 -- tokens that may still be some that the lexer reads
 abbrev pub MayRead : List Token → List Token → Type 0
 MayRead tokens rest = AllRead rest → AllRead tokens
@@ -66,10 +55,14 @@ pub may_read-on : (tokens before rest : List Token) (t : Token) → MayRead toke
 may_read-on tokens before rest t h is read = λ r. h (subst AllRead (sym is) (read, r))
 
 pub last_end : (start now : Builder) (tokens rest : List Token) → MayRead tokens rest → Toward start now tokens rest → rest ≡ [] → HandledLast start now tokens
-last_end start now tokens rest may h is = record { read = may (subst AllRead (sym is) tt); handled = toward_end start now tokens rest h is }
-
-pub next_read : (before rest : List Token) (t : Token) → AllRead before → before ≡ t ∷ rest → IsRead t × AllRead rest
-next_read before rest t h is = subst AllRead is h
+last_end start now tokens rest may h is = record {
+  read = may (subst AllRead (sym is) tt);
+  quiet = here.quiet tt;
+  handled = record { control = here.control; grown = here.grown; builder = here.builder };
+}
+  where
+    here : Toward start now tokens []
+    here = subst (Toward start now tokens) is h
 
 pub none_told : (o : Option Rest) → is_some o ≡ false → o ≡ None
 none_told None h = refl

@@ -14,10 +14,6 @@ use Rattle.hp_model.specs.AtOnce.{handle_at_once}
 use Rattle.hp_steps.specs.Handling.{AllRead, AreQuiet, left_after, made_after}
 use Rattle.hp_fragment.specs.declared.builder.Builder.{Builder}
 
-abbrev pub is_character : Token → Bool
-is_character (token.Characters class text) = true
-is_character _ = false
-
 abbrev pub is_start : Token → Bool
 is_start (token.Start self_closing tag) = true
 is_start _ = false
@@ -41,16 +37,16 @@ pub record HandledOne (old new : Builder) (t : Token) (to : Option Rest) : Type 
   pub switch : to ≡ (handle_at_once (control_of old) t).switch
   pub stands : StandsOn nothing (split_of new.view)
 
--- tokens were handled, and none called for another state of the lexer
+-- tokens were handled
 pub record HandledAll (old new : Builder) (ts : List Token) : Type 0 where
-  pub quiet : AreQuiet handle_at_once (control_of old) ts
   pub control : control_of new ≡ left_after handle_at_once (control_of old) ts
   pub grown : grown new ≡ applied_all (grown old) (made_after handle_at_once (control_of old) ts)
   pub builder : IsBuilder new
 
--- tokens were handled, and they are tokens as the lexer reads them
+-- tokens were handled as the lexer reads them, and none called for another state of the lexer
 pub record HandledLast (old new : Builder) (ts : List Token) : Type 0 where
   pub read : AllRead ts
+  pub quiet : AreQuiet handle_at_once (control_of old) ts
   pub handled : HandledAll old new ts
 
 -- edits were applied to the tree

@@ -1,7 +1,6 @@
 // Tree construction over the tokens of a page: the control state, and the tree so far.
 ghost use Rattle.std.specs.Prelude.{◌≡◌, ◌<◌, true, [], ◌∷◌, length, map, IfOk, OnOk};
 ghost use Rattle.std.specs.List.{list_all};
-ghost use Rattle.hp_tokens.specs.Advancing.{AreRuns, IsRun};
 ghost use Rattle.hp_tokens.specs.Plain.{none_of};
 ghost use Rattle.hp_tokens.specs.Rows.{character};
 ghost use Rattle.hp_views.specs.View.{split_of};
@@ -12,14 +11,13 @@ ghost use Rattle.hp_control.specs.States.{start};
 ghost use Rattle.hp_control.specs.Composed.{is_foreign_now};
 ghost use Rattle.hp_control.specs.Tree.{applied_all, document};
 ghost use Rattle.hp_model.specs.Whole.{IsRead};
-ghost use Rattle.hp_steps.specs.Handling.{AllRead};
 ghost use Rattle.hp_fragment.specs.Building.{control_of, grown, IsBuilder, HandledOne, HandledAll, HasGrown};
 
 use crate::NoMemory;
 use hp_acts::{handle, handle_text, takes_text};
 use hp_arena::Tree;
 use hp_control::{Control, Edits, Nothing};
-use hp_elements::{Rest, Text, Token, Tokens};
+use hp_elements::{Rest, Text, Token};
 use hp_views::View;
 use std::alloc::Global;
 
@@ -68,22 +66,6 @@ impl<'p> Builder<'p> {
             Ok(handled) => Ok(handled.switch),
             Err(_) => Err(NoMemory),
         }
-    }
-
-    /// Handles tokens one behind the other, of which none is to call for another state of the lexer.
-    pub fn handle_all(&mut self, alloc: Global, tokens: Tokens<'p>) -> Result<(), NoMemory>
-        requires builder { IsBuilder self.old }
-        requires read { AllRead tokens }
-        requires runs { AreRuns tokens }
-        ensures { OnOk result (HandledAll self.old self.new tokens.entry) }
-    {
-        hp_model::at_once();
-        for token in tokens {
-            if self.handle_one(alloc, token)?.is_some() {
-                return Err(NoMemory);
-            }
-        }
-        Ok(())
     }
 
     /// Whether a text without U+0000 goes into the current node as it comes.

@@ -1,17 +1,10 @@
 // What a run asks of a token, and the tokens of the end of input as tokens of the page.
 ghost use Rattle.std.specs.Prelude.{◌≡◌, IfOk};
-ghost use Rattle.hp_fragment.specs.Building.{is_character, is_start};
+ghost use Rattle.hp_fragment.specs.Building.{is_start};
 
 use crate::NoMemory;
 use hp_elements::{Doctype, DoctypeParts, Text, Token};
 use std::alloc::Global;
-
-/// Whether the token is a run of characters.
-pub(crate) fn is_character(token: &Token<'_>) -> bool
-    ensures { result ≡ is_character token.now }
-{
-    matches!(token, Token::Characters { .. })
-}
 
 /// Whether the token is a start tag.
 pub(crate) fn is_start(token: &Token<'_>) -> bool

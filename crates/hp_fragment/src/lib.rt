@@ -3,11 +3,10 @@
 
 mod builder;
 mod last;
+mod laws;
 mod parsing;
-mod pieces;
-#[cfg(test)]
-mod tests;
 mod whole;
 
 pub use hp_elements::NoMemory;
+// pub use hp_replay::{ending, replay};
 pub use whole::parse_whole;

@@ -3,7 +3,6 @@ ghost use Rattle.std.specs.Prelude.{◌≡◌, ◌≢◌, ◌^◌, ◌<◌, ◌�
 ghost use Rattle.std.specs.List.{list_all};
 ghost use Rattle.std.specs.Str.{chars};
 ghost use Rattle.hp_names.specs.BuiltIn.{built_in};
-ghost use Rattle.hp_names.specs.References.{Reference};
 ghost use Rattle.hp_text.specs.Page.{text_of};
 ghost use Rattle.hp_tokens.specs.Advancing.{AreRuns, held};
 ghost use Rattle.hp_tokens.specs.Plain.{none_of};
@@ -16,16 +15,17 @@ ghost use Rattle.hp_model.specs.Whole.{IsRead};
 ghost use Rattle.hp_run.specs.Pages.{IsTreeOf};
 ghost use Rattle.hp_steps.specs.Handling.{AllRead};
 ghost use Rattle.hp_fragment.specs.Building.{IsBuilder, HandledLast};
-ghost use Rattle.hp_fragment.specs.Reading.{IsReady, IsAtEnd, Reads, HasEnded, HasReadAll, StepsOn, ReadsOn, TakesPiece, ReadsPiece, Took, TookText, Tried};
+ghost use Rattle.hp_fragment.specs.Reading.{IsReady, IsAtEnd, IsWithin, Reads, HasEnded, HasReadAll, StepsOn, ReadsOn, TakesPiece, ReadsPiece, Took, TookText, Tried};
 
 use crate::NoMemory;
 use crate::builder::Builder;
-use crate::last::{is_character, is_start, of_page};
-use crate::pieces::cut;
+use crate::last::{is_start, of_page};
+use crate::laws::{never_asked, rests_ahead};
 use hp_arena::Tree;
 use hp_control::Control;
 use hp_elements::{Rest, Text, Token, Tokens};
 use hp_lexer::{Cursor, Lexer, Step};
+use hp_pieces::cut;
 use hp_text::Page;
 use hp_tokens::{LexState, Machine, OwnedText};
 use std::alloc::Global;
@@ -60,12 +60,13 @@ impl<'p> Parsing<'p> {
     /// Reads the page to its end.
     pub fn run(&mut self, alloc: Global) -> Result<(), NoMemory>
         requires ready { IsReady self.old }
+        requires within { IsWithin self.old }
         ensures at_end { OnOk result (IsAtEnd self.new) }
-        ensures reads { OnOk result ((refs : List Reference) (page : List ℕ) → Reads refs page self.old → HasReadAll refs page self.new) }
+        ensures reads { OnOk result ((page : List ℕ) → Reads page self.old → HasReadAll page self.new) }
     {
         'pieces: loop {
             self.read_piece(alloc)?;
-            if !self.take_piece()? {
+            if !self.take_piece() {
                 return Ok(());
             }
         }
@@ -74,9 +75,10 @@ impl<'p> Parsing<'p> {
     /// Reads the piece to its end.
     fn read_piece(&mut self, alloc: Global) -> Result<(), NoMemory>
         requires ready { IsReady self.old }
+        requires within { IsWithin self.old }
         ensures at_end { OnOk result (IsAtEnd self.new) }
         ensures later { OnOk result (self.new.later ≡ self.old.later) }
-        ensures reads { OnOk result ((refs : List Reference) (page : List ℕ) → Reads refs page self.old → HasEnded refs page self.new) }
+        ensures reads { OnOk result ((page : List ℕ) → Reads page self.old → HasEnded page self.new) }
     {
         'steps: loop {
             if !self.step(alloc)? {
@@ -86,21 +88,19 @@ impl<'p> Parsing<'p> {
     }
 
     /// Goes on with the next piece of the page. Answers whether there is one.
-    fn take_piece(&mut self) -> Result<bool, NoMemory>
+    fn take_piece(&mut self) -> bool
         requires at_end { IsAtEnd self.old }
-        ensures takes { IfOk result (TakesPiece self.old self.new) }
-        ensures reads { IfOk result (λ more. (refs : List Reference) (page : List ℕ) → HasEnded refs page self.old → ReadsPiece refs page self.new more) }
+        ensures takes { TakesPiece self.old self.new result }
+        ensures reads { (page : List ℕ) → HasEnded page self.old → ReadsPiece page self.new result }
     {
+        rests_ahead();
         if self.is_last() {
-            return Ok(false);
-        }
-        if !self.holds_nothing() {
-            return Err(NoMemory);
+            return false;
         }
         let (piece, later) = cut(self.later);
         self.input = Cursor::of_str(piece);
         self.later = later;
-        Ok(true)
+        true
     }
 
     /// Whether nothing follows the piece.
@@ -111,18 +111,12 @@ impl<'p> Parsing<'p> {
         self.later.is_empty()
     }
 
-    /// Whether the lexer has read nothing ahead.
-    fn holds_nothing(&self) -> bool
-        ensures { result ≡ true → self.now.lexer.lex.ahead ≡ [] }
-    {
-        self.lexer.lex.ahead.is_empty()
-    }
-
     /// One step of the lexer, and what it calls for. Answers whether the piece goes on.
     fn step(&mut self, alloc: Global) -> Result<bool, NoMemory>
         requires ready { IsReady self.old }
+        requires within { IsWithin self.old }
         ensures steps { IfOk result (StepsOn self.old self.new) }
-        ensures reads { IfOk result (λ more. (refs : List Reference) (page : List ℕ) → Reads refs page self.old → ReadsOn refs page self.new more) }
+        ensures reads { IfOk result (λ more. (page : List ℕ) → Reads page self.old → ReadsOn page self.new more) }
     {
         if self.pass_cut() {
             return Ok(false);
@@ -135,7 +129,7 @@ impl<'p> Parsing<'p> {
     fn pass_cut(&mut self) -> bool
         requires ready { IsReady self.old }
         ensures steps { result ≡ true → StepsOn self.old self.new false }
-        ensures reads { result ≡ true → (refs : List Reference) (page : List ℕ) → Reads refs page self.old → HasEnded refs page self.new }
+        ensures reads { result ≡ true → (page : List ℕ) → Reads page self.old → HasEnded page self.new }
         ensures left { result ≡ false → self.new ≡ self.old }
     {
         self.lexer.pass_cut(&self.input)
@@ -144,8 +138,9 @@ impl<'p> Parsing<'p> {
     /// One step where the piece isn't known to be used up.
     fn go_on(&mut self, alloc: Global) -> Result<bool, NoMemory>
         requires ready { IsReady self.old }
+        requires within { IsWithin self.old }
         ensures steps { IfOk result (StepsOn self.old self.new) }
-        ensures reads { IfOk result (λ more. (refs : List Reference) (page : List ℕ) → Reads refs page self.old → ReadsOn refs page self.new more) }
+        ensures reads { IfOk result (λ more. (page : List ℕ) → Reads page self.old → ReadsOn page self.new more) }
     {
         let text = self.take_plain(alloc)?;
         if text {
@@ -163,7 +158,7 @@ impl<'p> Parsing<'p> {
     fn take_plain(&mut self, alloc: Global) -> Result<bool, NoMemory>
         requires ready { IsReady self.old }
         ensures tried { IfOk result (Tried self.old self.new) }
-        ensures reads { OnOk result ((refs : List Reference) (page : List ℕ) → Reads refs page self.old → Reads refs page self.new) }
+        ensures reads { OnOk result ((page : List ℕ) → Reads page self.old → Reads page self.new) }
     {
         hp_model::at_once();
         hp_lexer::steps_fall();
@@ -194,14 +189,14 @@ impl<'p> Parsing<'p> {
     fn take_tag(&mut self, alloc: Global) -> Result<bool, NoMemory>
         requires ready { IsReady self.old }
         ensures tried { IfOk result (Tried self.old self.new) }
-        ensures reads { OnOk result ((refs : List Reference) (page : List ℕ) → Reads refs page self.old → Reads refs page self.new) }
+        ensures reads { OnOk result ((page : List ℕ) → Reads page self.old → Reads page self.new) }
     {
         hp_model::at_once();
         hp_lexer::steps_fall();
         let found = self.lexer.next_tag(alloc, &mut self.input)?;
         match found {
             Some(tag) => {
-                self.handle_only(alloc, tag)?;
+                self.handle_one(alloc, tag)?;
                 Ok(true)
             }
             None => Ok(false),
@@ -212,11 +207,13 @@ impl<'p> Parsing<'p> {
     #[inline(never)]
     fn step_by_table(&mut self, alloc: Global) -> Result<bool, NoMemory>
         requires ready { IsReady self.old }
+        requires within { IsWithin self.old }
         ensures steps { IfOk result (StepsOn self.old self.new) }
-        ensures reads { IfOk result (λ more. (refs : List Reference) (page : List ℕ) → Reads refs page self.old → ReadsOn refs page self.new more) }
+        ensures reads { IfOk result (λ more. (page : List ℕ) → Reads page self.old → ReadsOn page self.new more) }
     {
         hp_model::at_once();
         hp_lexer::steps_fall();
+        never_asked();
         match self.lexer.next(alloc, &mut self.input)? {
             Step::Tokens { tokens, .. } => {
                 self.handle(alloc, tokens)?;
@@ -228,7 +225,7 @@ impl<'p> Parsing<'p> {
                 Ok(true)
             }
             // The page's lexer was told a name, so that it asks for none.
-            Step::AskLastTag => Err(NoMemory),
+            Step::AskLastTag => unreachable!(),
             Step::AtCut => Ok(false),
         }
     }
@@ -246,48 +243,32 @@ impl<'p> Parsing<'p> {
         Ok(())
     }
 
-    /// Handles the tokens of a step.
+    /// Handles the tokens of a step, one behind the other.
     fn handle(&mut self, alloc: Global, tokens: Tokens<'p>) -> Result<(), NoMemory>
-        requires asked { self.old.lexer.asked ≡ asked.Nothing }
         requires builder { IsBuilder self.old.builder }
         requires read { AllRead tokens }
         requires runs { AreRuns tokens }
         ensures { OnOk result (Took self.old self.new tokens.entry) }
     {
-        let mut tokens = tokens;
-        if tokens.len() != 1 {
-            self.builder.handle_all(alloc, tokens)?;
-            self.builder.grow_by_batch(alloc)?;
-            return Ok(());
+        for token in tokens {
+            self.handle_one(alloc, token)?;
         }
-        match tokens.pop() {
-            Some(token) => {
-                self.handle_only(alloc, token)?;
-                Ok(())
-            }
-            None => Err(NoMemory),
-        }
+        Ok(())
     }
 
-    /// Handles the only token of a step, and switches the lexer where a tag calls for that.
-    fn handle_only(&mut self, alloc: Global, token: Token<'p>) -> Result<(), NoMemory>
-        requires asked { self.old.lexer.asked ≡ asked.Nothing }
+    /// Handles a token, and switches the lexer where it calls for that.
+    fn handle_one(&mut self, alloc: Global, token: Token<'p>) -> Result<(), NoMemory>
         requires builder { IsBuilder self.old.builder }
         requires read { IsRead token }
         requires runs { AreRuns (token ∷ []) }
         ensures { OnOk result (Took self.old self.new (token.entry ∷ [])) }
     {
         hp_model::at_once();
-        hp_lexer::steps_fall();
-        let is_text = is_character(&token);
         let switch = self.builder.handle_one(alloc, token)?;
         self.builder.grow_by_batch(alloc)?;
         match switch {
             None => Ok(()),
             Some(rest) => {
-                if is_text {
-                    return Err(NoMemory);
-                }
                 self.lexer.switch(rest);
                 Ok(())
             }
@@ -297,7 +278,7 @@ impl<'p> Parsing<'p> {
     /// The end of input, and the whole tree.
     pub fn end(self, alloc: Global) -> Result<Tree<'p>, NoMemory>
         requires at_end { IsAtEnd self }
-        ensures { IfOk result (λ tree. (refs : List Reference) (page : List ℕ) → HasReadAll refs page self.entry → IsTreeOf refs page tree.branches) }
+        ensures { IfOk result (λ tree. (page : List ℕ) → HasReadAll page self.entry → IsTreeOf built_in page tree.branches) }
     {
         hp_model::at_once();
         let Parsing {

@@ -1,7 +1,10 @@
+pub mod Decimals
 pub mod NamedSteps
 pub mod PlainRows
+pub mod Semicolons
 pub mod Steady
 pub mod StraightMoves
 pub mod StraightParts
 pub mod StraightTags
 pub mod UsualReference
+pub mod ValueReferences

@@ -8,6 +8,7 @@ use Rattle.std.proofs.lemmas.List.{map-id}
 use Rattle.hp_elements.specs.Names.{lowered as lowered_text}
 use Rattle.hp_tokens.specs.declared.state.State.{State}
 use Rattle.hp_tokens.specs.declared.state.State.TheVariants.{Data, TagOpen, EndTagOpen, TagName, BeforeAttributeName, AttributeName, AfterAttributeName, BeforeAttributeValue, AttributeValueDoubleQuoted, AttributeValueSingleQuoted, AttributeValueUnquoted, AfterAttributeValueQuoted}
+use Rattle.hp_tokens.specs.declared.state.Return.TheVariants.{DoubleQuoted, SingleQuoted}
 use Rattle.hp_tokens.specs.declared.building.Building.{Building}
 use Rattle.hp_tokens.specs.declared.building.Building.TheVariants.{Nothing, StartTag, EndTag}
 use Rattle.hp_tokens.specs.declared.building.Part.TheVariants.{Name, AttributeName as NameOfAttribute}
@@ -28,7 +29,9 @@ use Rattle.hp_lex_tags.specs.Rows.{has_row, row, row_of, tag_open, end_tag_open,
 use Rattle.hp_lex_tags.specs.declared.straight.Way.{Way}
 use Rattle.hp_lex_tags.specs.declared.straight.Way.TheVariants as way
 use Rattle.hp_lex_tags.specs.declared.straight.Reading.{Reading}
-use Rattle.hp_lex_tags.specs.Straight.{tagging, within, standing_at, begun, tag_of, naming, is_between, uses_token_alone, Onto, Arrives, IsQuoted, BeginsBy}
+use Rattle.hp_lex_tags.specs.Straight.{tagging, within, standing_at, begun, tag_of, naming, is_between, uses_token_alone, Onto, Arrives, IsQuoted, BeginsBy, ValueGrows}
+use Rattle.hp_lex_tags.specs.Usual.{ReferenceTaken}
+use Rattle.hp_lex_tags.proofs.ValueReferences.{reference_onto}
 use Rattle.hp_lex_tags.proofs.PlainRows.{double_quoted_plain, single_quoted_plain, unquoted_plain}
 use Rattle.hp_lex_tags.proofs.StraightMoves.{reread, consumed_move, consumes, rereads, onto_same, onto_join, arrives_join, over_run, between_row}
 
@@ -55,19 +58,19 @@ attribute_name_row m c h =
 abbrev pub named_tag : List ℕ → Building
 named_tag name = StartTag (record { name = name; attributes = []; attribute = None; self_closing = false })
 
-pub over_tag_name : (run : List ℕ) (old new : Unread) → ReadsRun (none_of tag_name_stops) old run new
-    → Onto TagName (named_tag []) old TagName (named_tag (lowered_text run)) new
-over_tag_name run old new r =
+pub over_tag_name : {names : List Reference} (run : List ℕ) (old new : Unread) → ReadsRun (none_of tag_name_stops) old run new
+    → Onto names TagName (named_tag []) old TagName (named_tag (lowered_text run)) new
+over_tag_name {names} run old new r =
     over_run TagName refl refl (none_of tag_name_stops) refl lowered named_tag (λ last xs c h. tag_name_row (tagging last TagName (named_tag xs)) c h) run [] old new r
 
-pub over_end_name : (run : List ℕ) (old new : Unread) → ReadsRun (none_of tag_name_stops) old run new
-    → Onto TagName (EndTag []) old TagName (EndTag (lowered_text run)) new
-over_end_name run old new r =
+pub over_end_name : {names : List Reference} (run : List ℕ) (old new : Unread) → ReadsRun (none_of tag_name_stops) old run new
+    → Onto names TagName (EndTag []) old TagName (EndTag (lowered_text run)) new
+over_end_name {names} run old new r =
     over_run TagName refl refl (none_of tag_name_stops) refl lowered (λ xs. EndTag xs) (λ last xs c h. tag_name_row (tagging last TagName (EndTag xs)) c h) run [] old new r
 
-pub over_attribute_name : (reading : Reading) (run : List ℕ) (old new : Unread) → ReadsRun (none_of attribute_name_stops) old run new
-    → Onto AttributeName (naming reading [] []) old AttributeName (naming reading (lowered_text run) []) new
-over_attribute_name reading run old new r =
+pub over_attribute_name : {names : List Reference} (reading : Reading) (run : List ℕ) (old new : Unread) → ReadsRun (none_of attribute_name_stops) old run new
+    → Onto names AttributeName (naming reading [] []) old AttributeName (naming reading (lowered_text run) []) new
+over_attribute_name {names} reading run old new r =
     over_run AttributeName refl refl (none_of attribute_name_stops) refl lowered (λ xs. naming reading xs [])
     (λ last xs c h. attribute_name_row (tagging last AttributeName (naming reading xs [])) c h) run [] old new r
 
@@ -77,12 +80,12 @@ alone-rest s h = not-true (is_resting s) (and_parts (uses_token s && not (uses_b
 
 -- a value's run in a state whose row appends to it
 module _ (reading : Reading) (name : List ℕ) (s : State) (is : IsTrue (has_row s)) (rest : uses_token_alone s ≡ true) where
-  over_text : (passes : ℕ → Bool) → passes 13 ≡ false
+  over_text : {names : List Reference} (passes : ℕ → Bool) → passes 13 ≡ false
       → ((last : Option (List ℕ)) (xs : List ℕ) (c : ℕ) → passes c ≡ true → row (tagging last s (naming reading name xs)) (Some c) ≡ stay (tagging last s (naming reading name (xs ++ c ∷ []))))
-      → (run : List ℕ) (old new : Unread) → ReadsRun passes old run new → Onto s (naming reading name []) old s (naming reading name run) new
-  over_text passes no_cr stays run old new r =
-      let P : List ℕ → Type 0 = λ ys. Onto s (naming reading name []) old s (naming reading name ys) new in
-      subst P (map-id run) (over_run s is (alone-rest s rest) passes no_cr (λ c. c) (λ xs. naming reading name xs) stays run [] old new r)
+      → (value run : List ℕ) (old new : Unread) → ReadsRun passes old run new → Onto names s (naming reading name value) old s (naming reading name (value ++ run)) new
+  over_text {names} passes no_cr stays value run old new r =
+      let P : List ℕ → Type 0 = λ ys. Onto names s (naming reading name value) old s (naming reading name (value ++ ys)) new in
+      subst P (map-id run) (over_run s is (alone-rest s rest) passes no_cr (λ c. c) (λ xs. naming reading name xs) stays run value old new r)
 
 pub double_quoted : IsQuoted (none_of double_quoted_stops) 34 AttributeValueDoubleQuoted
 double_quoted = record {
@@ -92,6 +95,9 @@ double_quoted = record {
   no_cr = refl;
   ends = λ m e. ap (λ (s : State). row_of s m (Some 34)) e;
   apart = refl;
+  back = DoubleQuoted;
+  returns = refl;
+  in_value = refl;
 }
 
 pub single_quoted : IsQuoted (none_of single_quoted_stops) 39 AttributeValueSingleQuoted
@@ -102,6 +108,9 @@ single_quoted = record {
   no_cr = refl;
   ends = λ m e. ap (λ (s : State). row_of s m (Some 39)) e;
   apart = refl;
+  back = SingleQuoted;
+  returns = refl;
+  in_value = refl;
 }
 
 -- the attribute of that name and value was kept
@@ -116,49 +125,80 @@ kept_tag : (reading new : Reading) (name value : List ℕ) → IsKept reading na
 kept_tag reading new name value e = ap (λ (r : Reading). StartTag (tag_of r)) (sym e)
 
 -- a value in quotes, up to what ends its run
-quoted_text : (passes : ℕ → Bool) (mark : ℕ) (s : State) → IsQuoted passes mark s → (reading new : Reading) (name value : List ℕ) (old mid : Unread)
-    → ReadsRun passes old value mid → IsKept reading name value new → Onto s (naming reading name []) old s (StartTag (tag_of new)) mid
-quoted_text passes mark s q reading new name value old mid r e =
-    let P : Building → Type 0 = λ b. Onto s (naming reading name []) old s b mid in
-    subst P (kept_tag reading new name value e)
-    (over_text reading name s q.has q.alone passes q.no_cr (λ last xs c h. q.plain.stays (tagging last s (naming reading name xs)) c refl h) value old mid r)
+quoted_run : {names : List Reference} (passes : ℕ → Bool) (mark : ℕ) (s : State) → IsQuoted passes mark s → (reading : Reading) (name value more : List ℕ) (old mid : Unread)
+    → ReadsRun passes old more mid → Onto names s (naming reading name value) old s (naming reading name (value ++ more)) mid
+quoted_run {names} passes mark s q reading name value more old mid r =
+    over_text reading name s q.has q.alone passes q.no_cr (λ last xs c h. q.plain.stays (tagging last s (naming reading name xs)) c refl h) value more old mid r
 
-pub quoted_left : (passes : ℕ → Bool) (mark : ℕ) (s : State) → IsQuoted passes mark s → (reading new : Reading) (name value : List ℕ) (old mid last : Unread)
-    → ReadsRun passes old value mid → IsKept reading name value new → last ≡ mid → Arrives s (naming reading name []) old new last (way.Left s)
-quoted_left passes mark s q reading new name value old mid last r e same =
-    let P : Unread → Type 0 = λ u. Onto s (naming reading name []) old s (StartTag (tag_of new)) u in
-    (subst P (sym same) (quoted_text passes mark s q reading new name value old mid r e), q.alone)
+quoted_text : {names : List Reference} (passes : ℕ → Bool) (mark : ℕ) (s : State) → IsQuoted passes mark s → (reading new : Reading) (name value : List ℕ) (old mid : Unread)
+    → ReadsRun passes old value mid → IsKept reading name value new → Onto names s (naming reading name []) old s (StartTag (tag_of new)) mid
+quoted_text {names} passes mark s q reading new name value old mid r e =
+    let P : Building → Type 0 = λ b. Onto names s (naming reading name []) old s b mid in
+    subst P (kept_tag reading new name value e) (quoted_run passes mark s q reading name [] value old mid r)
 
-pub quoted_closed : (passes : ℕ → Bool) (mark : ℕ) (s : State) → IsQuoted passes mark s → (reading new : Reading) (name value : List ℕ) (old mid behind last : Unread) (w : Way)
+-- a mark that ends a value in quotes, and one that is not there
+pub quoted_end : (names : List Reference) (passes : ℕ → Bool) (mark : ℕ) (s : State) → IsQuoted passes mark s → (reading : Reading) (old behind last : Unread) (w : Way)
+    → Reads old mark behind → Arrives names AfterAttributeValueQuoted (StartTag (tag_of reading)) behind reading last w → Arrives names s (StartTag (tag_of reading)) old reading last w
+quoted_end names passes mark s q reading old behind last w taken h =
+    let b : Building = StartTag (tag_of reading) in
+    arrives_join last reading w (consumes s AfterAttributeValueQuoted b b mark old behind (λ l. q.ends (tagging l s b) refl) q.has refl q.apart taken) h
+
+pub quoted_open : {names : List Reference} (passes : ℕ → Bool) (mark : ℕ) (s : State) → IsQuoted passes mark s → (reading : Reading) (old last : Unread) → last ≡ old
+    → Arrives names s (StartTag (tag_of reading)) old reading last (way.Left s)
+quoted_open {names} passes mark s q reading old last same =
+    let P : Unread → Type 0 = λ u. Onto names s (StartTag (tag_of reading)) old s (StartTag (tag_of reading)) u in
+    (subst P (sym same) (onto_same s (StartTag (tag_of reading)) old), q.alone)
+
+-- behind a run, its value is there and references may follow
+pub quoted_on : (names : List Reference) (passes : ℕ → Bool) (mark : ℕ) (s : State) → IsQuoted passes mark s → (reading new : Reading) (name run value : List ℕ) (old mid looked last : Unread) (w : Way)
+    → ReadsRun passes old run mid → value ≡ run → looked ≡ mid
+    → Arrives names s (naming reading name value) looked new last w → Arrives names s (naming reading name []) old new last w
+quoted_on names passes mark s q reading new name run value old mid looked last w r is same h =
+    let P : List ℕ → Type 0 = λ xs. Arrives names s (naming reading name xs) looked new last w in
+    let Q : Unread → Type 0 = λ u. Arrives names s (naming reading name run) u new last w in
+    arrives_join last new w (quoted_run passes mark s q reading name [] run old mid r) (subst Q same (subst P is h))
+
+-- a reference and the run behind it
+pub refers : {names : List Reference} (passes : ℕ → Bool) (mark : ℕ) (s : State) → IsQuoted passes mark s → (c : ℕ) (value run longer longest : List ℕ) (old mid new : Unread)
+    → ReferenceTaken names old c mid → ReadsRun passes mid run new → longer ≡ value ++ c ∷ [] → longest ≡ longer ++ run → ValueGrows names s value old longest new
+refers {names} passes mark s q c value run longer longest old mid new t r is is_longest reading name =
+    let P : State → Type 0 = λ x. Onto names x (naming reading name value) old x (naming reading name (value ++ c ∷ [])) mid in
+    let R : List ℕ → Type 0 = λ xs. Onto names s (naming reading name value) old s (naming reading name xs) mid in
+    let Q : List ℕ → Type 0 = λ xs. Onto names s (naming reading name value) old s (naming reading name xs) new in
+    subst Q (sym is_longest)
+    (onto_join (subst R (sym is) (subst P (sym q.returns) (reference_onto names q.back q.in_value (naming reading name value) old c mid t)))
+    (quoted_run passes mark s q reading name longer run mid new r))
+
+pub quoted_closed : (names : List Reference) (passes : ℕ → Bool) (mark : ℕ) (s : State) → IsQuoted passes mark s → (reading new : Reading) (name value : List ℕ) (old mid behind last : Unread) (w : Way)
     → ReadsRun passes old value mid → IsKept reading name value new → Reads mid mark behind
-    → Arrives AfterAttributeValueQuoted (StartTag (tag_of new)) behind new last w → Arrives s (naming reading name []) old new last w
-quoted_closed passes mark s q reading new name value old mid behind last w r e taken h =
+    → Arrives names AfterAttributeValueQuoted (StartTag (tag_of new)) behind new last w → Arrives names s (naming reading name []) old new last w
+quoted_closed names passes mark s q reading new name value old mid behind last w r e taken h =
     let b : Building = StartTag (tag_of new) in
     arrives_join last new w
     (onto_join (quoted_text passes mark s q reading new name value old mid r e)
     (consumes s AfterAttributeValueQuoted b b mark mid behind (λ l. q.ends (tagging l s b) refl) q.has refl q.apart taken))
     h
 
-pub unquoted_read : (reading new : Reading) (name value : List ℕ) (old mid last : Unread) (w : Way)
+pub unquoted_read : (names : List Reference) (reading new : Reading) (name value : List ℕ) (old mid last : Unread) (w : Way)
     → ReadsRun (none_of unquoted_stops) old value mid → IsKept reading name value new
-    → Arrives AttributeValueUnquoted (StartTag (tag_of new)) mid new last w → Arrives AttributeValueUnquoted (naming reading name []) old new last w
-unquoted_read reading new name value old mid last w r e h =
-    let P : Building → Type 0 = λ b. Onto AttributeValueUnquoted (naming reading name []) old AttributeValueUnquoted b mid in
+    → Arrives names AttributeValueUnquoted (StartTag (tag_of new)) mid new last w → Arrives names AttributeValueUnquoted (naming reading name []) old new last w
+unquoted_read names reading new name value old mid last w r e h =
+    let P : Building → Type 0 = λ b. Onto names AttributeValueUnquoted (naming reading name []) old AttributeValueUnquoted b mid in
     arrives_join last new w
     (subst P (kept_tag reading new name value e)
-    (over_text reading name AttributeValueUnquoted refl refl (none_of unquoted_stops) refl (λ l xs c h. unquoted_plain.stays (tagging l AttributeValueUnquoted (naming reading name xs)) c refl h) value old mid r))
+    (over_text reading name AttributeValueUnquoted refl refl (none_of unquoted_stops) refl (λ l xs c h. unquoted_plain.stays (tagging l AttributeValueUnquoted (naming reading name xs)) c refl h) [] value old mid r))
     h
 
 -- behind `=`
-pub double_opened : (reading new : Reading) (name : List ℕ) (old mid last : Unread) (w : Way) → Reads old 34 mid
-    → Arrives AttributeValueDoubleQuoted (naming reading name []) mid new last w → Arrives BeforeAttributeValue (naming reading name []) old new last w
-double_opened reading new name old mid last w taken h =
+pub double_opened : (names : List Reference) (reading new : Reading) (name : List ℕ) (old mid last : Unread) (w : Way) → Reads old 34 mid
+    → Arrives names AttributeValueDoubleQuoted (naming reading name []) mid new last w → Arrives names BeforeAttributeValue (naming reading name []) old new last w
+double_opened names reading new name old mid last w taken h =
     arrives_join last new w
     (consumes BeforeAttributeValue AttributeValueDoubleQuoted (naming reading name []) (naming reading name []) 34 old mid (λ l. refl) refl refl refl taken) h
 
-pub single_opened : (reading new : Reading) (name : List ℕ) (old mid last : Unread) (w : Way) → Reads old 39 mid
-    → Arrives AttributeValueSingleQuoted (naming reading name []) mid new last w → Arrives BeforeAttributeValue (naming reading name []) old new last w
-single_opened reading new name old mid last w taken h =
+pub single_opened : (names : List Reference) (reading new : Reading) (name : List ℕ) (old mid last : Unread) (w : Way) → Reads old 39 mid
+    → Arrives names AttributeValueSingleQuoted (naming reading name []) mid new last w → Arrives names BeforeAttributeValue (naming reading name []) old new last w
+single_opened names reading new name old mid last w taken h =
     arrives_join last new w
     (consumes BeforeAttributeValue AttributeValueSingleQuoted (naming reading name []) (naming reading name []) 39 old mid (λ l. refl) refl refl refl taken) h
 
@@ -175,10 +215,10 @@ unquoted_row m c h double single =
     let a = apart unquoted_stops c h in
     rw (a.1.0, a.1.1.0, a.1.1.1.0, a.1.1.1.1.1.0, a.1.1.1.1.1.1.1.0, double, single) refl
 
-pub unquoted_opened : (reading new : Reading) (name : List ℕ) (old last : Unread) (w : Way) → BeginsBy (none_of unquoted_stops) old.text
+pub unquoted_opened : (names : List Reference) (reading new : Reading) (name : List ℕ) (old last : Unread) (w : Way) → BeginsBy (none_of unquoted_stops) old.text
     → (first old.text ≡ Some 34 → ⊥) → (first old.text ≡ Some 39 → ⊥)
-    → Arrives AttributeValueUnquoted (naming reading name []) old new last w → Arrives BeforeAttributeValue (naming reading name []) old new last w
-unquoted_opened reading new name old last w b double single h =
+    → Arrives names AttributeValueUnquoted (naming reading name []) old new last w → Arrives names BeforeAttributeValue (naming reading name []) old new last w
+unquoted_opened names reading new name old last w b double single h =
     let t : Building = naming reading name [] in
     arrives_join last new w
     (rereads BeforeAttributeValue AttributeValueUnquoted t t b.c b.rest old
@@ -186,11 +226,11 @@ unquoted_opened reading new name old last w b double single h =
     refl refl (unlike (none_of unquoted_stops) 13 b.c refl b.passed) b.begins)
     h
 
-pub value_left : (reading new : Reading) (name value : List ℕ) (old last : Unread) → value ≡ [] → IsKept reading name value new → last ≡ old
-    → Arrives BeforeAttributeValue (naming reading name []) old new last (way.Left BeforeAttributeValue)
-value_left reading new name value old last empty e same =
-    let P : Building → Type 0 = λ b. Onto BeforeAttributeValue (naming reading name []) old BeforeAttributeValue b old in
-    let Q : Unread → Type 0 = λ u. Onto BeforeAttributeValue (naming reading name []) old BeforeAttributeValue (StartTag (tag_of new)) u in
+pub value_left : {names : List Reference} (reading new : Reading) (name value : List ℕ) (old last : Unread) → value ≡ [] → IsKept reading name value new → last ≡ old
+    → Arrives names BeforeAttributeValue (naming reading name []) old new last (way.Left BeforeAttributeValue)
+value_left {names} reading new name value old last empty e same =
+    let P : Building → Type 0 = λ b. Onto names BeforeAttributeValue (naming reading name []) old BeforeAttributeValue b old in
+    let Q : Unread → Type 0 = λ u. Onto names BeforeAttributeValue (naming reading name []) old BeforeAttributeValue (StartTag (tag_of new)) u in
     (subst Q (sym same) (subst P (ap (λ (v : List ℕ). naming reading name v) (sym empty) ∙ kept_tag reading new name value e) (onto_same BeforeAttributeValue (naming reading name []) old)), refl)
 
 -- where a name begins, and its value
@@ -199,33 +239,33 @@ begin_row BeforeAttributeName m c h k = let a = apart attribute_name_stops c k i
 begin_row AfterAttributeName m c h k = let a = apart attribute_name_stops c k in rw (a.1.0, a.1.1.0, a.1.1.1.0, a.1.1.1.1.1.0, a.1.1.1.1.1.1.0, a.1.1.1.1.1.1.1.0, a.1.1.1.1.1.1.1.1.0) refl
 begin_row _ m c h k = cc
 
-name_read : (s : State) (reading folded : Reading) (run name : List ℕ) (old mid : Unread) → is_between s ≡ true → BeginsBy (none_of attribute_name_stops) old.text
+name_read : {names : List Reference} (s : State) (reading folded : Reading) (run name : List ℕ) (old mid : Unread) → is_between s ≡ true → BeginsBy (none_of attribute_name_stops) old.text
     → IsFolded reading folded → ReadsRun (none_of attribute_name_stops) old run mid → name ≡ lowered_text run
-    → Onto s (StartTag (tag_of reading)) old AttributeName (naming folded name []) mid
-name_read s reading folded run name old mid h b e r is =
+    → Onto names s (StartTag (tag_of reading)) old AttributeName (naming folded name []) mid
+name_read {names} s reading folded run name old mid h b e r is =
     let none : Reading = record reading { attributes = added reading.attributes (begun reading.last); last = None } in
-    let begins : Onto s (StartTag (tag_of reading)) old AttributeName (naming none [] []) old =
+    let begins : Onto names s (StartTag (tag_of reading)) old AttributeName (naming none [] []) old =
     rereads s AttributeName (StartTag (tag_of reading)) (naming none [] []) b.c b.rest old (λ l. begin_row s (tagging l s (StartTag (tag_of reading))) b.c h b.passed)
     (between_row s h) refl (unlike (none_of attribute_name_stops) 13 b.c refl b.passed) b.begins in
-    let P : Reading → Type 0 = λ x. Onto s (StartTag (tag_of reading)) old AttributeName (naming x [] []) old in
-    let Q : List ℕ → Type 0 = λ x. Onto s (StartTag (tag_of reading)) old AttributeName (naming folded x []) mid in
+    let P : Reading → Type 0 = λ x. Onto names s (StartTag (tag_of reading)) old AttributeName (naming x [] []) old in
+    let Q : List ℕ → Type 0 = λ x. Onto names s (StartTag (tag_of reading)) old AttributeName (naming folded x []) mid in
     subst Q (sym is) (onto_join (subst P (sym e) begins) (over_attribute_name folded run old mid r))
 
-pub with_value : (s : State) (reading folded new : Reading) (run name : List ℕ) (old mid value last : Unread) (w : Way) → is_between s ≡ true
+pub with_value : (names : List Reference) (s : State) (reading folded new : Reading) (run name : List ℕ) (old mid value last : Unread) (w : Way) → is_between s ≡ true
     → BeginsBy (none_of attribute_name_stops) old.text → IsFolded reading folded → ReadsRun (none_of attribute_name_stops) old run mid → name ≡ lowered_text run
-    → Reads mid 61 value → Arrives BeforeAttributeValue (naming folded name []) value new last w → Arrives s (StartTag (tag_of reading)) old new last w
-with_value s reading folded new run name old mid value last w h b e r is taken k =
+    → Reads mid 61 value → Arrives names BeforeAttributeValue (naming folded name []) value new last w → Arrives names s (StartTag (tag_of reading)) old new last w
+with_value names s reading folded new run name old mid value last w h b e r is taken k =
     let t : Building = naming folded name [] in
     arrives_join last new w
     (onto_join (name_read s reading folded run name old mid h b e r is) (consumes AttributeName BeforeAttributeValue t t 61 mid value (λ l. refl) refl refl refl taken)) k
 
-pub without_value : (s : State) (reading folded new : Reading) (run name value : List ℕ) (old mid same last : Unread) (w : Way) → is_between s ≡ true
+pub without_value : (names : List Reference) (s : State) (reading folded new : Reading) (run name value : List ℕ) (old mid same last : Unread) (w : Way) → is_between s ≡ true
     → BeginsBy (none_of attribute_name_stops) old.text → IsFolded reading folded → ReadsRun (none_of attribute_name_stops) old run mid → name ≡ lowered_text run
     → value ≡ [] → IsKept folded name value new → same ≡ mid
-    → Arrives AttributeName (StartTag (tag_of new)) same new last w → Arrives s (StartTag (tag_of reading)) old new last w
-without_value s reading folded new run name value old mid same last w h b e r is empty kept stayed k =
-    let P : Building → Type 0 = λ x. Onto s (StartTag (tag_of reading)) old AttributeName x mid in
-    let Q : Unread → Type 0 = λ u. Arrives AttributeName (StartTag (tag_of new)) u new last w in
+    → Arrives names AttributeName (StartTag (tag_of new)) same new last w → Arrives names s (StartTag (tag_of reading)) old new last w
+without_value names s reading folded new run name value old mid same last w h b e r is empty kept stayed k =
+    let P : Building → Type 0 = λ x. Onto names s (StartTag (tag_of reading)) old AttributeName x mid in
+    let Q : Unread → Type 0 = λ u. Arrives names AttributeName (StartTag (tag_of new)) u new last w in
     arrives_join last new w
     (subst P (ap (λ (v : List ℕ). naming folded name v) (sym empty) ∙ kept_tag folded new name value kept) (name_read s reading folded run name old mid h b e r is))
     (subst Q stayed k)
@@ -265,15 +305,15 @@ module _ (m : Machine) (is : m.state ≡ Data) (clear : m.after_cr ≡ false) (o
   starts mid h taken =
       let b = letter_behind mid.text (ap (λ (u : List ℕ). opens_start_tag u) (sym taken.text) ∙ h) in
       Leads-join (opens mid taken)
-      ((rereads TagOpen TagName Nothing (named_tag []) b.c b.rest mid (λ l. start_row l b.c b.passed) refl refl (letter_no_cr b.c b.passed) b.begins).leads names m.last_tag old.place)
+      ((rereads TagOpen TagName Nothing (named_tag []) b.c b.rest mid (λ l. start_row l b.c b.passed) refl refl (letter_no_cr b.c b.passed) b.begins).leads m.last_tag old.place)
 
   pub ends : (mid behind : Unread) → opens_end_tag old.text ≡ true → Reads old 60 mid → Reads mid 47 behind
       → Leads (move (tag_rules names)) (standing_at m old old.place) [] (within m.last_tag old.place TagName (EndTag []) behind)
   ends mid behind h taken slash =
       let b = letter_after behind.text (ap (λ (u : List ℕ). opens_end_tag (60 ∷ u)) (sym slash.text) ∙ (ap (λ (u : List ℕ). opens_end_tag u) (sym taken.text) ∙ h)) in
       Leads-join (opens mid taken)
-      (Leads-join ((consumes TagOpen EndTagOpen Nothing Nothing 47 mid behind (λ l. refl) refl refl refl slash).leads names m.last_tag old.place)
-      ((rereads EndTagOpen TagName Nothing (EndTag []) b.c b.rest behind (λ l. end_row l b.c b.passed) refl refl (letter_no_cr b.c b.passed) b.begins).leads names m.last_tag old.place))
+      (Leads-join ((consumes TagOpen EndTagOpen Nothing Nothing 47 mid behind (λ l. refl) refl refl refl slash).leads m.last_tag old.place)
+      ((rereads EndTagOpen TagName Nothing (EndTag []) b.c b.rest behind (λ l. end_row l b.c b.passed) refl refl (letter_no_cr b.c b.passed) b.begins).leads m.last_tag old.place))
 
 -- the code point of a front byte that passes
 pub begins_by : (stops : List ℕ) → list_all (λ x. nat_lt x 128) stops ≡ true → (text : List ℕ) (byte : ℕ) (b : Bool) → b ≡ none_of stops byte → FrontIs text byte
@@ -289,20 +329,20 @@ begins_by stops low text byte b says f h = go text f.first
     go (x ∷ xs) e = let same : x ≡ f.c = cc in record { c = x; rest = xs; begins = refl; passed = (let P : ℕ → Type 0 = λ y. none_of stops y ≡ true in subst P (sym same) (high (cases_lt byte 128))) }
 
 -- the same where other marks were looked for first
-pub single_later : (reading new : Reading) (name : List ℕ) (old looked mid last : Unread) (w : Way) → looked ≡ old → Reads looked 39 mid
-    → Arrives AttributeValueSingleQuoted (naming reading name []) mid new last w → Arrives BeforeAttributeValue (naming reading name []) old new last w
-single_later reading new name old looked mid last w e taken h =
-    let P : Unread → Type 0 = λ u. Reads u 39 mid in single_opened reading new name old mid last w (subst P e taken) h
+pub single_later : (names : List Reference) (reading new : Reading) (name : List ℕ) (old looked mid last : Unread) (w : Way) → looked ≡ old → Reads looked 39 mid
+    → Arrives names AttributeValueSingleQuoted (naming reading name []) mid new last w → Arrives names BeforeAttributeValue (naming reading name []) old new last w
+single_later names reading new name old looked mid last w e taken h =
+    let P : Unread → Type 0 = λ u. Reads u 39 mid in single_opened names reading new name old mid last w (subst P e taken) h
 
-pub unquoted_later : (reading new : Reading) (name : List ℕ) (old looked again last : Unread) (w : Way) → looked ≡ old → again ≡ looked
+pub unquoted_later : (names : List Reference) (reading new : Reading) (name : List ℕ) (old looked again last : Unread) (w : Way) → looked ≡ old → again ≡ looked
     → (first old.text ≡ Some 34 → ⊥) → (first looked.text ≡ Some 39 → ⊥) → BeginsBy (none_of unquoted_stops) again.text
-    → Arrives AttributeValueUnquoted (naming reading name []) again new last w → Arrives BeforeAttributeValue (naming reading name []) old new last w
-unquoted_later reading new name old looked again last w e f double single b h =
+    → Arrives names AttributeValueUnquoted (naming reading name []) again new last w → Arrives names BeforeAttributeValue (naming reading name []) old new last w
+unquoted_later names reading new name old looked again last w e f double single b h =
     let P : Unread → Type 0 = λ u. BeginsBy (none_of unquoted_stops) u.text in
-    let Q : Unread → Type 0 = λ u. Arrives AttributeValueUnquoted (naming reading name []) u new last w in
+    let Q : Unread → Type 0 = λ u. Arrives names AttributeValueUnquoted (naming reading name []) u new last w in
     let R : Unread → Type 0 = λ u. first u.text ≡ Some 39 → ⊥ in
-    unquoted_opened reading new name old last w (subst P (f ∙ e) b) double (subst R e single) (subst Q (f ∙ e) h)
+    unquoted_opened names reading new name old last w (subst P (f ∙ e) b) double (subst R e single) (subst Q (f ∙ e) h)
 
-pub value_later : (reading new : Reading) (name value : List ℕ) (old looked again : Unread) → looked ≡ old → again ≡ looked → value ≡ [] → IsKept reading name value new
-    → Arrives BeforeAttributeValue (naming reading name []) old new again (way.Left BeforeAttributeValue)
-value_later reading new name value old looked again e f empty kept = value_left reading new name value old again empty kept (f ∙ e)
+pub value_later : {names : List Reference} (reading new : Reading) (name value : List ℕ) (old looked again : Unread) → looked ≡ old → again ≡ looked → value ≡ [] → IsKept reading name value new
+    → Arrives names BeforeAttributeValue (naming reading name []) old new again (way.Left BeforeAttributeValue)
+value_later {names} reading new name value old looked again e f empty kept = value_left reading new name value old again empty kept (f ∙ e)

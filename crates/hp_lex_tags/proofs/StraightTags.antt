@@ -54,65 +54,65 @@ end_second text rest h e = go rest (ap (λ (u : List ℕ). opens_end_tag u) (sym
     go (b ∷ []) h = cc
     go (b ∷ (c ∷ cs)) h = ap (λ (x : ℕ). Some x) (eqb-true b 47 (and_parts (b == 47) _ h).0)
 
-module _ (m : Machine) (is : m.state ≡ Data) (clear : m.after_cr ≡ false) (old mid : Unread) (taken : Reads old 60 mid) where
+module _ (names : List Reference) (m : Machine) (is : m.state ≡ Data) (clear : m.after_cr ≡ false) (old mid : Unread) (taken : Reads old 60 mid) where
   module _ (opens : opens_start_tag old.text ≡ true) (behind : Unread) (front : Reading) (named : NameTaken mid front.name behind)
       (bare : front ≡ record { name = front.name; attributes = []; last = None }) where
-    to_name : (names : List Reference) → Leads (move (tag_rules names)) (standing_at m old old.place) [] (within m.last_tag old.place TagName (StartTag (tag_of front)) behind)
-    to_name names =
+    to_name : Leads (move (tag_rules names)) (standing_at m old old.place) [] (within m.last_tag old.place TagName (StartTag (tag_of front)) behind)
+    to_name =
         let P : Building → Type 0 = λ b. Leads (move (tag_rules names)) (standing_at m old old.place) [] (within m.last_tag old.place TagName b behind) in
         let same : named_tag (lowered_text named.run) ≡ StartTag (tag_of front) =
         ap (λ (n : List ℕ). named_tag n) (sym named.is) ∙ ap (λ (r : Reading). StartTag (tag_of r)) (sym bare) in
         subst P same
-        (Leads-join (starts m is clear old names mid opens taken) ((over_tag_name named.run mid behind named.reads).leads names m.last_tag old.place))
+        (Leads-join (starts m is clear old names mid opens taken) ((over_tag_name named.run mid behind named.reads).leads m.last_tag old.place))
 
-    pub start_whole : (n : Machine) (new : Unread) (reading : Reading) (closing : Bool) (tag : Token) → ClosesStart TagName (StartTag (tag_of front)) behind closing reading new
-        → tag ≡ token.Start closing (finished_tag (tag_of reading)) → n ≡ tagging (Some reading.name) Data Nothing → TagRead m old n new (Some tag)
+    pub start_whole : (n : Machine) (new : Unread) (reading : Reading) (closing : Bool) (tag : Token) → ClosesStart names TagName (StartTag (tag_of front)) behind closing reading new
+        → tag ≡ token.Start closing (finished_tag (tag_of reading)) → n ≡ tagging (Some reading.name) Data Nothing → TagRead names m old n new (Some tag)
     start_whole n new reading closing tag c is_tag_of at =
-        let P : Token → Type 0 = λ t. TagRead m old (tagging (Some reading.name) Data Nothing) new (Some t) in
-        let Q : Machine → Type 0 = λ x. TagRead m old x new (Some tag) in
+        let P : Token → Type 0 = λ t. TagRead names m old (tagging (Some reading.name) Data Nothing) new (Some t) in
+        let Q : Machine → Type 0 = λ x. TagRead names m old x new (Some tag) in
         subst Q (sym at) (subst P (sym is_tag_of) (
-          λ names. record {
+          record {
             mid = within m.last_tag old.place c.n c.d c.mid;
-            leads = Leads-join (to_name names) (c.onto.leads names m.last_tag old.place);
-            last = c.last names m.last_tag old.place;
+            leads = Leads-join to_name (c.onto.leads m.last_tag old.place);
+            last = c.last m.last_tag old.place;
           },
           refl,
           refl,
         ))
 
-    pub start_left : (n : Machine) (new : Unread) (reading : Reading) (s : State) → Onto TagName (StartTag (tag_of front)) behind s (StartTag (tag_of reading)) new
-        → uses_token_alone s ≡ true → n ≡ tagging m.last_tag s (StartTag (tag_of reading)) → TagRead m old n new None
+    pub start_left : (n : Machine) (new : Unread) (reading : Reading) (s : State) → Onto names TagName (StartTag (tag_of front)) behind s (StartTag (tag_of reading)) new
+        → uses_token_alone s ≡ true → n ≡ tagging m.last_tag s (StartTag (tag_of reading)) → TagRead names m old n new None
     start_left n new reading s o alone at =
-        let Q : Machine → Type 0 = λ x. TagRead m old x new None in
-        subst Q (sym at) (λ names. Leads-join (to_name names) (o.leads names m.last_tag old.place), alone-rest s alone)
+        let Q : Machine → Type 0 = λ x. TagRead names m old x new None in
+        subst Q (sym at) (Leads-join to_name (o.leads m.last_tag old.place), alone-rest s alone)
 
   module _ (opens : opens_end_tag old.text ≡ true) (slash behind : Unread) (slashed : Reads mid 47 slash) (name : List ℕ) (named : NameTaken slash name behind) where
-    to_end_name : (names : List Reference) → Leads (move (tag_rules names)) (standing_at m old old.place) [] (within m.last_tag old.place TagName (EndTag name) behind)
-    to_end_name names =
+    to_end_name : Leads (move (tag_rules names)) (standing_at m old old.place) [] (within m.last_tag old.place TagName (EndTag name) behind)
+    to_end_name =
         let P : List ℕ → Type 0 = λ n. Leads (move (tag_rules names)) (standing_at m old old.place) [] (within m.last_tag old.place TagName (EndTag n) behind) in
         subst P (sym named.is)
-        (Leads-join (ends m is clear old names mid slash opens taken slashed) ((over_end_name named.run slash behind named.reads).leads names m.last_tag old.place))
+        (Leads-join (ends m is clear old names mid slash opens taken slashed) ((over_end_name named.run slash behind named.reads).leads m.last_tag old.place))
 
-    pub end_whole : (n : Machine) (new : Unread) → Reads behind 62 new → n ≡ tagging m.last_tag Data Nothing → TagRead m old n new (Some (token.EndTag name))
+    pub end_whole : (n : Machine) (new : Unread) → Reads behind 62 new → n ≡ tagging m.last_tag Data Nothing → TagRead names m old n new (Some (token.EndTag name))
     end_whole n new closed at =
-        let c : Closes TagName (EndTag name) behind (token.EndTag name) (λ last. last) new =
+        let c : Closes names TagName (EndTag name) behind (token.EndTag name) (λ last. last) new =
         emits_here TagName (EndTag name) 62 behind new (token.EndTag name) (λ last. last) (λ last. refl) refl refl closed in
-        let Q : Machine → Type 0 = λ x. TagRead m old x new (Some (token.EndTag name)) in
+        let Q : Machine → Type 0 = λ x. TagRead names m old x new (Some (token.EndTag name)) in
         subst Q (sym at) (
-          λ names. record {
+          record {
             mid = within m.last_tag old.place c.n c.d c.mid;
-            leads = Leads-join (to_end_name names) (c.onto.leads names m.last_tag old.place);
-            last = c.last names m.last_tag old.place;
+            leads = Leads-join to_end_name (c.onto.leads m.last_tag old.place);
+            last = c.last m.last_tag old.place;
           },
           refl,
           refl,
         )
 
-    pub end_left : (n : Machine) (new : Unread) → new ≡ behind → n ≡ tagging m.last_tag TagName (EndTag name) → TagRead m old n new None
+    pub end_left : (n : Machine) (new : Unread) → new ≡ behind → n ≡ tagging m.last_tag TagName (EndTag name) → TagRead names m old n new None
     end_left n new stayed at =
-        let P : Unread → Type 0 = λ u. TagRead m old (tagging m.last_tag TagName (EndTag name)) u None in
-        let Q : Machine → Type 0 = λ x. TagRead m old x new None in
-        subst Q (sym at) (subst P (sym stayed) (λ names. to_end_name names, refl))
+        let P : Unread → Type 0 = λ u. TagRead names m old (tagging m.last_tag TagName (EndTag name)) u None in
+        let Q : Machine → Type 0 = λ x. TagRead names m old x new None in
+        subst Q (sym at) (subst P (sym stayed) (to_end_name, refl))
 
 -- where nothing is held back
 lexing_bare : (s : LexState) (input : Unread) (r : ℕ) → s.ahead ≡ [] → lexing s input r ≡ standing s.machine input.place r input.text
@@ -143,14 +143,14 @@ run_tag _ h = cc
 
 module _ (names : List Reference) (s t : LexState) (n : Machine) (old new : Unread) (r start : ℕ) (is : s.machine.state ≡ Data) (ahead : s.ahead ≡ [])
     (to : t ≡ record s { machine = n }) (at : start ≡ old.place) where
-  turned_some : (tag : Token) → TagRead s.machine old n new (Some tag) → TagTurned names (lexing s old r) (Some tag) (lexing (record s { machine = n }) new start) start
+  turned_some : (tag : Token) → TagRead names s.machine old n new (Some tag) → TagTurned names (lexing s old r) (Some tag) (lexing (record s { machine = n }) new start) start
   turned_some tag h =
       let from : lexing s old r ≡ standing_at s.machine old old.place = lexing_rest s old r ahead (rests_at s.machine.state is) in
       let there : lexing (record s { machine = n }) new start ≡ standing_at n new new.place = lexing_rest (record s { machine = n }) new start ahead (rests_at n.state h.1) in
       let P : Lexing → Type 0 = λ l. TagTurned names l (Some tag) (lexing (record s { machine = n }) new start) start in
       let Q : Lexing → Type 0 = λ l. TagTurned names (standing_at s.machine old old.place) (Some tag) l start in
       let R : ℕ → Type 0 = λ p. TagTurned names (standing_at s.machine old old.place) (Some tag) (standing_at n new new.place) p in
-      let e = h.0 names in
+      let e = h.0 in
       subst P (sym from) (subst Q (sym there) (subst R (sym at) (
         (
           record {
@@ -165,19 +165,19 @@ module _ (names : List Reference) (s t : LexState) (n : Machine) (old new : Unre
         e,
       )))
 
-  turned_none : TagRead s.machine old n new None → TagTurned names (lexing s old r) None (lexing (record s { machine = n }) new start) start
+  turned_none : TagRead names s.machine old n new None → TagTurned names (lexing s old r) None (lexing (record s { machine = n }) new start) start
   turned_none h =
       let from : lexing s old r ≡ standing_at s.machine old old.place = lexing_rest s old r ahead (rests_at s.machine.state is) in
       let there : lexing (record s { machine = n }) new start ≡ standing_at n new start = lexing_on (record s { machine = n }) new start ahead h.1 in
       let P : Lexing → Type 0 = λ l. Advances (tag_rules names) l [] (lexing (record s { machine = n }) new start) [] start false in
       let Q : Lexing → Type 0 = λ l. Advances (tag_rules names) (standing_at s.machine old old.place) [] l [] start false in
       let R : ℕ → Type 0 = λ p. Leads (move (tag_rules names)) (standing_at s.machine old old.place) [] (standing_at n new p) in
-      subst P (sym from) (subst Q (sym there) (record { es = []; leads = subst R (sym at) (h.0 names); appends = Appends-none []; began = tt; says = refl }))
+      subst P (sym from) (subst Q (sym there) (record { es = []; leads = subst R (sym at) h.0; appends = Appends-none []; began = tt; says = refl }))
 
-  pub tag_turned : (tag : Option Token) → TagRead s.machine old n new tag → TagTurned names (lexing s old r) tag (lexing t new start) start
+  pub tag_turned : (tag : Option Token) → TagRead names s.machine old n new tag → TagTurned names (lexing s old r) tag (lexing t new start) start
   tag_turned tag h = let P : LexState → Type 0 = λ x. TagTurned names (lexing s old r) tag (lexing x new start) start in subst P (sym to) (by_cases tag h)
     where
-      by_cases : (tag : Option Token) → TagRead s.machine old n new tag → TagTurned names (lexing s old r) tag (lexing (record s { machine = n }) new start) start
+      by_cases : (tag : Option Token) → TagRead names s.machine old n new tag → TagTurned names (lexing s old r) tag (lexing (record s { machine = n }) new start) start
       by_cases (Some tag) h = turned_some tag h
       by_cases None h = turned_none h
 

@@ -33,23 +33,18 @@ use Rattle.hp_lex_tags.specs.Letters.{ampersand, number_sign}
 use Rattle.hp_lex_tags.specs.Rows.{has_row, row}
 use Rattle.hp_lex_tags.specs.Named.{reference_move, second_value}
 use Rattle.hp_lex_tags.specs.Tags.{tag_rules, is_here}
+use Rattle.hp_lex_tags.specs.Decided.{at_data, behind_reference, IsReference}
 use Rattle.hp_lex_tags.specs.Usual.{IsUsual}
 use Rattle.hp_lex_tags.proofs.NamedSteps.{tags_rows, named_at}
 
--- a machine in the data state after a code point that is no CR; behind `&`; in a name
-abbrev pub at_data : Machine → Machine
-at_data m = record m { state = Data; after_cr = false }
-
+-- a machine behind `&`; in a name
 abbrev pub at_reference : Machine → Machine
 at_reference m = enter CharacterReference (returning_to returns.Data (at_data m))
 
 abbrev pub at_name : Machine → Machine
 at_name m = enter NamedCharacterReference (with_buffer (ampersand ∷ []) (at_reference m))
 
-abbrev pub behind_name : Machine → Machine
-behind_name m = enter Data (at_data m)
-
-no_cr : (c : ℕ) → is_ascii_alphanumeric c ≡ true → (c == 13) ≡ false
+pub no_cr : (c : ℕ) → is_ascii_alphanumeric c ≡ true → (c == 13) ≡ false
 no_cr c h = grind arith
 
 low : (c : ℕ) → is_ascii_alphanumeric c ≡ true → c < 128
@@ -60,7 +55,7 @@ module _ (names : List Reference) (m : Machine) where
   abbrev pub next : Lexing → Move
   next = move (tag_rules names)
 
-  ampersand_move : (p r : ℕ) (u : List ℕ) → next (standing (at_data m) p r (38 ∷ u)) ≡ makes (standing (at_reference m) (p + 1) p u) []
+  pub ampersand_move : (p r : ℕ) (u : List ℕ) → next (standing (at_data m) p r (38 ∷ u)) ≡ makes (standing (at_reference m) (p + 1) p u) []
   ampersand_move p r u = refl
 
   letter_move : (q p c : ℕ) (u rest : List ℕ) → u ≡ c ∷ rest → is_ascii_alphanumeric c ≡ true
@@ -78,22 +73,22 @@ module _ (names : List Reference) (m : Machine) where
   module _ (f : Found) (c : ℕ) (u rest : List ℕ) (e : u ≡ c ∷ rest) (letter : is_ascii_alphanumeric c ≡ true) (closed : is_open names u ≡ false)
       (found : longest names u ≡ Some f) (alone : f.second ≡ None) where
     name_move : (q p : ℕ) → next (standing (at_name m) q p u)
-        ≡ makes (standing (behind_name m) (q + sum_by len_utf8 (take f.length u)) p (drop f.length u)) (record { began = p; token = character f.first } ∷ [])
+        ≡ makes (standing (behind_reference m) (q + sum_by len_utf8 (take f.length u)) p (drop f.length u)) (record { began = p; token = character f.first } ∷ [])
     name_move q p =
         let l : Lexing = standing (at_name m) q p u in
         let all : Lexing → List Token → Move = λ k ts. makes k (map (λ t. record { began = p; token = t }) ts) in
         named_at names l c rest refl e refl
         ∙ (ap (λ (b : Bool). cond b needs_more (reference_move (longest names u) l)) closed
         ∙ (ap (λ (o : Option Found). reference_move o l) found
-        ∙ ap (λ (o : Option ℕ). makes (standing (behind_name m) (q + sum_by len_utf8 (take f.length u)) p (drop f.length u))
+        ∙ ap (λ (o : Option ℕ). makes (standing (behind_reference m) (q + sum_by len_utf8 (take f.length u)) p (drop f.length u))
         (map (λ t. record { began = p; token = t }) (character f.first ∷ map character (second_value o)))) alone))
 
     pub name_leads : (p r : ℕ) → Leads next (standing (at_data m) p r (38 ∷ u)) (record { began = p; token = character f.first } ∷ [])
-        (standing (behind_name m) (p + 1 + sum_by len_utf8 (take f.length u)) r (drop f.length u))
+        (standing (behind_reference m) (p + 1 + sum_by len_utf8 (take f.length u)) r (drop f.length u))
     name_leads p r = onward (ampersand_move p r u) (onward (letter_move (p + 1) p c u rest e letter) (onward (name_move (p + 1) p) here))
 
 -- ASCII code points take a byte each
-ascii_width : (n : ℕ) (xs : List ℕ) → n ≤ length xs → list_all (λ c. nat_lt c 128) (take n xs) ≡ true → sum_by len_utf8 (take n xs) ≡ n
+pub ascii_width : (n : ℕ) (xs : List ℕ) → n ≤ length xs → list_all (λ c. nat_lt c 128) (take n xs) ≡ true → sum_by len_utf8 (take n xs) ≡ n
 ascii_width zero xs h all = refl
 ascii_width (suc n) [] h all = absurd (omega (arith, h))
 ascii_width (suc n) (x ∷ xs) h all =
@@ -108,36 +103,47 @@ pub begins-at : (xs : List ℕ) (c : ℕ) → first xs ≡ Some c → (rest : Li
 begins-at [] c h = cc
 begins-at (x ∷ xs) c h = let same : x ≡ c = cc in (xs, ap (λ (y : ℕ). y ∷ xs) same)
 
+-- a named reference
+pub named_reference : (names : List Reference) (u : List ℕ) (f : Found) → IsUsual names u f → IsReference names u f.first f.length
+named_reference names u f usual =
+    let rest = begins-at u usual.c usual.first in
+    let width : sum_by len_utf8 (take f.length u) ≡ f.length = ascii_width f.length u usual.ascii.within usual.ascii.ascii in
+    record {
+      ascii = usual.ascii;
+      some = usual.some;
+      leads = λ m p r.
+          let P : ℕ → Type 0 = λ n. Leads (move (tag_rules names)) (standing (at_data m) p r (38 ∷ u)) (record { began = p; token = character f.first } ∷ []) (standing (behind_reference m) (p + 1 + n) p (drop f.length u)) in
+          subst P width (name_leads names m f usual.c u rest.0 rest.1 usual.letter usual.closed usual.longest usual.alone p r);
+    }
+
 -- the promise of a reference that was read at once
-pub reference_turn : (names : List Reference) (s : LexState) (old mid new : Unread) (f : Found) (r place : ℕ) → s.machine.state ≡ Data
-    → s.machine.after_cr ≡ false → s.ahead ≡ [] → place ≡ old.place → first old.text ≡ Some 38 → IsUsual names (drop 1 old.text) f
-    → ReadsAscii 1 old mid → ReadsAscii f.length mid new
-    → Turned (tag_rules names) is_here (lexing s old r) [] (lexing (record s { machine = enter Data s.machine }) new place) (character f.first ∷ []) place turns.Emitted
-reference_turn names s old mid new f r place is cr none at amp usual skipped reads =
+pub reference_turn : (names : List Reference) (s : LexState) (old mid new : Unread) (c n : ℕ) (r place : ℕ) → s.machine.state ≡ Data
+    → s.machine.after_cr ≡ false → s.ahead ≡ [] → place ≡ old.place → first old.text ≡ Some 38 → IsReference names (drop 1 old.text) c n
+    → ReadsAscii 1 old mid → ReadsAscii n mid new
+    → Turned (tag_rules names) is_here (lexing s old r) [] (lexing (record s { machine = enter Data s.machine }) new place) (character c ∷ []) place turns.Emitted
+reference_turn names s old mid new c n r place is cr none at amp usual skipped reads =
     let m : Machine = s.machine in
     let t : LexState = record s { machine = enter Data s.machine } in
     let u : List ℕ = drop 1 old.text in
     let whole = begins-at old.text 38 amp in
     let text : old.text ≡ 38 ∷ u = whole.1 ∙ ap (λ (xs : List ℕ). 38 ∷ drop 1 xs) (sym whole.1) in
-    let rest = begins-at u usual.c usual.first in
-    let width : sum_by len_utf8 (take f.length u) ≡ f.length = ascii_width f.length u usual.ascii.within usual.ascii.ascii in
     let same : cleared m ≡ at_data m = ap (λ (x : State). record m { state = x; after_cr = false }) is in
     let start : lexing s old r ≡ standing (at_data m) place r (38 ∷ u) =
     lexing_clear s old r cr none ∙ (ap (λ (x : Machine). standing x old.place r old.text) same
     ∙ (ap (λ (p : ℕ). standing (at_data m) p r old.text) (sym at) ∙ ap (λ (xs : List ℕ). standing (at_data m) place r xs) text)) in
-    let gone : new.text ≡ drop f.length u = reads.text ∙ ap (λ (xs : List ℕ). drop f.length xs) skipped.text in
-    let there : new.place ≡ place + 1 + sum_by len_utf8 (take f.length u) = omega (arith, skipped.place, reads.place, at, width) in
-    let end : lexing t new place ≡ standing (behind_name m) (place + 1 + sum_by len_utf8 (take f.length u)) place (drop f.length u) =
+    let gone : new.text ≡ drop n u = reads.text ∙ ap (λ (xs : List ℕ). drop n xs) skipped.text in
+    let there : new.place ≡ place + 1 + n = omega (arith, skipped.place, reads.place, at) in
+    let end : lexing t new place ≡ standing (behind_reference m) (place + 1 + n) place (drop n u) =
     lexing_clear t new place cr none
-    ∙ (ap (λ (p : ℕ). standing (behind_name m) p place new.text) there
-    ∙ ap (λ (xs : List ℕ). standing (behind_name m) (place + 1 + sum_by len_utf8 (take f.length u)) place xs) gone) in
-    let es : List Emitted = record { began = place; token = character f.first } ∷ [] in
+    ∙ (ap (λ (p : ℕ). standing (behind_reference m) p place new.text) there
+    ∙ ap (λ (xs : List ℕ). standing (behind_reference m) (place + 1 + n) place xs) gone) in
+    let es : List Emitted = record { began = place; token = character c } ∷ [] in
     let P : Lexing → Type 0 = λ k. Leads (move (tag_rules names)) k es (lexing t new place) in
     let Q : Lexing → Type 0 = λ k. Leads (move (tag_rules names)) (standing (at_data m) place r (38 ∷ u)) es k in (
       record {
         es = es;
-        leads = subst P (sym start) (subst Q (sym end) (name_leads names m f usual.c u rest.0 rest.1 usual.letter usual.closed usual.longest usual.alone place r));
-        appends = record { more = character f.first ∷ []; appended = refl; spelled = refl; runs = ((λ h. refl), tt) };
+        leads = subst P (sym start) (subst Q (sym end) (usual.leads m place r));
+        appends = record { more = character c ∷ []; appended = refl; spelled = refl; runs = ((λ h. refl), tt) };
         began = refl;
         says = refl;
       },
@@ -175,15 +181,16 @@ first_letter (y ∷ ys) x u e letter =
     ap first (low-chars y ys u small) ∙ ap (λ (k : ℕ). Some k) same
 
 pub usual-is : (names : List Reference) (over : (cs : List ℕ) → OverChars names cs) (bytes : List ℕ) → IsUtf8 bytes → (f : Found) (x : ℕ) → slice_get bytes 0 ≡ Some x
-    → is_ascii_alphanumeric x ≡ true → is_open names bytes ≡ false → longest names bytes ≡ Some f → f.second ≡ None → (f.first == 0) ≡ false
+    → is_ascii_alphanumeric x ≡ true → is_open names bytes ≡ false → longest names bytes ≡ Some f → f.second ≡ None → f.ends_with_semicolon ≡ true → (f.first == 0) ≡ false
     → f.length ≤ length bytes → IsAscii (take f.length bytes) → IsUsual names (chars bytes) f
-usual-is names over bytes u f x begins letter closed found alone some within ascii = record {
+usual-is names over bytes u f x begins letter closed found alone semicolon some within ascii = record {
   c = x;
   first = first_letter bytes x u begins letter;
   letter = letter;
   closed = sym (open_same names over bytes u) ∙ closed;
   longest = sym (longest_same names over bytes u) ∙ found;
   alone = alone;
+  semicolon = semicolon;
   some = some;
   ascii = ascii_prefix f.length bytes u within ascii;
 }

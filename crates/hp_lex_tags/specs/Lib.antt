@@ -6,3 +6,4 @@ pub mod Tags
 pub mod Fine
 pub mod Straight
 pub mod Usual
+pub mod Decided

@@ -6,6 +6,7 @@ use Rattle.hp_elements.specs.declared.token.Token.{Token}
 use Rattle.hp_elements.specs.declared.token.Token.TheVariants as token
 use Rattle.hp_tokens.specs.declared.state.State.{State}
 use Rattle.hp_tokens.specs.declared.state.State.TheVariants.{Data, TagName, BeforeAttributeName, AttributeName, AfterAttributeName, AfterAttributeValueQuoted}
+use Rattle.hp_tokens.specs.declared.state.Return.{Return}
 use Rattle.hp_tokens.specs.declared.state.Return.TheVariants as returns
 use Rattle.hp_tokens.specs.declared.building.Building.{Building}
 use Rattle.hp_tokens.specs.declared.building.Building.TheVariants.{Nothing, StartTag}
@@ -17,7 +18,7 @@ use Rattle.hp_tokens.specs.Reading.{Unread, ReadsRun}
 use Rattle.hp_tokens.specs.Rows.{go}
 use Rattle.hp_tokens.specs.Plain.{none_of, tag_name_stops, PutsPlain}
 use Rattle.hp_lex_tags.specs.Rows.{has_row, row}
-use Rattle.hp_tokens.specs.States.{uses_token, uses_buffer, uses_return, uses_value, is_resting}
+use Rattle.hp_tokens.specs.States.{uses_token, uses_buffer, uses_return, uses_value, is_resting, return_state, is_in_value}
 use Rattle.hp_tokens.specs.Parts.{finished_tag}
 use Rattle.hp_tokens.specs.Moves.{Lexing, makes, move}
 use Rattle.hp_tokens.specs.Runs.{Leads}
@@ -87,31 +88,31 @@ abbrev pub uses_token_alone : State → Bool
 uses_token_alone s = uses_token s && not (uses_buffer s) && not (uses_return s) && not (uses_value s) && not (is_resting s)
 
 -- moves that emit nothing led from one state to another
-pub record Onto (s : State) (b : Building) (old : Unread) (n : State) (d : Building) (new : Unread) : Type 0 where
-  pub leads : (names : List Reference) (last : Option (List ℕ)) (start : ℕ)
+pub record Onto (names : List Reference) (s : State) (b : Building) (old : Unread) (n : State) (d : Building) (new : Unread) : Type 0 where
+  pub leads : (last : Option (List ℕ)) (start : ℕ)
       → Leads (move (tag_rules names)) (within last start s b old) [] (within last start n d new)
   pub shorter : length new.text ≤ length old.text
 
 -- moves led behind the tag, and the last of them emitted it
-pub record Closes (s : State) (b : Building) (old : Unread) (tag : Token) (name : Option (List ℕ) → Option (List ℕ)) (new : Unread) : Type 0 where
+pub record Closes (names : List Reference) (s : State) (b : Building) (old : Unread) (tag : Token) (name : Option (List ℕ) → Option (List ℕ)) (new : Unread) : Type 0 where
   pub n : State
   pub d : Building
   pub mid : Unread
-  pub onto : Onto s b old n d mid
-  pub last : (names : List Reference) (last : Option (List ℕ)) (start : ℕ)
+  pub onto : Onto names s b old n d mid
+  pub last : (last : Option (List ℕ)) (start : ℕ)
       → move (tag_rules names) (within last start n d mid) ≡ makes (behind_tag (name last) new) (record { began = start; token = tag } ∷ [])
 
 -- a start tag is whole
-abbrev pub ClosesStart : State → Building → Unread → Bool → Reading → Unread → Type 0
-ClosesStart s b old closing reading new =
-    Closes s b old (token.Start closing (finished_tag (tag_of reading))) (λ last. Some reading.name) new
+abbrev pub ClosesStart : List Reference → State → Building → Unread → Bool → Reading → Unread → Type 0
+ClosesStart names s b old closing reading new =
+    Closes names s b old (token.Start closing (finished_tag (tag_of reading))) (λ last. Some reading.name) new
 
 -- how far a start tag was read
-abbrev pub Arrives : State → Building → Unread → Reading → Unread → Way → Type 0
-Arrives s b old reading new (way.At n) =
-    Onto s b old n (StartTag (tag_of reading)) new × (is_between n ≡ true) × (length new.text < length old.text)
-Arrives s b old reading new (way.Whole closing) = ClosesStart s b old closing reading new
-Arrives s b old reading new (way.Left n) = Onto s b old n (StartTag (tag_of reading)) new × (uses_token_alone n ≡ true)
+abbrev pub Arrives : List Reference → State → Building → Unread → Reading → Unread → Way → Type 0
+Arrives names s b old reading new (way.At n) =
+    Onto names s b old n (StartTag (tag_of reading)) new × (is_between n ≡ true) × (length new.text < length old.text)
+Arrives names s b old reading new (way.Whole closing) = ClosesStart names s b old closing reading new
+Arrives names s b old reading new (way.Left n) = Onto names s b old n (StartTag (tag_of reading)) new × (uses_token_alone n ≡ true)
 
 -- the text begins with a code point that passes
 pub record BeginsBy (passes : ℕ → Bool) (text : List ℕ) : Type 0 where
@@ -128,6 +129,13 @@ pub record IsQuoted (passes : ℕ → Bool) (mark : ℕ) (s : State) : Type 0 wh
   pub no_cr : passes 13 ≡ false
   pub ends : (m : Machine) → m.state ≡ s → row m (Some mark) ≡ go AfterAttributeValueQuoted m
   pub apart : (mark == 13) ≡ false
+  pub back : Return
+  pub returns : s ≡ return_state back
+  pub in_value : is_in_value back ≡ true
+
+-- a value grew, while moves led on in its state
+abbrev pub ValueGrows : List Reference → State → List ℕ → Unread → List ℕ → Unread → Type 0
+ValueGrows names s value old longer new = (reading : Reading) (name : List ℕ) → Onto names s (naming reading name value) old s (naming reading name longer) new
 
 -- the name of a tag was taken, and lowered
 pub record NameTaken (old : Unread) (name : List ℕ) (new : Unread) : Type 0 where
@@ -145,8 +153,8 @@ is_tag (token.EndTag name) = true
 is_tag _ = false
 
 -- a tag was read, from one rest to the next; or its front was, and emitted nothing
-abbrev pub TagRead : Machine → Unread → Machine → Unread → Option Token → Type 0
-TagRead m old n new (Some tag) =
-    ((names : List Reference) → EmitsLast (tag_rules names) (standing_at m old old.place) tag (standing_at n new new.place) old.place) × (n.state ≡ Data) × (is_tag tag ≡ true)
-TagRead m old n new None =
-    ((names : List Reference) → Leads (move (tag_rules names)) (standing_at m old old.place) [] (standing_at n new old.place)) × (is_resting n.state ≡ false)
+abbrev pub TagRead : List Reference → Machine → Unread → Machine → Unread → Option Token → Type 0
+TagRead names m old n new (Some tag) =
+    EmitsLast (tag_rules names) (standing_at m old old.place) tag (standing_at n new new.place) old.place × (n.state ≡ Data) × (is_tag tag ≡ true)
+TagRead names m old n new None =
+    Leads (move (tag_rules names)) (standing_at m old old.place) [] (standing_at n new old.place) × (is_resting n.state ≡ false)

@@ -90,7 +90,7 @@ pub fn number_start(
 }
 
 /// A value above the last code point stays above it.
-fn capped(value: u64) -> u32
+pub(crate) fn capped(value: u64) -> u32
     ensures { result ≡ rows.capped value }
 {
     if value > 0x10FFFF {

@@ -1,5 +1,5 @@
 // The usual tag, read straight from the page: what the rows do code point by code point, at once.
-ghost use Rattle.std.specs.Prelude.{◌≡◌, ◌≤◌, ◌<◌, List, [], Some, None, OnOk, IfOk, true, false};
+ghost use Rattle.std.specs.Prelude.{◌≡◌, ◌≤◌, ◌<◌, ℕ, List, [], Some, None, OnOk, IfOk, IfSome, IfNone, true, false, refl};
 ghost use Rattle.hp_elements.specs.declared.token.Token.TheVariants as tokens;
 ghost use Rattle.std.specs.Str.{chars};
 ghost use Rattle.hp_names.specs.References.{Reference};
@@ -9,15 +9,57 @@ ghost use Rattle.hp_tokens.specs.Reading.{opens_start_tag, opens_end_tag};
 ghost use Rattle.hp_tokens.specs.Parts.{added, finished_tag};
 ghost use Rattle.hp_tokens.specs.Advancing.{held, lexing};
 ghost use Rattle.hp_lex_tags.specs.Tags.{TagTurned};
-ghost use Rattle.hp_lex_tags.specs.Straight.{tagging, begun, tag_of, naming, ends_part, is_between, behind_blanks as spec_behind_blanks, uses_token_alone, IsQuoted, BeginsBy, NameTaken, Arrives, TagRead};
-ghost use Rattle.hp_tokens.specs.Plain.{none_of, attribute_name_stops, unquoted_stops};
+ghost use Rattle.hp_lex_tags.specs.Usual.{ReferenceTaken};
+ghost use Rattle.hp_lex_tags.specs.Straight.{tagging, begun, tag_of, naming, ends_part, is_between, behind_blanks as spec_behind_blanks, uses_token_alone, IsQuoted, BeginsBy, NameTaken, ValueGrows, Arrives, TagRead};
+ghost use Rattle.hp_tokens.specs.Plain.{none_of, tag_name_stops, attribute_name_stops, unquoted_stops};
+ghost use Rattle.hp_tokens.specs.PlainLaws.{none-high};
 
+use crate::usual_reference::{is_at_ampersand, usual_name};
 use hp_elements::{Attribute, AttributeSpace, Chain, Name, Namespace, Tag, Text, Token};
+use hp_names::Names;
 use hp_tokens::{
     AnyAttributeNameText, AnyTagNameText, Building, Cursor, DoubleQuotedText, LexState, Machine,
     NewAttribute, NewTag, NoMemory, OwnedText, Run, SingleQuotedText, State, UnquotedText, add,
 };
 use std::alloc::Global;
+
+/// The name of an attribute, in any case. Most of its bytes are letters, which stand above `>`.
+#[derive(Drop)]
+struct AttributeNameBytes;
+
+impl Run for AttributeNameBytes {
+    ghost passes = { none_of attribute_name_stops };
+
+    #[inline]
+    fn passes(byte: u8) -> bool
+        ensures { result ≡ none_of attribute_name_stops byte }
+    {
+        byte > b'>' || AnyAttributeNameText::passes(byte)
+    }
+
+    ghost high = { none-high attribute_name_stops refl };
+
+    ghost no_cr = { refl };
+}
+
+/// The name of a tag, in any case. Most of its bytes are letters, which stand above `>`.
+#[derive(Drop)]
+struct TagNameBytes;
+
+impl Run for TagNameBytes {
+    ghost passes = { none_of tag_name_stops };
+
+    #[inline]
+    fn passes(byte: u8) -> bool
+        ensures { result ≡ none_of tag_name_stops byte }
+    {
+        byte > b'>' || AnyTagNameText::passes(byte)
+    }
+
+    ghost high = { none-high tag_name_stops refl };
+
+    ghost no_cr = { refl };
+}
 
 /// How far a tag was read.
 #[derive(Clone, Copy)]
@@ -55,7 +97,7 @@ fn owned(alloc: Global, text: &str) -> Result<OwnedText, NoMemory>
 }
 
 /// The attribute read last goes behind the finished ones.
-#[inline]
+#[inline(always)]
 fn fold(alloc: Global, reading: &mut Reading) -> Result<(), NoMemory>
     ensures { OnOk result (reading.new ≡ record reading.old { attributes = added reading.old.attributes (begun reading.old.last); last = None }) }
 {
@@ -86,7 +128,7 @@ fn keep(alloc: Global, reading: &mut Reading, name: Name, value: &str) -> Result
 #[inline]
 fn close(input: &mut Cursor<'_>, state: State) -> Way
     requires { ends_part state ≡ true }
-    ensures { (reading : Reading) → Arrives state (building.StartTag (tag_of reading)) input.old reading input.new result }
+    ensures { (names : List Reference) (reading : Reading) → Arrives names state (building.StartTag (tag_of reading)) input.old reading input.new result }
 {
     if input.take_byte(b'>') {
         return Way::Whole {
@@ -117,7 +159,7 @@ fn behind_blanks(state: State) -> State
 #[inline]
 fn behind(input: &mut Cursor<'_>, state: State) -> Way
     requires { ends_part state ≡ true }
-    ensures { (reading : Reading) → Arrives state (building.StartTag (tag_of reading)) input.old reading input.new result }
+    ensures { (names : List Reference) (reading : Reading) → Arrives names state (building.StartTag (tag_of reading)) input.old reading input.new result }
 {
     if input.skip_blanks() {
         return Way::At(behind_blanks(state));
@@ -128,7 +170,7 @@ fn behind(input: &mut Cursor<'_>, state: State) -> Way
 /// The same behind a value without quotes, where `/` ends nothing.
 #[inline]
 fn behind_unquoted(input: &mut Cursor<'_>) -> Way
-    ensures { (reading : Reading) → Arrives states.AttributeValueUnquoted (building.StartTag (tag_of reading)) input.old reading input.new result }
+    ensures { (names : List Reference) (reading : Reading) → Arrives names states.AttributeValueUnquoted (building.StartTag (tag_of reading)) input.old reading input.new result }
 {
     if input.skip_blanks() {
         return Way::At(State::BeforeAttributeName);
@@ -141,10 +183,80 @@ fn behind_unquoted(input: &mut Cursor<'_>) -> Way
     Way::Left(State::AttributeValueUnquoted)
 }
 
+/// A named reference at the front that is decided whatever follows, which is taken.
+#[inline(never)]
+fn take_reference(names: &Names, input: &mut Cursor<'_>) -> Option<char>
+    ensures some { IfSome result (λ c. ReferenceTaken names.now input.old c input.new) }
+    ensures none { IfNone result (input.new ≡ input.old) }
+{
+    if !is_at_ampersand(input) {
+        return None;
+    }
+    let found = usual_name(names, input.behind_front())?;
+    input.skip_ascii(1);
+    input.skip_ascii(found.length as usize);
+    Some(found.first)
+}
+
+/// The rest of a value in quotes, while references come next that are decided whatever follows.
+fn read_references<R: Run>(
+    alloc: Global,
+    names: &Names,
+    value: &mut Text<'static>,
+    input: &mut Cursor<'_>,
+    mark: u8,
+    state: State,
+) -> Result<(), NoMemory>
+    requires quoted { IsQuoted R.passes mark state }
+    ensures { OnOk result (ValueGrows names.now state value.old input.old value.new input.new) }
+{
+    let _quoted = (mark, state);
+    'parts: while let Some(c) = take_reference(names, input) {
+        value.push(alloc, c)?;
+        value.push_str(alloc, input.take_run::<R>())?;
+    }
+    Ok(())
+}
+
+/// What ends a value in quotes, if it comes next.
+#[inline]
+fn close_quoted<R: Run>(input: &mut Cursor<'_>, mark: u8, state: State) -> Way
+    requires ascii { mark < 128 }
+    requires quoted { IsQuoted R.passes mark state }
+    ensures { (names : List Reference) (reading : Reading) → Arrives names state (building.StartTag (tag_of reading)) input.old reading input.new result }
+{
+    if input.take_byte(mark) {
+        return behind(input, State::AfterAttributeValueQuoted);
+    }
+    Way::Left(state)
+}
+
+/// A value in quotes, behind its first run.
+#[inline(never)]
+fn read_behind_run<R: Run>(
+    alloc: Global,
+    names: &Names,
+    reading: &mut Reading,
+    named: ReadAttribute,
+    input: &mut Cursor<'_>,
+    mark: u8,
+    state: State,
+) -> Result<Way, NoMemory>
+    requires ascii { mark < 128 }
+    requires quoted { IsQuoted R.passes mark state }
+    ensures { IfOk result (Arrives names.now state (naming reading.old named.name named.value) input.old reading.new input.new) }
+{
+    let ReadAttribute { name, mut value } = named;
+    read_references::<R>(alloc, names, &mut value, input, mark, state)?;
+    reading.last = Some(ReadAttribute { name, value });
+    Ok(close_quoted::<R>(input, mark, state))
+}
+
 /// A value in quotes, behind the first of them.
 #[inline]
 fn read_quoted<R: Run>(
     alloc: Global,
+    names: &Names,
     reading: &mut Reading,
     name: Name,
     input: &mut Cursor<'_>,
@@ -153,24 +265,29 @@ fn read_quoted<R: Run>(
 ) -> Result<Way, NoMemory>
     requires ascii { mark < 128 }
     requires quoted { IsQuoted R.passes mark state }
-    ensures { IfOk result (Arrives state (naming reading.old name []) input.old reading.new input.new) }
+    ensures { IfOk result (Arrives names.now state (naming reading.old name []) input.old reading.new input.new) }
 {
-    keep(alloc, reading, name, input.take_run::<R>())?;
+    let run = input.take_run::<R>();
     if input.take_byte(mark) {
+        keep(alloc, reading, name, run)?;
         return Ok(behind(input, State::AfterAttributeValueQuoted));
     }
-    Ok(Way::Left(state))
+    let value = Text::from_str(alloc, run)?;
+    let named = ReadAttribute { name, value };
+    let way = read_behind_run::<R>(alloc, names, reading, named, input, mark, state)?;
+    Ok(way)
 }
 
 /// A value without quotes.
 #[inline]
 fn read_unquoted(
     alloc: Global,
+    names: &Names,
     reading: &mut Reading,
     name: Name,
     input: &mut Cursor<'_>,
 ) -> Result<Way, NoMemory>
-    ensures { IfOk result (Arrives states.AttributeValueUnquoted (naming reading.old name []) input.old reading.new input.new) }
+    ensures { IfOk result (Arrives names.now states.AttributeValueUnquoted (naming reading.old name []) input.old reading.new input.new) }
 {
     keep(alloc, reading, name, input.take_run::<UnquotedText>())?;
     Ok(behind_unquoted(input))
@@ -191,24 +308,29 @@ fn begins_value(input: &Cursor<'_>) -> bool
 #[inline]
 fn read_value(
     alloc: Global,
+    names: &Names,
     reading: &mut Reading,
     name: Name,
     input: &mut Cursor<'_>,
 ) -> Result<Way, NoMemory>
-    ensures { IfOk result (Arrives states.BeforeAttributeValue (naming reading.old name []) input.old reading.new input.new) }
+    ensures { IfOk result (Arrives names.now states.BeforeAttributeValue (naming reading.old name []) input.old reading.new input.new) }
 {
     if input.take_byte(b'"') {
         let state = State::AttributeValueDoubleQuoted;
-        let double = read_quoted::<DoubleQuotedText>(alloc, reading, name, input, b'"', state)?;
+        let double = read_quoted::<DoubleQuotedText>(
+            alloc, names, reading, name, input, b'"', state,
+        )?;
         return Ok(double);
     }
     if input.take_byte(b'\'') {
         let state = State::AttributeValueSingleQuoted;
-        let single = read_quoted::<SingleQuotedText>(alloc, reading, name, input, b'\'', state)?;
+        let single = read_quoted::<SingleQuotedText>(
+            alloc, names, reading, name, input, b'\'', state,
+        )?;
         return Ok(single);
     }
     if begins_value(input) {
-        let unquoted = read_unquoted(alloc, reading, name, input)?;
+        let unquoted = read_unquoted(alloc, names, reading, name, input)?;
         return Ok(unquoted);
     }
     keep(alloc, reading, name, "")?;
@@ -221,7 +343,7 @@ fn begins_name(input: &Cursor<'_>) -> bool
     ensures { result ≡ true → BeginsBy (none_of attribute_name_stops) input.now.text }
 {
     match input.front() {
-        Some(byte) => AnyAttributeNameText::passes(byte),
+        Some(byte) => AttributeNameBytes::passes(byte),
         None => false,
     }
 }
@@ -230,19 +352,20 @@ fn begins_name(input: &Cursor<'_>) -> bool
 #[inline(never)]
 fn read_attribute(
     alloc: Global,
+    names: &Names,
     reading: &mut Reading,
     input: &mut Cursor<'_>,
     state: State,
 ) -> Result<Way, NoMemory>
     requires between { is_between state ≡ true }
     requires name { BeginsBy (none_of attribute_name_stops) input.old.text }
-    ensures { IfOk result (Arrives state (building.StartTag (tag_of reading.old)) input.old reading.new input.new) }
+    ensures { IfOk result (Arrives names.now state (building.StartTag (tag_of reading.old)) input.old reading.new input.new) }
 {
     let _state = state;
     fold(alloc, reading)?;
-    let name = Name::from_lowered(alloc, input.take_run::<AnyAttributeNameText>())?;
+    let name = Name::from_lowered(alloc, input.take_run::<AttributeNameBytes>())?;
     if input.take_byte(b'=') {
-        let way = read_value(alloc, reading, name, input)?;
+        let way = read_value(alloc, names, reading, name, input)?;
         return Ok(way);
     }
     keep(alloc, reading, name, "")?;
@@ -253,15 +376,16 @@ fn read_attribute(
 #[inline]
 fn read_on(
     alloc: Global,
+    names: &Names,
     reading: &mut Reading,
     input: &mut Cursor<'_>,
     state: State,
 ) -> Result<Way, NoMemory>
     requires { is_between state ≡ true }
-    ensures { IfOk result (Arrives state (building.StartTag (tag_of reading.old)) input.old reading.new input.new) }
+    ensures { IfOk result (Arrives names.now state (building.StartTag (tag_of reading.old)) input.old reading.new input.new) }
 {
     if begins_name(input) {
-        let way = read_attribute(alloc, reading, input, state)?;
+        let way = read_attribute(alloc, names, reading, input, state)?;
         return Ok(way);
     }
     Ok(close(input, state))
@@ -270,16 +394,17 @@ fn read_on(
 /// The attributes, and what ends the tag.
 fn read_attributes(
     alloc: Global,
+    names: &Names,
     reading: &mut Reading,
     input: &mut Cursor<'_>,
     state: State,
 ) -> Result<Way, NoMemory>
     requires { is_between state ≡ true }
-    ensures { IfOk result (Arrives state (building.StartTag (tag_of reading.old)) input.old reading.new input.new) }
+    ensures { IfOk result (Arrives names.now state (building.StartTag (tag_of reading.old)) input.old reading.new input.new) }
 {
     let mut now = state;
     'attributes: loop {
-        let way = read_on(alloc, reading, input, now)?;
+        let way = read_on(alloc, names, reading, input, now)?;
         match way {
             Way::At(next) => now = next,
             _ => return Ok(way),
@@ -289,13 +414,18 @@ fn read_attributes(
 
 /// What follows the name of a start tag.
 #[inline]
-fn read_rest(alloc: Global, reading: &mut Reading, input: &mut Cursor<'_>) -> Result<Way, NoMemory>
-    ensures { IfOk result (Arrives states.TagName (building.StartTag (tag_of reading.old)) input.old reading.new input.new) }
+fn read_rest(
+    alloc: Global,
+    names: &Names,
+    reading: &mut Reading,
+    input: &mut Cursor<'_>,
+) -> Result<Way, NoMemory>
+    ensures { IfOk result (Arrives names.now states.TagName (building.StartTag (tag_of reading.old)) input.old reading.new input.new) }
 {
     let way = behind(input, State::TagName);
     match way {
         Way::At(state) => {
-            let end = read_attributes(alloc, reading, input, state)?;
+            let end = read_attributes(alloc, names, reading, input, state)?;
             Ok(end)
         }
         _ => Ok(way),
@@ -368,7 +498,7 @@ fn leave(
 fn read_name(alloc: Global, input: &mut Cursor<'_>) -> Result<Name, NoMemory>
     ensures { IfOk result (λ name. NameTaken input.old name input.new) }
 {
-    let name = Name::from_lowered(alloc, input.take_run::<AnyTagNameText>())?;
+    let name = Name::from_lowered(alloc, input.take_run::<TagNameBytes>())?;
     Ok(name)
 }
 
@@ -376,13 +506,14 @@ fn read_name(alloc: Global, input: &mut Cursor<'_>) -> Result<Name, NoMemory>
 #[inline(never)]
 fn read_start_tag<'p>(
     alloc: Global,
+    names: &Names,
     machine: &mut Machine,
     input: &mut Cursor<'p>,
 ) -> Result<Option<Token<'p>>, NoMemory>
     requires data { machine.old.state ≡ states.Data }
     requires clear { machine.old.after_cr ≡ false }
     requires opens { opens_start_tag input.old.text ≡ true }
-    ensures { IfOk result (TagRead machine.old input.old machine.new input.new) }
+    ensures { IfOk result (TagRead names.now machine.old input.old machine.new input.new) }
 {
     let _ = input.take_byte(b'<');
     let name = read_name(alloc, input)?;
@@ -391,7 +522,7 @@ fn read_start_tag<'p>(
         attributes: Chain::new(),
         last: None,
     };
-    let way = read_rest(alloc, &mut reading, input)?;
+    let way = read_rest(alloc, names, &mut reading, input)?;
     match way {
         Way::Whole { self_closing } => {
             let token = whole(alloc, machine, reading, self_closing)?;
@@ -423,13 +554,14 @@ fn leave_end_tag(alloc: Global, machine: &mut Machine, name: &Name) -> Result<()
 #[inline(never)]
 fn read_end_tag<'p>(
     alloc: Global,
+    names: &Names,
     machine: &mut Machine,
     input: &mut Cursor<'p>,
 ) -> Result<Option<Token<'p>>, NoMemory>
     requires data { machine.old.state ≡ states.Data }
     requires clear { machine.old.after_cr ≡ false }
     requires opens { opens_end_tag input.old.text ≡ true }
-    ensures { IfOk result (TagRead machine.old input.old machine.new input.new) }
+    ensures { IfOk result (TagRead names.now machine.old input.old machine.new input.new) }
 {
     let _ = input.take_byte(b'<');
     let _ = input.take_byte(b'/');
@@ -446,13 +578,14 @@ fn read_end_tag<'p>(
 #[inline]
 fn tag_in_data<'p>(
     alloc: Global,
+    names: &Names,
     state: &mut LexState,
     input: &mut Cursor<'p>,
     rested: &mut u64,
 ) -> Result<Option<Token<'p>>, NoMemory>
     requires data { state.old.machine.state ≡ states.Data }
     requires held { held state.old ≤ input.old.place }
-    ensures tag { IfOk result (λ tag. (names : List Reference) → TagTurned names (lexing state.old input.old rested.old) tag (lexing state.new input.new rested.new) rested.new) }
+    ensures tag { IfOk result (λ tag. TagTurned names.now (lexing state.old input.old rested.old) tag (lexing state.new input.new rested.new) rested.new) }
     ensures held { IfOk result (λ tag. held state.new ≤ input.new.place) }
 {
     if state.machine.after_cr || !state.ahead.is_empty() {
@@ -460,12 +593,12 @@ fn tag_in_data<'p>(
     }
     let place = input.place();
     if input.opens_start_tag() {
-        let start = read_start_tag(alloc, &mut state.machine, input)?;
+        let start = read_start_tag(alloc, names, &mut state.machine, input)?;
         *rested = place;
         return Ok(start);
     }
     if input.opens_end_tag() {
-        let end = read_end_tag(alloc, &mut state.machine, input)?;
+        let end = read_end_tag(alloc, names, &mut state.machine, input)?;
         *rested = place;
         return Ok(end);
     }
@@ -478,17 +611,18 @@ fn tag_in_data<'p>(
 #[inline]
 pub fn next_tag<'p>(
     alloc: Global,
+    names: &Names,
     state: &mut LexState,
     input: &mut Cursor<'p>,
     rested: &mut u64,
 ) -> Result<Option<Token<'p>>, NoMemory>
     requires held { held state.old ≤ input.old.place }
-    ensures tag { IfOk result (λ tag. (names : List Reference) → TagTurned names (lexing state.old input.old rested.old) tag (lexing state.new input.new rested.new) rested.new) }
+    ensures tag { IfOk result (λ tag. TagTurned names.now (lexing state.old input.old rested.old) tag (lexing state.new input.new rested.new) rested.new) }
     ensures held { IfOk result (λ tag. held state.new ≤ input.new.place) }
 {
     match state.machine.state {
         State::Data => {
-            let tag = tag_in_data(alloc, state, input, rested)?;
+            let tag = tag_in_data(alloc, names, state, input, rested)?;
             Ok(tag)
         }
         _ => Ok(None),

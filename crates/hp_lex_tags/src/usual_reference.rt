@@ -1,7 +1,9 @@
-// A named reference in the data state, read straight from the page: what the rows do code point by code point, at once.
-ghost use Rattle.std.specs.Prelude.{◌≡◌, ◌≤◌, ◌<◌, [], ◌∷◌, Some, map, length, true, IfSome, IfNone, IsUtf8};
+// A named or a decimal reference in the data state, read straight from the page: what the rows do code point by code point, at once.
+ghost use Rattle.std.specs.Prelude.{◌≡◌, ◌+◌, ◌*◌, ◌-◌, ◌≤◌, ◌<◌, [], ◌∷◌, Some, map, length, true, IfSome, IfNone, IsUtf8};
 ghost use Rattle.std.specs.List.{list_all};
 ghost use Rattle.std.specs.Str.{chars};
+ghost use Rattle.std.specs.Char.{is_ascii_digit};
+ghost use Rattle.hp_lex_tags.specs.Rows.{capped as spec_capped};
 ghost use Rattle.hp_tokens.specs.declared.rows.Turn.TheVariants as turns;
 ghost use Rattle.hp_tokens.specs.declared.state.State.TheVariants as states;
 ghost use Rattle.hp_tokens.specs.Reading.{first};
@@ -9,34 +11,104 @@ ghost use Rattle.hp_tokens.specs.Plain.{none_of};
 ghost use Rattle.hp_tokens.specs.Rows.{character};
 ghost use Rattle.hp_tokens.specs.Advancing.{held, lexing, Turned};
 ghost use Rattle.hp_lex_tags.specs.Tags.{is_here, tag_rules};
+ghost use Rattle.hp_lex_tags.specs.Decided.{IsReference, IsDecimal};
 ghost use Rattle.hp_lex_tags.specs.Usual.{IsUsual};
 
+use crate::references::capped;
 use hp_elements::Text;
-use hp_names::{Found, Names};
+use hp_names::{Found, Names, numeric};
 use hp_tokens::{Cursor, LexState, State};
 
-/// The reference name at the front of a text, where it is decided whatever follows, is ASCII and stands for one code point, which
-/// is not U+0000.
-fn usual_name(names: &Names, text: &[u8]) -> Option<Found>
+/// The reference name at the front of a text, where it ends with a semicolon, so that it is decided whatever follows, is ASCII and
+/// stands for one code point, which is not U+0000.
+pub(crate) fn usual_name(names: &Names, text: &[u8]) -> Option<Found>
     requires utf8 { IsUtf8 text.now }
     ensures { IfSome result (λ found. IsUsual names.now (chars text.now) found) }
 {
     names.rules();
     let first = *text.first()?;
-    if !first.is_ascii_alphanumeric() || names.is_open(text) {
+    if !first.is_ascii_alphanumeric() {
         return None;
     }
     let found = names.longest(text)?;
     let name = &text[..found.length as usize];
-    if found.second.is_some() || found.first == '\0' || !name.is_ascii() {
+    if !found.ends_with_semicolon || found.second.is_some() || found.first == '\0' {
+        return None;
+    }
+    if !name.is_ascii() {
         return None;
     }
     Some(found)
 }
 
+/// The value of a number, once one more digit is read.
+fn with_digit(value: u32, digit: u8) -> u32
+    requires { is_ascii_digit digit ≡ true }
+    ensures { result ≡ spec_capped (value * 10 + (digit - 48)) }
+{
+    capped(u64::from(value) * 10 + u64::from(digit - b'0'))
+}
+
+/// The value of the digits at the front of a text, and how many they are, where a semicolon and one more code point follow.
+fn decimal(text: &[u8]) -> Option<(u32, usize)>
+    ensures { IfSome result (λ read. IsDecimal text.now read.0 read.1) }
+{
+    let mut value: u32 = 0;
+    let mut count: usize = 0;
+    'digits: while count < text.len() && text[count].is_ascii_digit() {
+        value = with_digit(value, text[count]);
+        count += 1;
+    }
+    if count == 0 || count + 1 >= text.len() || text[count] != b';' {
+        return None;
+    }
+    Some((value, count))
+}
+
+/// A reference that is decided whatever follows: what it stands for, and how many code points it has behind its `&`.
+#[derive(Clone, Copy)]
+struct UsualReference {
+    stands_for: char,
+    length: usize,
+}
+
+/// The decimal reference at the front of a text, behind its `&#`.
+fn usual_number(names: &Names, text: &[u8]) -> Option<UsualReference>
+    requires utf8 { IsUtf8 text.now }
+    ensures { IfSome result (λ usual. IsReference names.now (35 ∷ chars text.now) usual.stands_for usual.length) }
+{
+    let _names = names;
+    let (value, count) = decimal(text)?;
+    let stands_for = numeric(u64::from(value));
+    if stands_for == '\0' {
+        return None;
+    }
+    Some(UsualReference {
+        stands_for,
+        length: count + 2,
+    })
+}
+
+/// The reference at the front of a text, behind its `&`.
+fn usual(names: &Names, text: &[u8]) -> Option<UsualReference>
+    requires utf8 { IsUtf8 text.now }
+    ensures { IfSome result (λ usual. IsReference names.now (chars text.now) usual.stands_for usual.length) }
+{
+    let first = *text.first()?;
+    if first == b'#' {
+        let number = usual_number(names, &text[1..])?;
+        return Some(number);
+    }
+    let found = usual_name(names, text)?;
+    Some(UsualReference {
+        stands_for: found.first,
+        length: found.length as usize,
+    })
+}
+
 /// Whether `&` comes next.
 #[inline]
-fn is_at_ampersand(input: &Cursor<'_>) -> bool
+pub(crate) fn is_at_ampersand(input: &Cursor<'_>) -> bool
     ensures { result ≡ true → first input.now.text ≡ Some 38 }
 {
     match input.front() {
@@ -45,7 +117,7 @@ fn is_at_ampersand(input: &Cursor<'_>) -> bool
     }
 }
 
-/// What a named reference at the front stands for, in the data state, where `rested` becomes the place of its `&`; `None` where
+/// What a named or a decimal reference with its semicolon at the front stands for, in the data state, where `rested` becomes the place of its `&`; `None` where
 /// there is none that is decided whatever follows, and then nothing changes. It is what calls of `advance` do there.
 #[inline(never)]
 pub fn next_reference<'p>(
@@ -69,10 +141,10 @@ pub fn next_reference<'p>(
         State::Data => {}
         _ => return None,
     }
-    let found = usual_name(names, input.behind_front())?;
+    let usual = usual(names, input.behind_front())?;
     *rested = input.place();
     input.skip_ascii(1);
-    input.skip_ascii(found.length as usize);
+    input.skip_ascii(usual.length);
     state.machine.enter(State::Data);
-    Some(Text::of_char(found.first))
+    Some(Text::of_char(usual.stands_for))
 }

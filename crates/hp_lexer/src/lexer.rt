@@ -171,8 +171,8 @@ impl Lexer {
         }
     }
 
-    /// What a named reference with a semicolon at the front stands for, in the data state, where that is one code point; otherwise
-    /// `None`, and nothing changes. It is what calls of `next` do there.
+    /// What a named or a decimal reference with its semicolon at the front stands for, in the data state, where that is one code
+    /// point; otherwise `None`, and nothing changes. It is what calls of `next` do there.
     #[inline]
     pub fn next_reference<'p>(&mut self, input: &mut Cursor<'p>) -> Option<Text<'p>>
         requires held { held self.old.lex ≤ input.old.place }
@@ -211,7 +211,14 @@ impl Lexer {
     {
         match self.asked {
             Asked::Nothing => {
-                let token = hp_lex_tags::next_tag(alloc, &mut self.lex, input, &mut self.rested)?;
+                let lex = &mut self.lex;
+                let token = hp_lex_tags::next_tag(
+                    alloc,
+                    &self.names,
+                    lex,
+                    input,
+                    &mut self.rested,
+                )?;
                 Ok(token)
             }
             _ => Ok(None),

@@ -77,6 +77,7 @@ const CASES: &[Case] = &[
         "<a\u{fffd} \u{fffd}=\u{fffd} c=\u{fffd}>@0$",
     ),
     ("<a b=c&#65>x", "<a b=cA>@0[x]$"),
+    ("<a b='&lt;x&gt;' c=\"&amp;&amp;\">", "<a b=<x> c=&&>@0$"),
     ("<p><q></q></p>", "<p>@0<q>@3</q>@6</p>@10$"),
     ("&am", "[&am]$"),
     ("&amp", "[&]$"),
@@ -193,7 +194,8 @@ impl Run {
         if !self.straight || self.state.ahead.len_bytes() > input.place() {
             return Ok(());
         }
-        if let Some(tag) = next_tag(alloc, &mut self.state, input, &mut self.rested)? {
+        let state = &mut self.state;
+        if let Some(tag) = next_tag(alloc, &self.names, state, input, &mut self.rested)? {
             let began = self.rested.wrapping_sub(ORIGIN).wrapping_add(self.start);
             self.teller.tell(&tag, began)?;
         }

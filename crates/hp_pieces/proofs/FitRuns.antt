@@ -1,5 +1,5 @@
 -- A run leads from a state of the lexer that can stand between two texts to such a state.
-use Rattle.std.proofs.Common.{◌≡◌, ℕ, List, [], ◌∷◌, Bool, true, false, cond, refl, ap, ◌∙◌, subst, Option, None, Some}
+use Rattle.std.proofs.Common.{◌≡◌, ℕ, List, [], ◌∷◌, Bool, true, false, cond, refl, ap, ◌∙◌, subst, sym, Option, None, Some}
 use Rattle.std.specs.Prelude.{IsSome}
 use Rattle.hp_elements.specs.declared.token.Mode.{Mode}
 use Rattle.hp_elements.specs.declared.token.Mode.TheVariants as mode
@@ -125,3 +125,9 @@ pub never_asked : (text : List ℕ) (s : ControlState) (p : Parser) (es : List E
     → move (table built_in) p.lexing ≡ asks_last_tag → ⊥
 never_asked text s p es v g e =
     subst (MoveKeeps p.lexing.machine.state p.lexing.unread) e (move_keeps p.lexing (goes_keep g (from_parts s.lex.machine v.lex.parts v.lex.last_tag)))
+
+-- where more text is needed, what was read ahead may go on
+pub rests-ahead : (text : List ℕ) (s : ControlState) (p : Parser) (es : List Edit) (l : Lexing) → IsValid s → Goes (step (table built_in)) (followed_by (parser_in s) text) es p
+    → l.machine ≡ p.lexing.machine → move (table built_in) l ≡ needs_more → may_be_ahead l.machine.state l.unread ≡ true
+rests-ahead text s p es l v g same e =
+    subst (MoveKeeps l.machine.state l.unread) e (move_keeps l (subst Fits (sym same) (goes_keep g (from_parts s.lex.machine v.lex.parts v.lex.last_tag))))

@@ -9,3 +9,5 @@ pub mod LexKept
 pub mod HandlingLex
 pub mod SameRuns
 pub mod Joining
+pub mod Ahead
+pub mod Cutting

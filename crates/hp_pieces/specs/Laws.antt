@@ -1,9 +1,9 @@
 -- The laws of runs from known states and of ends of input.
-use Rattle.std.specs.Prelude.{◌≡◌, ℕ, List, ◌++◌}
+use Rattle.std.specs.Prelude.{◌≡◌, ℕ, List, ◌++◌, true}
 use Rattle.hp_names.specs.BuiltIn.{built_in}
-use Rattle.hp_tokens.specs.Moves.{asks_last_tag, move}
+use Rattle.hp_tokens.specs.Moves.{Lexing, asks_last_tag, move, needs_more}
 use Rattle.hp_control.specs.declared.edit.Edit.{Edit}
-use Rattle.hp_control.specs.States.{ControlState, IsValid, start}
+use Rattle.hp_control.specs.States.{ControlState, IsValid, may_be_ahead, start}
 use Rattle.hp_control.specs.Tree.{applied_all, document}
 use Rattle.hp_lexer.specs.Table.{table}
 use Rattle.hp_model.specs.AtOnce.{MakeSame}
@@ -35,3 +35,8 @@ PageBuilt = (page : List ℕ) (t : ControlState) (es fs : List Edit) → Leads p
 abbrev pub NeverAsked : Type 0
 NeverAsked = (text : List ℕ) (s : ControlState) (p : Parser) (es : List Edit) → IsValid s → Goes (step (table built_in)) (followed_by (parser_in s) text) es p
     → move (table built_in) p.lexing ≡ asks_last_tag → ⊥
+
+-- Where the lexer of such a run needs more text, what it read ahead is the front of a word or of a reference's name that may go on.
+abbrev pub RestsAhead : Type 0
+RestsAhead = (text : List ℕ) (s : ControlState) (p : Parser) (es : List Edit) (l : Lexing) → IsValid s → Goes (step (table built_in)) (followed_by (parser_in s) text) es p
+    → l.machine ≡ p.lexing.machine → move (table built_in) l ≡ needs_more → may_be_ahead l.machine.state l.unread ≡ true

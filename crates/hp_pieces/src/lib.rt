@@ -5,8 +5,10 @@ mod ending;
 mod exact;
 mod fragment;
 mod laws;
+mod pieces;
 
 pub use ending::Ending;
 pub use exact::Exact;
 pub use fragment::Fragment;
 pub use laws::runs_between;
+pub use pieces::cut;

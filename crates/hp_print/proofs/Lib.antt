@@ -1,8 +1,10 @@
 pub mod Blanks
 pub mod Depths
+pub mod Fronts
 pub mod Lists
 pub mod Ordered
 pub mod Pieces
+pub mod Sizes
 pub mod Sorting
 pub mod Stable
 pub mod Steps

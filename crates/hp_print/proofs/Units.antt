@@ -44,7 +44,7 @@ first_more o p r s e f = rw (e, f) refl
 first_same : (o p : Ordering) (r s : Ordering) → o ≡ Equal → p ≡ Equal → r ≡ s → ordering_then o r ≡ ordering_then p s
 first_same o p r s e f g = rw (e, f, g) refl
 
-small : (c : ℕ) → c < 0x10000 → encode_utf16 c ≡ c ∷ []
+pub small : (c : ℕ) → c < 0x10000 → encode_utf16 c ≡ c ∷ []
 small c h = let e : nat_lt c 0x10000 ≡ true = grind (arith, nat_tests) in cond-true (nat_lt c 0x10000) _ _ e
 
 abbrev high : ℕ → ℕ

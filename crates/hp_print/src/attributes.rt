@@ -1,13 +1,13 @@
 //! The attributes of an element, in the order in which they are printed.
 
-ghost use Rattle.std.specs.Prelude.{◌≡◌, ◌++◌, OnOk, IfOk, IsTrue};
+ghost use Rattle.std.specs.Prelude.{◌≡◌, ◌++◌, ◌<◌, OnOk, IfOk, IfSome, IsTrue, length};
 ghost use Rattle.std.specs.Str.{chars};
 ghost use Rattle.hp_print.specs.Order.{by_units, in_order, printed_name, space_word, weight, InOrder};
 ghost use Rattle.hp_print.specs.Out.{Prints};
 ghost use Rattle.hp_print.specs.Print.{attribute_line, attribute_lines};
 ghost use Rattle.hp_print.specs.Shown.{attribute_of, attributes_of, follows};
 
-use crate::output::Out;
+use crate::output::{Out, line_front};
 use hp_elements::{Attribute, AttributeSpace, Chain, NoMemory};
 use std::alloc::Global;
 use std::cmp::Ordering;
@@ -58,8 +58,9 @@ fn print_space(out: &mut Out, space: AttributeSpace) -> Result<(), NoMemory>
     }
 }
 
-/// Prints an attribute.
-fn print_attribute(out: &mut Out, attribute: Shown<'_>, depth: u64) -> Result<(), NoMemory>
+/// Prints an attribute at any depth.
+#[inline(never)]
+fn print_deep(out: &mut Out, attribute: Shown<'_>, depth: u64) -> Result<(), NoMemory>
     ensures { OnOk result (Prints out.old out.new (attribute_line depth (attribute_of attribute.entry))) }
 {
     out.indent(depth)?;
@@ -69,6 +70,59 @@ fn print_attribute(out: &mut Out, attribute: Shown<'_>, depth: u64) -> Result<()
     out.put_text(attribute.value)?;
     out.put(b"\"\n")?;
     Ok(())
+}
+
+/// How many bytes the line of an attribute of a low depth takes.
+fn line_size(attribute: Shown<'_>, depth: u64) -> Option<u64>
+    requires { depth < 64 }
+    ensures { IfSome result (λ size. size ≡ length (attribute_line depth (attribute_of attribute.entry))) }
+{
+    let word = space_text(attribute.space).len() as u64;
+    let name = word.checked_add(attribute.name.as_bytes().len() as u64)?;
+    let texts = name.checked_add(attribute.value.as_bytes().len() as u64)?;
+    let size = texts.checked_add(2 * depth + 6)?;
+    Some(size)
+}
+
+/// Writes what stands before the local name of an attribute.
+fn write_space(bytes: &mut Vec<u8>, space: AttributeSpace) -> Result<(), NoMemory>
+    ensures { OnOk result (bytes.new.items ≡ bytes.old.items ++ space_word space) }
+{
+    match space {
+        AttributeSpace::Plain => Ok(()),
+        _ => bytes.extend_from_slice(space_text(space).as_bytes()),
+    }
+}
+
+/// Writes an attribute of a low depth.
+fn write_attribute(bytes: &mut Vec<u8>, attribute: Shown<'_>, depth: u64) -> Result<(), NoMemory>
+    requires { depth < 64 }
+    ensures { OnOk result (bytes.new.items ≡ bytes.old.items ++ attribute_line depth (attribute_of attribute.entry)) }
+{
+    bytes.extend_from_slice(line_front(depth))?;
+    write_space(bytes, attribute.space)?;
+    bytes.extend_from_slice(attribute.name.as_bytes())?;
+    bytes.extend_from_slice(b"=\"")?;
+    bytes.extend_from_slice(attribute.value.as_bytes())?;
+    bytes.extend_from_slice(b"\"\n")?;
+    Ok(())
+}
+
+/// Prints an attribute.
+fn print_attribute(out: &mut Out, attribute: Shown<'_>, depth: u64) -> Result<(), NoMemory>
+    ensures { OnOk result (Prints out.old out.new (attribute_line depth (attribute_of attribute.entry))) }
+{
+    if depth >= 64 {
+        return print_deep(out, attribute, depth);
+    }
+    match out {
+        Out::Counting(count) => {
+            let size = line_size(attribute, depth).ok_or(NoMemory)?;
+            *count = count.checked_add(size).ok_or(NoMemory)?;
+            Ok(())
+        }
+        Out::Writing(bytes) => write_attribute(bytes, attribute, depth),
+    }
 }
 
 /// A number by which code points are ordered as their UTF-16 code units are.
@@ -92,10 +146,41 @@ fn compare(word: &str, name: &str, other_word: &str, other_name: &str) -> Orderi
     ours.cmp(theirs)
 }
 
+/// How two names compare whose first letters are ASCII and differ.
+fn compare_fronts(name: &str, other: &str) -> Option<Ordering>
+    ensures { IfSome result (λ order. order ≡ by_units (chars name.now) (chars other.now)) }
+{
+    let ours = name.as_bytes();
+    let theirs = other.as_bytes();
+    if ours.is_empty() || theirs.is_empty() {
+        return None;
+    }
+    let first = ours[0];
+    let second = theirs[0];
+    if first < 128 && second < 128 && first != second {
+        Some(first.cmp(&second))
+    } else {
+        None
+    }
+}
+
+/// How the printed names of two attributes compare, where their first letters tell.
+fn compare_plain(first: Shown<'_>, second: Shown<'_>) -> Option<Ordering>
+    ensures { IfSome result (λ order. order ≡ by_units (printed_name (attribute_of first.entry)) (printed_name (attribute_of second.entry))) }
+{
+    match (first.space, second.space) {
+        (AttributeSpace::Plain, AttributeSpace::Plain) => compare_fronts(first.name, second.name),
+        _ => None,
+    }
+}
+
 /// How the printed names of two attributes compare.
 fn compare_names(first: Shown<'_>, second: Shown<'_>) -> Ordering
     ensures { result ≡ by_units (printed_name (attribute_of first.entry)) (printed_name (attribute_of second.entry)) }
 {
+    if let Some(order) = compare_plain(first, second) {
+        return order;
+    }
     let word = space_text(first.space);
     let other_word = space_text(second.space);
     compare(word, first.name, other_word, second.name)

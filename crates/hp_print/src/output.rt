@@ -91,7 +91,7 @@ impl Out {
 }
 
 /// What a line of a low depth begins with.
-fn line_front(depth: u64) -> &'static [u8]
+pub fn line_front(depth: u64) -> &'static [u8]
     requires { depth < 64 }
     ensures { result.now ≡ indentation depth }
 {

@@ -122,6 +122,3 @@ fn push_first(
         None => Ok(()),
     }
 }
-
-#[cfg(test)]
-mod tests;

@@ -1,8 +1,6 @@
 pub mod Toward
 pub mod Ended
 pub mod Collected
-pub mod Cutting
-pub mod Ahead
 pub mod Going
 pub mod Took
 pub mod Steps

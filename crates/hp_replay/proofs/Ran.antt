@@ -34,7 +34,7 @@ use Rattle.hp_pieces.proofs.HandlingLex.{goes-leave}
 use Rattle.hp_replay.specs.Collecting.{IsKnown, control_of, edits_of}
 use Rattle.hp_replay.specs.Reading.{HasEnded, IsAtEnd, IsBetween, IsReady, IsWithin, RanOver, Reads, control_in, edits_in, state_of}
 use Rattle.hp_replay.specs.declared.running.Running.{Running}
-use Rattle.hp_replay.proofs.Ahead.{ahead-ends}
+use Rattle.hp_pieces.proofs.Ahead.{ahead-ends}
 use Rattle.hp_replay.proofs.Ended.{told-fixed}
 
 -- before a piece the lexer may be called
@@ -77,8 +77,8 @@ pub within-so : (piece : List ℕ) (from : ControlState) (before : List Edit) (r
 within-so piece from before r valid reads = record { piece = piece; from = from; before = before; valid = valid; reads = reads }
 
 -- the piece is used up, and so the run over it has come to its end
-pub piece-ends : (old new : Running) (piece : List ℕ) → HasEnded piece (state_of old) (edits_in old) new → IsAtEnd new → new.input.text ≡ [] → RanOver piece old new
-piece-ends old new piece ended at_end used = record {
+pub piece-ends : (old new : Running) (piece : List ℕ) → HasEnded piece (state_of old) (edits_in old) new → IsAtEnd new → RanOver piece old new
+piece-ends old new piece ended at_end = record {
   edits = h.edits;
   leads = record {
     made = h.edits;
@@ -111,7 +111,7 @@ piece-ends old new piece ended at_end used = record {
     ahead : new.lexer.lex.ahead ≡ gone.at.unread
     ahead =
         sym (append-nil new.lexer.lex.ahead)
-        ∙ (ap (λ (t : List ℕ). new.lexer.lex.ahead ++ t) (sym used)
+        ∙ (ap (λ (t : List ℕ). new.lexer.lex.ahead ++ t) (sym ended.used)
         ∙ (sym (append-nil (new.lexer.lex.ahead ++ new.input.text)) ∙ gone.alike.unread))
 
     reaches : new.lexer.lex ≡ record { machine = gone.at.machine; ahead = gone.at.unread }

@@ -1,6 +1,5 @@
 -- What a step of the lexer does to how far the run over a piece has come.
-use Rattle.std.proofs.Common.{◌≡◌, ℕ, List, [], ◌∷◌, ◌++◌, Bool, true, false, inl, inr, refl, ap, ◌∙◌, sym, subst, append-nil, append_assoc, Option, None, Some}
-use Rattle.hp_elements.specs.declared.token.Rest.{Rest}
+use Rattle.std.proofs.Common.{◌≡◌, ℕ, List, [], ◌++◌, Bool, true, false, refl, ap, ◌∙◌, sym, subst, append-nil, append_assoc}
 use Rattle.hp_elements.specs.declared.token.Token.{Token}
 use Rattle.hp_names.specs.BuiltIn.{built_in}
 use Rattle.hp_names.specs.References.{Reference}
@@ -8,37 +7,35 @@ use Rattle.hp_tokens.specs.Advancing.{AreRuns}
 use Rattle.hp_tokens.specs.Moves.{Lexing, Move, needs_more, asks_cdata, asks_last_tag, move}
 use Rattle.hp_tokens.specs.Reading.{Unread}
 use Rattle.hp_tokens.specs.Runs.{Leads, followed_by as more_unread}
-use Rattle.hp_tokens.specs.States.{enter, state_of_rest}
 use Rattle.hp_control.specs.Composed.{is_foreign_now}
 use Rattle.hp_control.specs.Faithful.{Split}
 use Rattle.hp_control.specs.States.{ControlState}
 use Rattle.hp_control.specs.Tree.{Tree, applied_all}
 use Rattle.hp_control.specs.declared.edit.Edit.{Edit}
 use Rattle.hp_views.specs.View.{split_of}
-use Rattle.hp_lexer.specs.declared.lexer.Asked.{Asked}
 use Rattle.hp_lexer.specs.declared.lexer.Asked.TheVariants as asked
 use Rattle.hp_lexer.specs.declared.lexer.Lexer.{Lexer}
 use Rattle.hp_lexer.specs.declared.lexer.Step.{Step}
 use Rattle.hp_lexer.specs.declared.lexer.Step.TheVariants as steps
-use Rattle.hp_lexer.specs.Standing.{opened, stands, stands_answered, ReachesCdata, ReachesCut, Stepped}
+use Rattle.hp_lexer.specs.Standing.{stands, stands_answered, ReachesCdata, ReachesCut, Stepped}
 use Rattle.hp_lexer.specs.Table.{table}
 use Rattle.hp_model.specs.AtOnce.{MakeSame, RunsAtOnce, handle_at_once}
-use Rattle.hp_model.specs.Runs.{Parser, followed_by, switched}
-use Rattle.hp_model.specs.Turns.{left_by}
+use Rattle.hp_model.specs.Runs.{Parser, followed_by}
 use Rattle.hp_steps.specs.Alike.{Alike, SameMove}
-use Rattle.hp_steps.specs.Closing.{AreCharacters, EndsAtTag}
-use Rattle.hp_steps.specs.Handling.{AllRead, AreQuiet, left_after, made_after}
+use Rattle.hp_steps.specs.Closing.{EndsAtTag}
+use Rattle.hp_steps.specs.Handling.{AllRead, left_after, lexer_after, made_after, turned_by}
 use Rattle.hp_steps.specs.Standing.{HasGone}
 use Rattle.hp_steps.proofs.Batches.{at}
 use Rattle.hp_steps.proofs.ClosingTable.{Leads-close, MoveCloses, move-closes}
 use Rattle.hp_steps.proofs.Shifting.{move-same}
 use Rattle.hp_steps.proofs.Standing.{AnsweredFrom, asks-from, like-from, silent-from}
-use Rattle.hp_steps.proofs.Stepping.{Further, Moved, loud-further, moved-so, quiet-further, silent-moves, stepped-read}
+use Rattle.hp_steps.proofs.Lexers.{alike-after, unread-after}
+use Rattle.hp_steps.proofs.Stepping.{Further, Moved, batch-further, moved-so, silent-moves, stepped-read}
 use Rattle.hp_steps.proofs.Together.{applied-append}
 use Rattle.hp_pieces.specs.Laws.{NeverAsked}
 use Rattle.hp_pieces.specs.Running.{parser_in}
 use Rattle.hp_replay.specs.Collecting.{IsKnown, control_of, edits_of}
-use Rattle.hp_replay.specs.Reading.{HasEnded, IsReady, IsWithin, Reads, ReadsOn, Took, TurnsLexer, control_in, edits_in, turned}
+use Rattle.hp_replay.specs.Reading.{HasEnded, IsReady, IsWithin, Reads, ReadsOn, Took, control_in, edits_in}
 use Rattle.hp_replay.specs.declared.running.Running.{Running}
 
 -- what a step is
@@ -52,20 +49,6 @@ reads-more piece from before r more is h = subst (ReadsOn piece from before r) i
 -- the parser before the piece
 abbrev start : List ℕ → ControlState → Parser
 start piece from = followed_by (parser_in from) piece
-
--- a switch of the lexer is the run's
-turned-alike : (s : Option Rest) (l : Lexer) (input : Unread) → l.asked ≡ asked.Nothing → Alike (stands (turned s l) input) (switched s (stands l input))
-turned-alike None l input e = record { machine = refl; unread = refl }
-turned-alike (Some rest) l input e = record {
-  machine =
-      ap (λ (a : Asked). opened a (enter (state_of_rest rest) l.lex.machine)) e
-      ∙ sym (ap (λ (a : Asked). enter (state_of_rest rest) (opened a l.lex.machine)) e);
-  unread = refl;
-}
-
-turned-unread : (s : Option Rest) (l : Lexer) (input : Unread) → (stands (turned s l) input).unread ≡ (stands l input).unread
-turned-unread None l input = refl
-turned-unread (Some rest) l input = refl
 
 same-alike : (a b : Lexer) (x y : Unread) → a ≡ b → x ≡ y → Alike (stands a x) (stands b y)
 same-alike a b x y e f = record { machine = ap (λ (l : Lexing). l.machine) both; unread = ap (λ (l : Lexing). l.unread) both }
@@ -88,62 +71,20 @@ gone-there : (from : Parser) (r : Running) (l : Lexing) (c : ControlState) (edit
 gone-there from r l c edits control alike h =
     subst (λ (d : ControlState). HasGone built_in from (stands r.lexer r.input) [] d edits) (sym control) (like-from built_in from l (stands r.lexer r.input) [] c edits h alike)
 
--- tokens that switch the lexer nowhere
-quiet-tokens : RunsAtOnce → (piece : List ℕ) (from : ControlState) (before : List Edit) (old mid new : Running) (tokens : List Token) → Reads piece from before old → IsKnown (split_of old.view) → AllRead tokens → AreRuns tokens
-    → Moved built_in old.lexer old.input mid.lexer mid.input tokens → split_of mid.view ≡ split_of old.view → Took mid new tokens
-    → AreQuiet handle_at_once (control_in mid) tokens → new.lexer ≡ mid.lexer → Reads piece from before new
-quiet-tokens law piece from before old mid new tokens r known read runs moved view took q same = record {
-  edits = r.edits ++ further.more;
-  gone = gone-there (start piece from) new (stands mid.lexer mid.input) (left_after handle_at_once (control_in old) tokens) (r.edits ++ further.more)
-      (took.control ∙ ap (λ (v : Split). left_after handle_at_once (control_of v) tokens) view) (same-alike new.lexer mid.lexer new.input mid.input same took.input) further.gone;
-  made = made-behind (edits_in new) (edits_in old) before r.edits further.more (made_after handle_at_once (control_in old) tokens)
-      (subst (λ (v : Split). MakeSame (edits_in new) (edits_of v ++ made_after handle_at_once (control_of v) tokens)) view took.made) r.made further.same;
-  closed =
-      subst EndsAtTag (ap (λ (l : Lexing). l.unread) (ap (λ (l : Lexer). stands l mid.input) (sym same) ∙ ap (λ (u : Unread). stands new.lexer u) (sym took.input)))
-      (Leads-close built_in moved.leads r.closed);
-}
-  where
-    further : Further built_in (start piece from) (stands mid.lexer mid.input) [] (left_after handle_at_once (control_in old) tokens) r.edits (made_after handle_at_once (control_in old) tokens)
-    further = quiet-further built_in (start piece from) law (stands old.lexer old.input) (stands mid.lexer mid.input) [] (control_in old) r.edits moved.es tokens r.gone moved.leads moved.spelled read runs known.valid
-        (subst (λ (v : Split). AreQuiet handle_at_once (control_of v) tokens) view q)
-
--- a token, and no character, that may switch it
-loud-token : RunsAtOnce → (piece : List ℕ) (from : ControlState) (before : List Edit) (old mid new : Running) (t : Token) → Reads piece from before old → IsKnown (split_of old.view) → AllRead (t ∷ []) → AreRuns (t ∷ [])
-    → Moved built_in old.lexer old.input mid.lexer mid.input (t ∷ []) → mid.lexer.asked ≡ asked.Nothing → split_of mid.view ≡ split_of old.view → Took mid new (t ∷ [])
-    → (AreCharacters (t ∷ []) → ⊥) → new.lexer ≡ turned (handle_at_once (control_in mid) t).switch mid.lexer → Reads piece from before new
-loud-token law piece from before old mid new t r known read runs moved nothing view took other lexer = record {
-  edits = r.edits ++ further.more;
-  gone = gone-there (start piece from) new (switched s (stands mid.lexer mid.input)) (left_by (handle_at_once (control_in old) t)) (r.edits ++ further.more)
-      (took.control ∙ ap (λ (v : Split). left_after handle_at_once (control_of v) (t ∷ [])) view) alike further.gone;
-  made = made-behind (edits_in new) (edits_in old) before r.edits further.more (made_after handle_at_once (control_in old) (t ∷ []))
-      (subst (λ (v : Split). MakeSame (edits_in new) (edits_of v ++ made_after handle_at_once (control_of v) (t ∷ []))) view took.made) r.made further.same;
-  closed =
-      subst EndsAtTag
-      (sym (turned-unread s mid.lexer mid.input)
-      ∙ ap (λ (l : Lexing). l.unread) (ap (λ (l : Lexer). stands l mid.input) (sym own) ∙ ap (λ (u : Unread). stands new.lexer u) (sym took.input)))
-      (Leads-close built_in moved.leads r.closed);
-}
-  where
-    s : Option Rest
-    s = (handle_at_once (control_in old) t).switch
-
-    own : new.lexer ≡ turned s mid.lexer
-    own = lexer ∙ ap (λ (v : Split). turned (handle_at_once (control_of v) t).switch mid.lexer) view
-
-    further : Further built_in (start piece from) (switched s (stands mid.lexer mid.input)) [] (left_by (handle_at_once (control_in old) t)) r.edits (made_after handle_at_once (control_in old) (t ∷ []))
-    further = loud-further built_in (start piece from) law (stands old.lexer old.input) (stands mid.lexer mid.input) [] (control_in old) r.edits moved.es t r.gone moved.leads moved.spelled read runs known.valid other r.closed
-
-    alike : Alike (stands new.lexer new.input) (switched s (stands mid.lexer mid.input))
-    alike =
-        let here : Alike (stands (turned s mid.lexer) mid.input) (switched s (stands mid.lexer mid.input)) = turned-alike s mid.lexer mid.input nothing in
-        let now = same-alike new.lexer (turned s mid.lexer) new.input mid.input own took.input in
-        record { machine = now.machine ∙ here.machine; unread = now.unread ∙ here.unread }
-
 -- the tokens of a step
 pub step-tokens : RunsAtOnce → (piece : List ℕ) (from : ControlState) (before : List Edit) (old mid new : Running) (began : ℕ) (tokens : List Token) → IsReady old
     → Stepped old.lexer old.input mid.lexer mid.input (steps.Tokens began tokens) → split_of mid.view ≡ split_of old.view → Took mid new tokens
     → Reads piece from before old → Reads piece from before new
-step-tokens law piece from before old mid new began tokens ready stepped view took r = by took.lexer
+step-tokens law piece from before old mid new began tokens ready stepped view took r = record {
+  edits = r.edits ++ further.more;
+  gone = gone-there (start piece from) new there (left_after handle_at_once (control_in old) tokens) (r.edits ++ further.more)
+      (took.control ∙ ap (λ (v : Split). left_after handle_at_once (control_of v) tokens) view) alike further.gone;
+  made = made-behind (edits_in new) (edits_in old) before r.edits further.more (made_after handle_at_once (control_in old) tokens)
+      (subst (λ (v : Split). MakeSame (edits_in new) (edits_of v ++ made_after handle_at_once (control_of v) tokens)) view took.made) r.made further.same;
+  closed =
+      subst EndsAtTag (sym (alike.unread ∙ unread-after handle_at_once (control_in old) tokens (stands mid.lexer mid.input)))
+      (Leads-close built_in moved.leads r.closed);
+}
   where
     moved : Moved built_in old.lexer old.input mid.lexer mid.input tokens
     moved = moved-so built_in old.lexer old.input mid.lexer mid.input began tokens ready.names stepped
@@ -151,11 +92,20 @@ step-tokens law piece from before old mid new began tokens ready stepped view to
     read : AllRead tokens × AreRuns tokens
     read = stepped-read old.lexer old.input mid.lexer mid.input began tokens stepped
 
-    by : TurnsLexer mid new tokens → Reads piece from before new
-    by (inl q) = quiet-tokens law piece from before old mid new tokens r ready.known read.0 read.1 moved view took q.0 q.1
-    by (inr (t, one, other, lexer)) =
-        loud-token law piece from before old mid new t r ready.known (subst AllRead one read.0) (subst AreRuns one read.1) (subst (Moved built_in old.lexer old.input mid.lexer mid.input) one moved)
-        stepped.2 view (subst (Took mid new) one took) other lexer
+    there : Lexing
+    there = turned_by handle_at_once (control_in old) tokens (stands mid.lexer mid.input)
+
+    further : Further built_in (start piece from) there [] (left_after handle_at_once (control_in old) tokens) r.edits (made_after handle_at_once (control_in old) tokens)
+    further = batch-further built_in (start piece from) law (stands old.lexer old.input) (stands mid.lexer mid.input) [] (control_in old) r.edits moved.es tokens r.gone moved.leads moved.spelled read.0 read.1
+        ready.known.valid r.closed
+
+    alike : Alike (stands new.lexer new.input) there
+    alike =
+        let own : new.lexer ≡ lexer_after handle_at_once (control_in old) tokens mid.lexer =
+        took.lexer ∙ ap (λ (v : Split). lexer_after handle_at_once (control_of v) tokens mid.lexer) view in
+        let now = same-alike new.lexer (lexer_after handle_at_once (control_in old) tokens mid.lexer) new.input mid.input own took.input in
+        let after = alike-after handle_at_once (control_in old) tokens mid.lexer mid.input stepped.2 in
+        record { machine = now.machine ∙ after.machine; unread = now.unread ∙ after.unread }
 
 -- the question after `<![CDATA[`
 pub step-cdata : (piece : List ℕ) (from : ControlState) (before : List Edit) (old mid new : Running) (foreign : Bool) → IsReady old → ReachesCdata old.lexer old.input mid.lexer mid.input
@@ -203,6 +153,7 @@ step-cut piece from before old new ready reached view r = record {
     closed = Leads-close built_in leads r.closed;
   };
   needs = subst (λ (x : Move). SameMove x (move (table built_in) (stands new.lexer new.input))) needs (move-same built_in there (stands new.lexer new.input) (record { machine = refl; unread = refl }));
+  used = reached.used;
 }
   where
     there : Lexing

@@ -34,7 +34,7 @@ pub at_once-valid : RunsAtOnce → (t : Token) (c : ControlState) → IsRead t �
 at_once-valid law t c read runs v = subst IsValid (law t c read runs.0 v).control (handle-valid t c read v)
 
 -- edits of the same effect, with more behind them
-same-behind : (es fs gs : List Edit) → MakeSame es fs → MakeSame (es ++ gs) (fs ++ gs)
+pub same-behind : (es fs gs : List Edit) → MakeSame es fs → MakeSame (es ++ gs) (fs ++ gs)
 same-behind es fs gs h t = applied-append t es gs ∙ (ap (λ (x : Tree). applied_all x gs) (h t) ∙ sym (applied-append t fs gs))
 
 pub toward_on : RunsAtOnce → (start now next : Split) (tokens before rest : List Token) (t : Token) → Toward start now tokens before → before ≡ t ∷ rest → IsRead t → Collects now next t None

@@ -12,10 +12,6 @@ use Rattle.hp_model.specs.AtOnce.{MakeSame, handle_at_once}
 use Rattle.hp_model.specs.Turns.{left_by}
 use Rattle.hp_steps.specs.Handling.{AllRead, AreQuiet, left_after, made_after}
 
-abbrev pub is_character : Token → Bool
-is_character (token.Characters class text) = true
-is_character _ = false
-
 abbrev pub is_start : Token → Bool
 is_start (token.Start self_closing tag) = true
 is_start _ = false

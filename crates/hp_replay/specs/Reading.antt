@@ -1,22 +1,22 @@
 -- How far a run over a text from a known state has come (13.2).
-use Rattle.std.specs.Prelude.{◌≡◌, ℕ, ◌<◌, ◌≤◌, ◌^◌, Bool, true, false, ◌⊎◌, List, [], ◌∷◌, ◌++◌, Option, None, Some, IsTrue}
-use Rattle.hp_elements.specs.declared.token.Rest.{Rest}
+use Rattle.std.specs.Prelude.{◌≡◌, ℕ, ◌<◌, ◌≤◌, ◌^◌, Bool, true, false, List, [], ◌++◌, IsTrue}
 use Rattle.hp_elements.specs.declared.token.Token.{Token}
 use Rattle.hp_names.specs.BuiltIn.{built_in}
 use Rattle.hp_tokens.specs.Advancing.{held}
 use Rattle.hp_tokens.specs.Moves.{needs_more, move}
-use Rattle.hp_tokens.specs.Ranks.{weight}
 use Rattle.hp_control.specs.declared.edit.Edit.{Edit}
+use Rattle.hp_control.specs.Faithful.{StandsOn}
+use Rattle.hp_control.specs.Nothing.{nothing}
 use Rattle.hp_control.specs.States.{ControlState, IsValid, lex_start}
 use Rattle.hp_views.specs.View.{split_of}
 use Rattle.hp_lexer.specs.declared.lexer.Asked.TheVariants as asked
-use Rattle.hp_lexer.specs.declared.lexer.Lexer.{Lexer}
-use Rattle.hp_lexer.specs.Standing.{is_answered, stands, load, switched}
+use Rattle.hp_lexer.specs.Standing.{is_answered, stands, load}
 use Rattle.hp_lexer.specs.Table.{table}
 use Rattle.hp_model.specs.AtOnce.{MakeSame, handle_at_once}
 use Rattle.hp_model.specs.Runs.{followed_by}
-use Rattle.hp_steps.specs.Closing.{AreCharacters, EndsAtTag}
-use Rattle.hp_steps.specs.Handling.{AreQuiet, left_after, made_after}
+use Rattle.hp_model.specs.Turns.{left_by}
+use Rattle.hp_steps.specs.Closing.{EndsAtTag}
+use Rattle.hp_steps.specs.Handling.{left_after, lexer_after, made_after, turned}
 use Rattle.hp_steps.specs.Standing.{HasGone}
 use Rattle.hp_pieces.specs.Running.{Leads, parser_in}
 use Rattle.hp_replay.specs.Collecting.{IsKnown, control_of, edits_of}
@@ -63,6 +63,7 @@ pub record Reads (piece : List ℕ) (from : ControlState) (before : List Edit) (
 pub record HasEnded (piece : List ℕ) (from : ControlState) (before : List Edit) (r : Running) : Type 0 where
   pub reads : Reads piece from before r
   pub needs : move (table built_in) (stands r.lexer r.input) ≡ needs_more
+  pub used : r.input.text ≡ []
 
 -- some run over a piece from a valid state has come there
 pub record IsWithin (r : Running) : Type 0 where
@@ -87,25 +88,18 @@ pub record RanOver (text : List ℕ) (old new : Running) : Type 0 where
   pub leads : Leads text (state_of old) edits (state_of new)
   pub made : MakeSame (edits_in new) (edits_in old ++ edits)
 
--- the lexer, switched where a token calls for that
-abbrev pub turned : Option Rest → Lexer → Lexer
-turned None l = l
-turned (Some rest) l = switched rest l
-
--- no token switches the lexer; or there is one, which is no character
-abbrev pub TurnsLexer : Running → Running → List Token → Type 0
-TurnsLexer old new ts =
-    (AreQuiet handle_at_once (control_in old) ts × (new.lexer ≡ old.lexer))
-    ⊎ ((t : Token) × (ts ≡ t ∷ []) × (AreCharacters (t ∷ []) → ⊥) × (new.lexer ≡ turned (handle_at_once (control_in old) t).switch old.lexer))
+-- a token was handled, and the lexer switched where it calls for that
+pub record TookOne (old new : Running) (t : Token) : Type 0 where
+  pub input : new.input ≡ old.input
+  pub lexer : new.lexer ≡ turned (handle_at_once (control_in old) t).switch old.lexer
+  pub control : control_in new ≡ left_by (handle_at_once (control_in old) t)
+  pub made : MakeSame (edits_in new) (edits_in old ++ (handle_at_once (control_in old) t).outcome.edits)
+  pub stands : StandsOn nothing (split_of new.view)
 
 -- the tokens of a step were handled
 pub record Took (old new : Running) (ts : List Token) : Type 0 where
   pub input : new.input ≡ old.input
-  pub lexer : TurnsLexer old new ts
+  pub lexer : new.lexer ≡ lexer_after handle_at_once (control_in old) ts old.lexer
   pub control : control_in new ≡ left_after handle_at_once (control_in old) ts
   pub made : MakeSame (edits_in new) (edits_in old ++ made_after handle_at_once (control_in old) ts)
   pub known : IsKnown (split_of new.view)
-  pub names : new.lexer.names ≡ old.lexer.names
-  pub asked : new.lexer.asked ≡ old.lexer.asked
-  pub held : held new.lexer.lex ≡ held old.lexer.lex
-  pub lighter : weight (stands new.lexer new.input) ≤ weight (stands old.lexer old.input)

@@ -5,7 +5,6 @@ ghost use Rattle.hp_control.specs.Composed.{is_foreign_now};
 ghost use Rattle.hp_control.specs.States.{lex_start};
 ghost use Rattle.hp_model.specs.Whole.{IsRead};
 ghost use Rattle.hp_views.specs.View.{split_of};
-ghost use Rattle.hp_steps.specs.Handling.{AllRead};
 ghost use Rattle.hp_replay.specs.Collecting.{control_of, Collects, CollectsAll, IsKnown};
 
 use crate::NoMemory;
@@ -70,26 +69,6 @@ pub(crate) fn collect<'p>(
         Ok(handled) => Ok(handled.switch),
         Err(_) => Err(NoMemory),
     }
-}
-
-/// Handles tokens one behind the other, of which none is to call for another state of the lexer.
-pub(crate) fn collect_all<'p>(
-    alloc: Global,
-    view: &mut View<'p, Nothing>,
-    tokens: Tokens<'p>,
-) -> Result<(), NoMemory>
-    requires known { IsKnown (split_of view.old) }
-    requires read { AllRead tokens }
-    requires runs { AreRuns tokens }
-    ensures { OnOk result (CollectsAll (split_of view.old) (split_of view.new) tokens.entry) }
-{
-    hp_model::at_once();
-    for token in tokens {
-        if collect(alloc, view, token)?.is_some() {
-            return Err(NoMemory);
-        }
-    }
-    Ok(())
 }
 
 /// Whether there is an adjusted current node outside the HTML namespace.

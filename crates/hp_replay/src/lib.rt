@@ -4,7 +4,6 @@
 mod at_end;
 mod collecting;
 mod laws;
-mod pieces;
 mod replaying;
 mod running;
 mod tokens;

@@ -1,5 +1,5 @@
 // The run of the sequential parser over a text from a known state.
-ghost use Rattle.std.specs.Prelude.{◌≡◌, ℕ, List, [], ◌∷◌, true, IfOk, OnOk};
+ghost use Rattle.std.specs.Prelude.{◌≡◌, ◌≢◌, ℕ, List, [], true, false, IfOk, OnOk};
 ghost use Rattle.std.specs.Str.{chars};
 ghost use Rattle.hp_tokens.specs.Advancing.{AreRuns};
 ghost use Rattle.hp_control.specs.States.{ControlState, IsValid};
@@ -11,17 +11,16 @@ ghost use Rattle.hp_model.specs.Whole.{IsRead};
 ghost use Rattle.hp_steps.specs.Closing.{EndsAtTag};
 ghost use Rattle.hp_steps.specs.Handling.{AllRead};
 ghost use Rattle.hp_replay.specs.Collecting.{control_of, edits_of, IsKnown};
-ghost use Rattle.hp_replay.specs.Reading.{edits_in, state_of, HasEnded, IsAtEnd, IsBetween, IsReady, IsWithin, RanOver, Reads, ReadsOn, StepsOn, Took};
+ghost use Rattle.hp_replay.specs.Reading.{edits_in, state_of, HasEnded, IsAtEnd, IsBetween, IsReady, IsWithin, RanOver, Reads, ReadsOn, StepsOn, Took, TookOne};
 
 use crate::NoMemory;
-use crate::collecting::{apart, collect, collect_all, is_foreign};
+use crate::collecting::{apart, collect, is_foreign};
 use crate::laws::{never_asked, runs_join, runs_stay_valid};
-use crate::pieces::{cut, is_over};
-use crate::tokens::is_character;
 use crate::told::told_all;
 use hp_control::{Control, Edits, Nothing};
 use hp_elements::{Token, Tokens};
 use hp_lexer::{Cursor, Lexer, Step};
+use hp_pieces::cut;
 use hp_views::View;
 use std::alloc::Global;
 
@@ -81,18 +80,8 @@ impl<'p> Running<'p> {
     {
         self.input = Cursor::of_str(piece);
         self.read_piece(alloc)?;
-        if !self.is_used_up() {
-            return Err(NoMemory);
-        }
         runs_stay_valid();
         Ok(())
-    }
-
-    /// Whether nothing of the piece is left.
-    fn is_used_up(&self) -> bool
-        ensures { result ≡ true → self.now.input.text ≡ [] }
-    {
-        self.input.peek().is_none()
     }
 
     /// Reads what is left of the piece.
@@ -135,46 +124,29 @@ impl<'p> Running<'p> {
         }
     }
 
-    /// Handles the tokens of a step.
+    /// Handles the tokens of a step, one behind the other.
     fn handle(&mut self, alloc: Global, tokens: Tokens<'p>) -> Result<(), NoMemory>
-        requires asked { self.old.lexer.asked ≡ asked.Nothing }
         requires known { IsKnown (split_of self.old.view) }
         requires read { AllRead tokens }
         requires runs { AreRuns tokens }
         ensures { OnOk result (Took self.old self.new tokens.entry) }
     {
-        let mut tokens = tokens;
-        if tokens.len() != 1 {
-            collect_all(alloc, &mut self.view, tokens)?;
-            return Ok(());
+        hp_model::at_once();
+        for token in tokens {
+            self.handle_one(alloc, token)?;
         }
-        match tokens.pop() {
-            Some(token) => {
-                self.handle_only(alloc, token)?;
-                Ok(())
-            }
-            None => Err(NoMemory),
-        }
+        Ok(())
     }
 
-    /// Handles the only token of a step, and switches the lexer where a tag calls for that.
-    fn handle_only(&mut self, alloc: Global, token: Token<'p>) -> Result<(), NoMemory>
-        requires asked { self.old.lexer.asked ≡ asked.Nothing }
+    /// Handles a token, and switches the lexer where it calls for that.
+    fn handle_one(&mut self, alloc: Global, token: Token<'p>) -> Result<(), NoMemory>
         requires known { IsKnown (split_of self.old.view) }
         requires read { IsRead token }
-        requires runs { AreRuns (token ∷ []) }
-        ensures { OnOk result (Took self.old self.new (token.entry ∷ [])) }
+        ensures { OnOk result (TookOne self.old self.new token.entry) }
     {
-        hp_model::at_once();
-        hp_lexer::steps_fall();
-        let is_text = is_character(&token);
-        let switch = collect(alloc, &mut self.view, token)?;
-        match switch {
+        match collect(alloc, &mut self.view, token)? {
             None => Ok(()),
             Some(rest) => {
-                if is_text {
-                    return Err(NoMemory);
-                }
                 self.lexer.switch(rest);
                 Ok(())
             }
@@ -208,4 +180,12 @@ fn ended<'p>(
     let (control, edits) = view.into_control(lex);
     let edits = told_all(alloc, edits)?;
     Ok((control, edits))
+}
+
+/// Whether nothing of the text is left.
+fn is_over(text: &str) -> bool
+    ensures done { result ≡ true → text.now ≡ [] }
+    ensures more { result ≡ false → text.now ≢ [] }
+{
+    text.is_empty()
 }

@@ -71,12 +71,13 @@ static TABLE_MODES: [Mode; 7] = [
 static REST_MODES: [Mode; 3] = [Mode::InSelect, Mode::InSelectInTable, Mode::InTemplate];
 
 fn act_of(part: Part, row: u16, at: u32) -> Option<Act> {
-    match part {
-        Part::Page => hp_rules_page::act(row, at),
-        Part::Body => hp_rules_body::act(row, at),
-        Part::Table => hp_rules_table::act(row, at),
-        Part::Rest => crate::act(row, at),
-    }
+    let acts = match part {
+        Part::Page => hp_rules_page::acts_numbered(row),
+        Part::Body => hp_rules_body::acts_numbered(row),
+        Part::Table => hp_rules_table::acts_numbered(row),
+        Part::Rest => crate::acts_numbered(row),
+    };
+    acts.get(at as usize).copied()
 }
 
 /// The row of a token in the mode of that column; behind the modes of the rest stands foreign content.

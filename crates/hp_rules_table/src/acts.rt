@@ -8,7 +8,7 @@ use hp_elements::Act::{self, *};
 use hp_elements::{Known, Mode, Rest, Scope, SetName, Test, Which};
 
 /// The acts of the row of that number, and none past the last row.
-pub(crate) fn acts(row: u16) -> &'static [Act]
+pub fn acts_numbered(row: u16) -> &'static [Act]
     ensures { result.now ≡ acts_numbered all_rows row }
 {
     match row {

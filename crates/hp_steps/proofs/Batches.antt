@@ -35,7 +35,7 @@ module _ (does : Handler) where
 abbrev pub at : Lexing → ControlState → Parser
 at l c = record { lexing = l; control = c }
 
-built-control : (es : List Emitted) (p : Parser) → (built p es).parser.control ≡ left_after handle p.control (tokens_of es)
+pub built-control : (es : List Emitted) (p : Parser) → (built p es).parser.control ≡ left_after handle p.control (tokens_of es)
 built-control [] p = refl
 built-control (e ∷ es) p = built-control es (told p (handle p.control e.token))
 

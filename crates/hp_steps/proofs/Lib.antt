@@ -9,4 +9,7 @@ pub mod Batches
 pub mod Together
 pub mod Standing
 pub mod Ending
+pub mod Quiet
+pub mod Turning
+pub mod Lexers
 pub mod Stepping

@@ -24,7 +24,7 @@ use Rattle.hp_steps.proofs.Batches.{at, quiet-goes}
 use Rattle.hp_steps.proofs.Began.{tokens-append}
 use Rattle.hp_steps.proofs.Shifting.{move-same}
 
-Goes-join : {next : Parser → Step} {p q r : Parser} {es fs : List Edit} → Goes next p es q → Goes next q fs r → Goes next p (es ++ fs) r
+pub Goes-join : {next : Parser → Step} {p q r : Parser} {es fs : List Edit} → Goes next p es q → Goes next q fs r → Goes next p (es ++ fs) r
 Goes-join stays g = g
 Goes-join {next} {p} {r = r} {fs = fs} (steps_on {es = first} {fs = later} e g) h =
     let P : List Edit → Type 0 = λ xs. Goes next p xs r in
@@ -54,6 +54,11 @@ module _ (next : Lexing → Move) (same : (l k : Lexing) → Alike l k → SameM
             ∙ (ap (λ (ts : List Token). ts ++ tokens_of later.emits) first.4
             ∙ (ap (λ (ts : List Token). tokens_of es ++ ts) later.tokens ∙ sym (tokens-append es fs)));
       }
+
+-- the run's switch of the lexer
+pub switched-alike : (s : Option Rest) (k to : Lexing) (later : List ℕ) → Alike (more_unread k later) to → Alike (more_unread (switched s k) later) (switched s to)
+switched-alike None k to later a = a
+switched-alike (Some rest) k to later a = record { machine = ap (λ (m : Machine). enter (state_of_rest rest) m) a.machine; unread = a.unread }
 
 module _ (names : List Reference) (from : Parser) where
   -- the same place, counted otherwise
@@ -93,10 +98,6 @@ module _ (names : List Reference) (from : Parser) where
   one-token t [] h = cc
   one-token t (e ∷ []) h = (e, refl, cc)
   one-token t (e ∷ f ∷ es) h = cc
-
-  switched-alike : (s : Option Rest) (k to : Lexing) (later : List ℕ) → Alike (more_unread k later) to → Alike (more_unread (switched s k) later) (switched s to)
-  switched-alike None k to later a = a
-  switched-alike (Some rest) k to later a = record { machine = ap (λ (m : Machine). enter (state_of_rest rest) m) a.machine; unread = a.unread }
 
   -- a token that may switch the lexer, which then goes on in that state
   pub loud-from : (l k : Lexing) (later : List ℕ) (c : ControlState) (es : List Edit) (e : Emitted) → HasGone names from l later c es → EmitsLast names l e k

@@ -82,11 +82,11 @@ quiet-single : (c : ControlState) (t : Token) → (handle c t).switch ≡ None �
 quiet-single c (token.Characters class text) h = letters-quiet class text c h
 quiet-single c t h = (h, tt)
 
-left-single : (c : ControlState) (t : Token) → left_after handle c (single t) ≡ left_by (handle c t)
+pub left-single : (c : ControlState) (t : Token) → left_after handle c (single t) ≡ left_by (handle c t)
 left-single c (token.Characters class text) = letters-left class text c
 left-single c t = refl
 
-made-single : (c : ControlState) (t : Token) → made_after handle c (single t) ≡ (handle c t).outcome.edits
+pub made-single : (c : ControlState) (t : Token) → made_after handle c (single t) ≡ (handle c t).outcome.edits
 made-single c (token.Characters class text) = letters-made class text c
 made-single c t = append-nil (handle c t).outcome.edits
 

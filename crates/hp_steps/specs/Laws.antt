@@ -1,5 +1,6 @@
 -- The laws of this crate.
 use Rattle.std.specs.Prelude.{◌≡◌, ℕ, ◌⊎◌, List, [], ◌++◌}
+use Rattle.hp_elements.specs.declared.token.Token.{Token}
 use Rattle.hp_names.specs.References.{Reference}
 use Rattle.hp_tokens.specs.Advancing.{tokens_of}
 use Rattle.hp_tokens.specs.Moves.{Lexing, Emitted, makes, move, end_move}
@@ -12,7 +13,7 @@ use Rattle.hp_model.specs.Runs.{Parser, switched}
 use Rattle.hp_model.specs.Turns.{left_by}
 use Rattle.hp_steps.specs.Alike.{Alike, SameMove}
 use Rattle.hp_steps.specs.Closing.{AreCharacters, EndsAtTag}
-use Rattle.hp_steps.specs.Handling.{AreQuiet, left_after, made_after}
+use Rattle.hp_steps.specs.Handling.{AreQuiet, left_after, made_after, turned_by}
 use Rattle.hp_steps.specs.Standing.{EmitsLast, HasGone}
 
 -- lexers that are alike make the same moves
@@ -31,6 +32,15 @@ TagsClose = (names : List Reference) (l m : Lexing) (es : List Emitted) → move
 abbrev pub QuietSteps : Type 0
 QuietSteps = (names : List Reference) (from : Parser) (l k : Lexing) (later : List ℕ) (c : ControlState) (es : List Edit) (emitted : List Emitted) → HasGone names from l later c es
     → Leads (move (table names)) l emitted k → AreQuiet handle c (tokens_of emitted) → HasGone names from k later (left_after handle c (tokens_of emitted)) (es ++ made_after handle c (tokens_of emitted))
+
+-- characters switch the lexer nowhere
+abbrev pub CharactersQuiet : Type 0
+CharactersQuiet = (c : ControlState) (ts : List Token) → AreCharacters ts → AreQuiet handle c ts
+
+-- In a text in which nothing stands behind a `>`, all tokens that moves emit are steps of the run, whatever switches they call for.
+abbrev pub BatchSteps : Type 0
+BatchSteps = (names : List Reference) (from : Parser) (l k : Lexing) (later : List ℕ) (c : ControlState) (es : List Edit) (emitted : List Emitted) → HasGone names from l later c es
+    → Leads (move (table names)) l emitted k → EndsAtTag l.unread → HasGone names from (turned_by handle c (tokens_of emitted) k) later (left_after handle c (tokens_of emitted)) (es ++ made_after handle c (tokens_of emitted))
 
 -- a token that may switch it, and was emitted by the last move
 abbrev pub LoudStep : Type 0

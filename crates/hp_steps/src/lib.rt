@@ -1,7 +1,7 @@
 //! What the lexer's calls are as steps of the run of the sequential parser: laws on contracts whose bodies do nothing.
 #![tactic(auto)]
 
-ghost use Rattle.hp_steps.specs.Laws.{EndMovesSame, LoudStep, MovesSame, QuietSteps, TagsClose};
+ghost use Rattle.hp_steps.specs.Laws.{BatchSteps, CharactersQuiet, EndMovesSame, LoudStep, MovesSame, QuietSteps, TagsClose};
 
 /// Places are only counted: lexers that have the same machine and the same unread text make the same moves.
 pub fn places_count()
@@ -10,9 +10,12 @@ pub fn places_count()
 {}
 
 /// In a text in which nothing stands behind a `>`, a token that is no character is the last that is emitted. Tokens that switch
-/// the lexer nowhere, and one that may and was emitted last, are steps of the run, with the edits of their handling.
+/// the lexer nowhere, and one that may and was emitted last, are steps of the run, with the edits of their handling. Characters
+/// switch it nowhere, and so all tokens of some moves are such steps, each switch behind its token.
 pub fn tokens_step()
     ensures close { TagsClose }
     ensures quiet { QuietSteps }
     ensures loud { LoudStep }
+    ensures characters { CharactersQuiet }
+    ensures batch { BatchSteps }
 {}

@@ -2,3 +2,4 @@ pub mod Device
 pub mod Text
 pub mod Page
 pub mod Memory
+pub mod Streams

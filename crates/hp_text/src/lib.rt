@@ -15,7 +15,7 @@ pub use memory::{MemorySink, MemorySource, SteadySource};
 pub use pages::{NotUtf8, Page, check_page};
 pub use reading::{PAGE_LIMIT, ReadRefusal, read_page};
 pub use std::alloc::AllocError as NoMemory;
-pub use streams::{StreamSink, StreamSource};
+pub use streams::{StreamSink, StreamSource, TellingRead, TellingWrite};
 pub use writing::{WriteFault, write_whole};
 
 #[cfg(test)]

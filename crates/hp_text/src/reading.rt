@@ -48,6 +48,9 @@ pub fn read_page<S: Source>(alloc: Global, source: &mut S) -> Result<Vec<u8>, Re
     ensures fault { IfErr result (λ refusal. refusal ≡ ReadRefusal.Fault
         → Rose (S.faults source.old) (S.faults source.new)) }
 
+    ensures no_fault { OnOk result (S.faults source.new ≡ S.faults source.old) }
+    ensures other { IfErr result (λ refusal. refusal ≢ ReadRefusal.Fault → S.faults source.new ≡ S.faults source.old) }
+
     ensures never_falls { S.faults source.old ≤ S.faults source.new }
     ensures few_reads { S.calls source.new ≤ S.calls source.old + (PAGE_LIMIT + 1) }
 {
@@ -92,6 +95,9 @@ fn read_more<S: Source>(
         → Gives (λ n. vec_len page.old + n ≤ PAGE_LIMIT) (S.left source.old) (S.left source.new)) }
     ensures fault { IfErr result (λ refusal. refusal ≡ ReadRefusal.Fault
         → Rose (S.faults source.old) (S.faults source.new)) }
+
+    ensures no_fault { OnOk result (S.faults source.new ≡ S.faults source.old) }
+    ensures other { IfErr result (λ refusal. refusal ≢ ReadRefusal.Fault → S.faults source.new ≡ S.faults source.old) }
 
     ensures never_falls { S.faults source.old ≤ S.faults source.new }
     ensures counted { S.calls source.new ≤ S.calls source.old + 1 }

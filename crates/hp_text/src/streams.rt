@@ -1,43 +1,87 @@
-//! Sources and sinks over std's readers and writers: the edge at which nothing is told of the bytes.
-ghost use Rattle.std.specs.Prelude.{◌≡◌, ℕ, None};
+//! Sources and sinks over std's readers and writers. They tell of the bytes what the reader or the writer tells: nothing,
+//! where those are the standard input and output.
+ghost use Rattle.std.specs.Prelude.{◌≡◌, ◌<◌, ◌≤◌, Bool, true, false, is_some, IfSome, IfNone, length, take, refl};
+ghost use Rattle.std.specs.Io.KnownBytes.{append_known};
+ghost use Rattle.hp_text.specs.Streams.{StreamState, without_last};
 
 use crate::devices::{Failed, Sink, Source};
-use std::io::{Read, Write};
+use std::io::{Read, Stderr, Stdin, Stdout, Write};
 use std::marker::Model;
 
-/// A source that reads from a reader. A contract sees its count of faults alone.
+/// Readers of one kind: each of them tells its bytes at any time, or none does at any.
+pub trait TellingRead: Read {
+    /// Whether they tell them.
+    ghost tells: { Bool };
+
+    ghost always: { (r : Self) → is_some (Self.remaining r) ≡ tells };
+}
+
+impl TellingRead for Stdin {
+    ghost tells = { false };
+
+    ghost always = { λ r. refl };
+}
+
+impl TellingRead for &[u8] {
+    ghost tells = { true };
+
+    ghost always = { λ r. refl };
+}
+
+/// Writers of one kind: each of them tells its bytes at any time, or none does at any.
+pub trait TellingWrite: Write {
+    /// Whether they tell them.
+    ghost tells: { Bool };
+
+    ghost always: { (w : Self) → is_some (Self.contents w) ≡ tells };
+}
+
+impl TellingWrite for Stdout {
+    ghost tells = { false };
+
+    ghost always = { λ w. refl };
+}
+
+impl TellingWrite for Stderr {
+    ghost tells = { false };
+
+    ghost always = { λ w. refl };
+}
+
+/// A source that reads from a reader. A contract sees the bytes that the reader has left, where it tells them, and the
+/// count of faults.
 #[derive(Drop)]
-pub struct StreamSource<R: Read> {
+pub struct StreamSource<R: TellingRead> {
     reader: R,
     faults: u64,
 }
 
-impl<R: Read> Model for StreamSource<R> {
-    ghost Value = { ℕ };
+impl<R: TellingRead> Model for StreamSource<R> {
+    ghost Value = { StreamState };
 
-    ghost view = { λ s. s.faults };
+    ghost view = { λ s. record { bytes = R.remaining s.reader; faults = s.faults } };
 }
 
-impl<R: Read> StreamSource<R> {
+impl<R: TellingRead> StreamSource<R> {
     /// A source of what the reader gives.
     pub fn new(reader: R) -> Self
-        ensures { result ≡ 0 }
+        ensures { result ≡ record { bytes = R.remaining reader; faults = 0 } }
     {
         StreamSource { reader, faults: 0 }
     }
 
     /// How many reads failed so far.
     pub fn faults(&self) -> u64
-        ensures { result ≡ self.now }
+        ensures { result ≡ self.now.faults }
     {
         self.faults
     }
 }
 
-impl<R: Read> Source for StreamSource<R> {
-    ghost left = { λ _. None };
+impl<R: TellingRead> Source for StreamSource<R> {
+    ghost left = { λ s. s.bytes };
 
-    ghost faults = { λ s. s };
+    ghost faults = { λ s. s.faults };
 
     ghost calls = { λ _. 0 };
 
@@ -53,46 +97,71 @@ impl<R: Read> Source for StreamSource<R> {
 }
 
 /// A sink that writes to a writer and flushes it after each write, so that no byte waits in a buffer. A
-/// write of no byte of a piece that has one, and a failed flush, count as failed writes. A contract sees its
-/// count of faults alone.
+/// write of no byte of a piece that has one, and a failed flush, count as failed writes. After a failed flush of some
+/// bytes nothing more is written, and each write fails. A contract sees the bytes that were written and flushed, where the
+/// writer tells them, and the count of faults.
 #[derive(Drop)]
-pub struct StreamSink<W: Write> {
+pub struct StreamSink<W: TellingWrite> {
     writer: W,
+    unflushed: usize,
     faults: u64,
 }
 
-impl<W: Write> Model for StreamSink<W> {
-    ghost Value = { ℕ };
+impl<W: TellingWrite> Model for StreamSink<W> {
+    ghost Value = { StreamState };
 
-    ghost view = { λ s. s.faults };
+    ghost view = { λ s. record { bytes = without_last s.unflushed (W.contents s.writer); faults = s.faults } };
 }
 
-impl<W: Write> StreamSink<W> {
+impl<W: TellingWrite> StreamSink<W> {
     /// A sink into the writer.
     pub fn new(writer: W) -> Self
-        ensures { result ≡ 0 }
+        ensures { result ≡ record { bytes = W.contents writer; faults = 0 } }
     {
-        StreamSink { writer, faults: 0 }
+        StreamSink {
+            writer,
+            unflushed: 0,
+            faults: 0,
+        }
     }
 
     /// How many writes failed so far.
     pub fn faults(&self) -> u64
-        ensures { result ≡ self.now }
+        ensures { result ≡ self.now.faults }
     {
         self.faults
     }
+
+    // Writes the first bytes of the piece and flushes them, if all before them were flushed.
+    fn pass_on(&mut self, piece: &[u8]) -> Option<usize>
+        ensures bound { IfSome result (λ n. n ≤ length piece.now) }
+        ensures took { IfSome result (λ n. self.new.bytes ≡ append_known self.old.bytes (take n piece.now)) }
+        ensures some { IfSome result (λ n. 0 < length piece.now → 0 < n) }
+        ensures unmoved { IfNone result (self.new.bytes ≡ self.old.bytes) }
+        ensures faults { self.new.faults ≡ self.old.faults }
+    {
+        if self.unflushed > 0 {
+            return None;
+        }
+        let taken = self.writer.write(piece).ok()?;
+        if taken == 0 && !piece.is_empty() {
+            return None;
+        }
+        if self.writer.flush().is_err() {
+            self.unflushed = taken;
+            return None;
+        }
+        Some(taken)
+    }
 }
 
-impl<W: Write> Sink for StreamSink<W> {
-    ghost taken = { λ _. None };
+impl<W: TellingWrite> Sink for StreamSink<W> {
+    ghost taken = { λ s. s.bytes };
 
-    ghost faults = { λ s. s };
+    ghost faults = { λ s. s.faults };
 
     fn write(&mut self, piece: &[u8]) -> Result<usize, Failed> {
-        if let Ok(taken) = self.writer.write(piece)
-            && (taken > 0 || piece.is_empty())
-            && self.writer.flush().is_ok()
-        {
+        if let Some(taken) = self.pass_on(piece) {
             return Ok(taken);
         }
         self.faults = self.faults.saturating_add(1);

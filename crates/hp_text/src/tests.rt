@@ -1,4 +1,6 @@
 //! Worked pages, and devices that fail.
+ghost use Rattle.std.specs.Prelude.{◌≡◌, false, refl};
+
 use super::*;
 use std::alloc::Global;
 use std::io;
@@ -150,6 +152,12 @@ fn a_reader_is_a_source(rt: HostRuntime) -> Result<(), Fail> {
     Ok(())
 }
 
+impl TellingRead for Breaks {
+    ghost tells = { false };
+
+    ghost always = { λ r. refl };
+}
+
 // A writer whose flushes fail, where it says so.
 #[derive(Drop)]
 struct Flushes<'b> {
@@ -168,6 +176,12 @@ impl io::Write for Flushes<'_> {
         }
         Ok(())
     }
+}
+
+impl TellingWrite for Flushes<'_> {
+    ghost tells = { false };
+
+    ghost always = { λ w. refl };
 }
 
 // What the writer took of `hello` with so much room, and how many writes failed.

@@ -7,7 +7,7 @@ use Rattle.std.specs.Char.{len_utf8, is_ascii_alphabetic}
 use lib.Utf8.{encode, encodes}
 use borrow.Author.Tests.{ltb-true}
 use Rattle.std.proofs.lemmas.Bool.{cases_lt, and_parts, eqb-true, eq-eqb}
-use Rattle.std.proofs.lemmas.Str.{chars-nil, chars_past_char, IsUtf8-past_char, encodes-chars, encode_ascii, IsCharBoundary-from_drop, IsCharBoundary-from_rest}
+use Rattle.std.proofs.lemmas.Str.{chars-nil, chars_past_char, IsUtf8-past_char, encodes-chars, encode_ascii, length-encode, len_utf8_bounds, IsCharBoundary-from_drop, IsCharBoundary-from_rest}
 use Rattle.hp_tokens.specs.Reading.{Unread, first, Reads, IsAt, IsFront, opens_start_tag, opens_end_tag, begins_with_pair, SkipsPairCr, IsAsciiFront, ReadsAscii, PassesFrom, StopsRun}
 
 -- an ASCII byte at the front is the first code point
@@ -27,6 +27,12 @@ pub record Begins (x : ℕ) (xs : List ℕ) : Type 0 where
   pub cs : List ℕ
   pub spelled : chars (x ∷ xs) ≡ c ∷ cs
   pub high : 128 ≤ x → 128 ≤ c
+  pub leads : get_or (encode c) 0 0 ≡ x
+
+-- the first of some bytes, with others behind them
+lead_of : (x : ℕ) (xs bytes behind : List ℕ) → 1 ≤ length bytes → bytes ++ behind ≡ x ∷ xs → get_or bytes 0 0 ≡ x
+lead_of x xs [] behind some e = absurd (omega (arith, some))
+lead_of x xs (b ∷ bytes) behind some e = cc
 
 begins_by : (x : ℕ) (xs : List ℕ) → IsUtf8 (x ∷ xs) → (text : List ℕ) → chars (x ∷ xs) ≡ text → Begins x xs
 begins_by x xs u [] e =
@@ -44,6 +50,7 @@ begins_by x xs u (c ∷ cs) e =
             absurd (omega (arith, same, low, h))
         | inr more ↦ more
       ];
+      leads = lead_of x xs (encode c) (encodes cs) (omega (arith, length-encode c, len_utf8_bounds c)) bytes;
     }
 
 pub begins : (x : ℕ) (xs : List ℕ) → IsUtf8 (x ∷ xs) → Begins x xs
@@ -62,6 +69,7 @@ front-is (x ∷ xs) text r u is e =
       first = ap first (sym is ∙ b.spelled);
       ascii = λ low. let two : x ∷ chars xs ≡ b.c ∷ b.cs = sym (low-chars x xs u low) ∙ b.spelled in cc;
       other = b.high;
+      leads = b.leads;
     }
 
 differs : (x c : ℕ) → x < 128 → 128 ≤ c → (c == x) ≡ false

@@ -223,4 +223,5 @@ pub record ReadsAhead (old : LexState) (old_input : Unread) (new : LexState) (ne
   pub place : place_of new new_input ≡ place_of old old_input
   pub held : held new ≤ new_input.place
   pub shorter : more ≡ true → length new_input.text < length old_input.text
+  pub one : more ≡ true → length old_input.text ≡ length new_input.text + 1
   pub all : more ≡ false → (new_input.text ≡ []) × (new.ahead ≡ old.ahead)

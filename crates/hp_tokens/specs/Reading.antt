@@ -1,7 +1,7 @@
 -- What a cursor has still to read.
 use Rattle.std.specs.Prelude.{◌≡◌, ℕ, ◌+◌, ◌<◌, ◌≤◌, ◌^◌, ◌++◌, ◌==◌, ◌&&◌, MatchOption, IfSome, nat_lt, true, false, sum_by, length, drop, take, slice_index, List, [], ◌∷◌, Option, None, Some, Bool}
 use Rattle.std.specs.List.{list_all}
-use Rattle.std.specs.Char.{len_utf8, is_ascii_alphabetic}
+use Rattle.std.specs.Char.{len_utf8, encode_utf8, is_ascii_alphabetic}
 use Rattle.std.specs.Str.{IsUtf8, IsCharBoundary}
 
 -- the unread code points, and the place of the first, in bytes
@@ -47,12 +47,13 @@ pub record SkipsRun (test : ℕ → Bool) (old new : Unread) (some : Bool) : Typ
   pub reads : ReadsRun test old run new
   pub says : some ≡ nat_lt 0 (length run)
 
--- the first byte of a text: its first code point, where that is ASCII
+-- the first byte of a text: the first of its first code point's UTF-8, which is the code point where that is ASCII
 pub record FrontIs (text : List ℕ) (byte : ℕ) : Type 0 where
   pub c : ℕ
   pub first : first text ≡ Some c
   pub ascii : byte < 128 → byte ≡ c
   pub other : 128 ≤ byte → 128 ≤ c
+  pub leads : slice_index (encode_utf8 c) 0 ≡ byte
 
 abbrev pub IsFront : List ℕ → Option ℕ → Type 0
 IsFront text front = MatchOption front (text ≡ []) (FrontIs text)

@@ -1,5 +1,5 @@
 // What the lexer holds between two texts, and its unread code points: those that were read ahead, and then the cursor's.
-ghost use Rattle.std.specs.Prelude.{◌≡◌, ◌≤◌, ℕ, List, [], ◌∷◌, ◌++◌, IfOk, IfSome, None, drop, length};
+ghost use Rattle.std.specs.Prelude.{◌≡◌, ◌≤◌, ℕ, List, [], ◌∷◌, ◌++◌, IfOk, IfSome, IfNone, None, drop, length};
 
 use crate::NoMemory;
 use crate::cursor::Cursor;
@@ -58,6 +58,7 @@ impl LexState {
         requires { held self.old ≤ input.old.place }
         ensures value { result ≡ first (unread self.old input.old) }
         ensures takes { IfSome result (Takes self.old input.old self.new input.new) }
+        ensures none { IfNone result ((self.new ≡ self.old) × (input.new ≡ input.old)) }
         ensures ended { input.old.text ≡ [] → input.new.text ≡ [] }
     {
         match self.ahead.take_first() {

@@ -1,6 +1,8 @@
 use Rattle.std.proofs.Common.{subst}
 use Rattle.hp_steps.proofs.ClosingTable.{MoveCloses, move-closes}
+use Rattle.hp_steps.proofs.Quiet.{characters-quiet}
 use Rattle.hp_steps.proofs.Standing.{loud-from, quiet-from}
+use Rattle.hp_steps.proofs.Turning.{batch-from}
 use Rattle.hp_steps.proofs.tokens_step.Goals as goal
 
 pub returns : goal.returns
@@ -8,4 +10,6 @@ returns c = record {
   close = λ names l m es made. subst (MoveCloses l.unread) made (move-closes names l);
   quiet = quiet-from;
   loud = loud-from;
+  characters = λ c ts h. characters-quiet ts c h;
+  batch = batch-from;
 }

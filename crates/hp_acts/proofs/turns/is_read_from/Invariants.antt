@@ -1,11 +1,10 @@
 use Rattle.std.proofs.Common.{◌≡◌, ◌-◌, drop}
 use Rattle.std.specs.List.{list_any}
-use Rattle.hp_acts.specs.Rows.{acts_in}
 use Rattle.hp_acts.specs.Spending.{reads_attributes}
 use Rattle.hp_acts.proofs.turns.is_read_from.Given as goal
 
 abbrev pub invariant-loop-act : goal.invariant-loop-act
-invariant-loop-act l = list_any reads_attributes (drop l.fn.from (acts_in l.row)) ≡ list_any reads_attributes (drop l.at (acts_in l.row))
+invariant-loop-act l = list_any reads_attributes (drop l.fn.from l.row.acts) ≡ list_any reads_attributes (drop l.at l.row.acts)
 
 abbrev pub decreases-loop-act : goal.decreases-loop-act
 decreases-loop-act l = 8 - l.at

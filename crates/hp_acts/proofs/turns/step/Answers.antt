@@ -1,7 +1,6 @@
 use Rattle.std.proofs.Common.{◌≡◌, ◌+◌, false, drop, Err, refl, arith}
 use Rattle.hp_views.specs.View.{sight}
 use Rattle.hp_acts.specs.Carrying.{going, present_plan, reached}
-use Rattle.hp_acts.specs.Rows.{acts_in}
 use Rattle.hp_acts.specs.Spending.{gives_away, leaves_whole}
 use Rattle.hp_acts.proofs.StepRuns.{act_crosses, act_goes, if_goes, is_steering, not_steering, token_stays, unless_goes, way_on}
 use Rattle.hp_acts.proofs.turns.step.Goals as goal
@@ -28,6 +27,6 @@ returns-in-Ok g c =
     record {
       later = omega arith;
       goes = way_on c.args.act c.args.at steers;
-      stays = (c.in-Ok.ensures.left, token_stays (gives_away c.args.act) (leaves_whole c.args.act (drop (c.args.at + 1) (acts_in c.args.row))) c.args.turn.now.token c.carry_out.new.token c.carry_out.ensures.stays (λ w a. c.carry_out.ensures.copies (c.spending_at-spending.ensures w a)));
+      stays = (c.in-Ok.ensures.left, token_stays (gives_away c.args.act) (leaves_whole c.args.act (drop (c.args.at + 1) c.args.row.acts)) c.args.turn.now.token c.carry_out.new.token c.carry_out.ensures.stays (λ w a. c.carry_out.ensures.copies (c.spending_at-spending.ensures w a)));
       plan = λ follow go. act_goes follow (present_plan follow c.args.present) c.args.fostering c.args.turn.now.token c.args.at go (sight g.B.Below.heard c.args.view.now) (sight g.B.Below.heard c.carry_out.new.view) c.args.turn.now.handled c.args.act c.requires.planned steers c.in-Ok.ensures.plan;
     }

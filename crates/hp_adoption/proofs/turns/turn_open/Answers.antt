@@ -1,9 +1,12 @@
-use Rattle.std.proofs.Common.{◌∙◌, sym}
+use Rattle.std.proofs.Common.{◌∙◌, Ok, sym}
 use Rattle.hp_views.specs.View.{sight}
+use Rattle.hp_views.specs.declared.walks.Walk.TheVariants.{Found}
+use Rattle.hp_adoption.proofs.TurnSteps.{turns_of}
 use Rattle.hp_adoption.proofs.Untangling.{turn_tangled}
 use Rattle.hp_adoption.proofs.turns.turn_open.Goals as goal
 
 pub returns-in_ok-untangle-in-Some : goal.returns-in_ok-untangle-in-Some
 returns-in_ok-untangle-in-Some g c =
-    turn_tangled c.args.fostering c.args.id c.args.tag c.args.depth c.in-Some.block (sight g.B.Below.heard c.args.view.now) (sight g.B.Below.heard c.untangle.new.view)
-    (sym c.hides.ensures ∙ c.if-hides.false) (sym c.furthest.ensures.found ∙ c.in-Some.is) c.in_ok-untangle-in-Some.ensures
+    turns_of c.args.fostering c.args.id c.in_ok-tag-in-Some.tag (Ok _) (sight g.B.Below.heard c.args.view.now) (sight g.B.Below.heard c.untangle.new.view) (Found c.args.depth) c.args.at c.in_ok-tag-in-Some.ensures
+    (turn_tangled c.args.fostering c.args.id c.in_ok-tag-in-Some.tag c.args.depth c.in-Some.block (sight g.B.Below.heard c.args.view.now) (sight g.B.Below.heard c.untangle.new.view)
+    (sym c.hides.ensures ∙ c.if-hides.false) (sym c.furthest.ensures.found ∙ c.in-Some.is) c.in_ok-untangle-in-Some.ensures)

@@ -3,10 +3,10 @@ use Rattle.hp_lex_tags.proofs.StraightMoves.{unquoted_some, unquoted_closed, unq
 use Rattle.hp_lex_tags.proofs.straight.behind_unquoted.Goals as goal
 
 pub returns-then-skip_blanks : goal.returns-then-skip_blanks
-returns-then-skip_blanks c = λ reading. unquoted_some reading c.args.input.now c.skip_blanks.new.self c.if-skip_blanks.ensures.run
+returns-then-skip_blanks c = λ names reading. unquoted_some reading c.args.input.now c.skip_blanks.new.self c.if-skip_blanks.ensures.run
 
 pub returns-then-take_byte : goal.returns-then-take_byte
-returns-then-take_byte c = λ reading. unquoted_closed reading c.args.input.now c.skip_blanks.new.self c.take_byte.new.self c.if-skip_blanks.ensures.run (c.if-take_byte.ensures.taken refl)
+returns-then-take_byte c = λ names reading. unquoted_closed reading c.args.input.now c.skip_blanks.new.self c.take_byte.new.self c.if-skip_blanks.ensures.run (c.if-take_byte.ensures.taken refl)
 
 pub returns : goal.returns
-returns c = λ reading. unquoted_left reading c.args.input.now c.skip_blanks.new.self c.take_byte.new.self c.if-skip_blanks.ensures.run (c.if-take_byte.ensures.left refl).0
+returns c = λ names reading. unquoted_left reading c.args.input.now c.skip_blanks.new.self c.take_byte.new.self c.if-skip_blanks.ensures.run (c.if-take_byte.ensures.left refl).0

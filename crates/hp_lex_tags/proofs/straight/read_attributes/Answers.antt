@@ -9,11 +9,11 @@ attributes-init c = (onto_same c.args.state (StartTag (tag_of c.args.reading.now
 
 pub attributes-preserved : goal.attributes-preserved
 attributes-preserved c =
-    let h = arrives_as c.attributes.now (StartTag (tag_of c.attributes.reading)) c.attributes.input c.read_on.new.input c.read_on.new.reading c.in_ok-way.way (way.At c.in-At.next) c.in-At.is c.in_ok-way.ensures in
+    let h = arrives_as c.args.names.now c.attributes.now (StartTag (tag_of c.attributes.reading)) c.attributes.input c.read_on.new.input c.read_on.new.reading c.in_ok-way.way (way.At c.in-At.next) c.in-At.is c.in_ok-way.ensures in
     (onto_join c.attributes.invariant.0 h.0, h.1)
 
 pub attributes-smaller : goal.attributes-smaller
-attributes-smaller c = (arrives_as c.attributes.now (StartTag (tag_of c.attributes.reading)) c.attributes.input c.read_on.new.input c.read_on.new.reading c.in_ok-way.way (way.At c.in-At.next) c.in-At.is c.in_ok-way.ensures).2
+attributes-smaller c = (arrives_as c.args.names.now c.attributes.now (StartTag (tag_of c.attributes.reading)) c.attributes.input c.read_on.new.input c.read_on.new.reading c.in_ok-way.way (way.At c.in-At.next) c.in-At.is c.in_ok-way.ensures).2
 
 pub returns-in_default : goal.returns-in_default
 returns-in_default c = arrives_join c.read_on.new.input c.read_on.new.reading c.in_ok-way.way c.attributes.invariant.0 c.in_ok-way.ensures

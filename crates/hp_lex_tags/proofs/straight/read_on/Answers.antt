@@ -5,4 +5,4 @@ pub close-requires : goal.close-requires
 close-requires c = between_ends c.args.state c.requires
 
 pub returns : goal.returns
-returns c = c.close.ensures c.args.reading.now
+returns c = c.close.ensures c.args.names.now c.args.reading.now

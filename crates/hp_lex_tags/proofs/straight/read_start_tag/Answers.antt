@@ -14,26 +14,26 @@ bare name attributes = record { name = name; attributes = attributes; last = Non
 
 pub leave-requires-clause-alone : goal.leave-requires-clause-alone
 leave-requires-clause-alone c =
-    between_alone c.in-At.state (arrives_as TagName (StartTag (tag_of (bare c.in_ok-name.name c.new.result))) c.read_name.new.input c.read_rest.new.input c.read_rest.new.reading c.in_ok-way.way (way.At c.in-At.state) c.in-At.is c.in_ok-way.ensures).1
+    between_alone c.in-At.state (arrives_as c.args.names.now TagName (StartTag (tag_of (bare c.in_ok-name.name c.new.result))) c.read_name.new.input c.read_rest.new.input c.read_rest.new.reading c.in_ok-way.way (way.At c.in-At.state) c.in-At.is c.in_ok-way.ensures).1
 
 pub leave-requires-in-Left-clause-alone : goal.leave-requires-in-Left-clause-alone
 leave-requires-in-Left-clause-alone c =
-    (arrives_as TagName (StartTag (tag_of (bare c.in_ok-name.name c.new.result))) c.read_name.new.input c.read_rest.new.input c.read_rest.new.reading c.in_ok-way.way (way.Left c.in-Left.state) c.in-Left.is c.in_ok-way.ensures).1
+    (arrives_as c.args.names.now TagName (StartTag (tag_of (bare c.in_ok-name.name c.new.result))) c.read_name.new.input c.read_rest.new.input c.read_rest.new.reading c.in_ok-way.way (way.Left c.in-Left.state) c.in-Left.is c.in_ok-way.ensures).1
 
 pub returns-in_ok-token-in-Whole : goal.returns-in_ok-token-in-Whole
 returns-in_ok-token-in-Whole c =
-    start_whole c.args.machine.now c.requires.data c.requires.clear c.args.input.now c.take_byte.new.self
+    start_whole c.args.names.now c.args.machine.now c.requires.data c.requires.clear c.args.input.now c.take_byte.new.self
     (took c.take_byte.result 60 c.args.input.now c.take_byte.new.self (start_first c.args.input.now.text c.requires.opens) c.take_byte.ensures.taken c.take_byte.ensures.left)
     c.requires.opens c.read_name.new.input (record { name = c.in_ok-name.name; attributes = c.new.result; last = None }) c.in_ok-name.ensures
     (ap (λ (xs : List Attribute). bare c.in_ok-name.name xs) c.new.ensures)
     c.whole.new.machine c.read_rest.new.input c.read_rest.new.reading c.in-Whole.self_closing c.in_ok-token-in-Whole.token
-    (arrives_as TagName (StartTag (tag_of (bare c.in_ok-name.name c.new.result))) c.read_name.new.input c.read_rest.new.input c.read_rest.new.reading c.in_ok-way.way (way.Whole c.in-Whole.self_closing) c.in-Whole.is c.in_ok-way.ensures)
+    (arrives_as c.args.names.now TagName (StartTag (tag_of (bare c.in_ok-name.name c.new.result))) c.read_name.new.input c.read_rest.new.input c.read_rest.new.reading c.in_ok-way.way (way.Whole c.in-Whole.self_closing) c.in-Whole.is c.in_ok-way.ensures)
     c.in_ok-token-in-Whole.ensures.token c.in_ok-token-in-Whole.ensures.machine
 
 pub returns-in_ok-leave-in-At : goal.returns-in_ok-leave-in-At
 returns-in_ok-leave-in-At c =
-    let h = arrives_as TagName (StartTag (tag_of (bare c.in_ok-name.name c.new.result))) c.read_name.new.input c.read_rest.new.input c.read_rest.new.reading c.in_ok-way.way (way.At c.in-At.state) c.in-At.is c.in_ok-way.ensures in
-    start_left c.args.machine.now c.requires.data c.requires.clear c.args.input.now c.take_byte.new.self
+    let h = arrives_as c.args.names.now TagName (StartTag (tag_of (bare c.in_ok-name.name c.new.result))) c.read_name.new.input c.read_rest.new.input c.read_rest.new.reading c.in_ok-way.way (way.At c.in-At.state) c.in-At.is c.in_ok-way.ensures in
+    start_left c.args.names.now c.args.machine.now c.requires.data c.requires.clear c.args.input.now c.take_byte.new.self
     (took c.take_byte.result 60 c.args.input.now c.take_byte.new.self (start_first c.args.input.now.text c.requires.opens) c.take_byte.ensures.taken c.take_byte.ensures.left)
     c.requires.opens c.read_name.new.input (record { name = c.in_ok-name.name; attributes = c.new.result; last = None }) c.in_ok-name.ensures
     (ap (λ (xs : List Attribute). bare c.in_ok-name.name xs) c.new.ensures)
@@ -41,8 +41,8 @@ returns-in_ok-leave-in-At c =
 
 pub returns-in_ok-leave-in-Left : goal.returns-in_ok-leave-in-Left
 returns-in_ok-leave-in-Left c =
-    let h = arrives_as TagName (StartTag (tag_of (bare c.in_ok-name.name c.new.result))) c.read_name.new.input c.read_rest.new.input c.read_rest.new.reading c.in_ok-way.way (way.Left c.in-Left.state) c.in-Left.is c.in_ok-way.ensures in
-    start_left c.args.machine.now c.requires.data c.requires.clear c.args.input.now c.take_byte.new.self
+    let h = arrives_as c.args.names.now TagName (StartTag (tag_of (bare c.in_ok-name.name c.new.result))) c.read_name.new.input c.read_rest.new.input c.read_rest.new.reading c.in_ok-way.way (way.Left c.in-Left.state) c.in-Left.is c.in_ok-way.ensures in
+    start_left c.args.names.now c.args.machine.now c.requires.data c.requires.clear c.args.input.now c.take_byte.new.self
     (took c.take_byte.result 60 c.args.input.now c.take_byte.new.self (start_first c.args.input.now.text c.requires.opens) c.take_byte.ensures.taken c.take_byte.ensures.left)
     c.requires.opens c.read_name.new.input (record { name = c.in_ok-name.name; attributes = c.new.result; last = None }) c.in_ok-name.ensures
     (ap (λ (xs : List Attribute). bare c.in_ok-name.name xs) c.new.ensures)

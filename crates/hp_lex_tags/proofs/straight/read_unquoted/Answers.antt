@@ -4,5 +4,5 @@ use Rattle.hp_lex_tags.proofs.straight.read_unquoted.Goals as goal
 
 pub returns : goal.returns
 returns c =
-    unquoted_read c.args.reading.now c.keep.new.reading c.args.name (chars c.take_run.result.now) c.args.input.now c.take_run.new.self c.behind_unquoted.new.input
-    c.behind_unquoted.result c.take_run.ensures.run c.in_ok-keep.ensures (c.behind_unquoted.ensures c.keep.new.reading)
+    unquoted_read c.args.names.now c.args.reading.now c.keep.new.reading c.args.name (chars c.take_run.result.now) c.args.input.now c.take_run.new.self c.behind_unquoted.new.input
+    c.behind_unquoted.result c.take_run.ensures.run c.in_ok-keep.ensures (c.behind_unquoted.ensures c.args.names.now c.keep.new.reading)

@@ -11,17 +11,17 @@ read_quoted-requires-then-take_byte-2-clause-quoted c = single_quoted
 
 pub returns-then-take_byte : goal.returns-then-take_byte
 returns-then-take_byte c =
-    double_opened c.args.reading.now c.read_quoted.new.reading c.args.name c.args.input.now c.take_byte.new.self c.read_quoted.new.input c.in_ok-double.double
+    double_opened c.args.names.now c.args.reading.now c.read_quoted.new.reading c.args.name c.args.input.now c.take_byte.new.self c.read_quoted.new.input c.in_ok-double.double
     (c.if-take_byte.ensures.taken refl) c.in_ok-double.ensures
 
 pub returns-then-take_byte-2 : goal.returns-then-take_byte-2
 returns-then-take_byte-2 c =
-    single_later c.args.reading.now c.read_quoted-then-take_byte-2.new.reading c.args.name c.args.input.now c.take_byte.new.self c.take_byte-2.new.self c.read_quoted-then-take_byte-2.new.input c.in_ok-single.single
+    single_later c.args.names.now c.args.reading.now c.read_quoted-then-take_byte-2.new.reading c.args.name c.args.input.now c.take_byte.new.self c.take_byte-2.new.self c.read_quoted-then-take_byte-2.new.input c.in_ok-single.single
     (c.if-take_byte.ensures.left refl).0 (c.if-take_byte-2.ensures.taken refl) c.in_ok-single.ensures
 
 pub returns-then-begins_value : goal.returns-then-begins_value
 returns-then-begins_value c =
-    unquoted_later c.args.reading.now c.read_unquoted.new.reading c.args.name c.args.input.now c.take_byte.new.self c.take_byte-2.new.self c.read_unquoted.new.input c.in_ok-unquoted.unquoted
+    unquoted_later c.args.names.now c.args.reading.now c.read_unquoted.new.reading c.args.name c.args.input.now c.take_byte.new.self c.take_byte-2.new.self c.read_unquoted.new.input c.in_ok-unquoted.unquoted
     (c.if-take_byte.ensures.left refl).0 (c.if-take_byte-2.ensures.left refl).0 (c.if-take_byte.ensures.left refl).1 (c.if-take_byte-2.ensures.left refl).1
     (c.if-begins_value.ensures refl) c.in_ok-unquoted.ensures
 

@@ -8,7 +8,7 @@ invariant-loop-page g l = record {
   given : g.S.Source.left l.initial.source ≡ prepend_known l.page.items (g.S.Source.left l.source);
   within_limit : vec_len l.page ≤ PAGE_LIMIT;
   room : 0 < length l.room;
-  faults : g.S.Source.faults l.initial.source ≤ g.S.Source.faults l.source;
+  faults : g.S.Source.faults l.source ≡ g.S.Source.faults l.initial.source;
   calls : g.S.Source.calls l.source ≤ g.S.Source.calls l.initial.source + vec_len l.page;
 }
 

@@ -15,7 +15,7 @@ returns-then-tag-clause-steps c =
     (tried-made c.take_plain.new.self c.take_tag.new.self c.in_ok-tag.tag (search rules) c.in_ok-tag.ensures.tried)
 
 pub returns-then-tag-clause-reads : goal.returns-then-tag-clause-reads
-returns-then-tag-clause-reads c = λ refs page r. c.in_ok-tag.ensures.reads refs page (c.in_ok-text.ensures.reads refs page r)
+returns-then-tag-clause-reads c = λ page r. c.in_ok-tag.ensures.reads page (c.in_ok-text.ensures.reads page r)
 
 pub step_by_table-requires : goal.step_by_table-requires
 step_by_table-requires c = record { ready = (tried-not c.take_plain.new.self c.take_tag.new.self c.in_ok-tag.tag (search rules) c.in_ok-tag.ensures.tried).ready }
@@ -29,4 +29,4 @@ returns-clause-steps c =
     c.in_ok-more.ensures.steps
 
 pub returns-clause-reads : goal.returns-clause-reads
-returns-clause-reads c = λ refs page r. c.in_ok-more.ensures.reads refs page (c.in_ok-tag.ensures.reads refs page (c.in_ok-text.ensures.reads refs page r))
+returns-clause-reads c = λ page r. c.in_ok-more.ensures.reads page (c.in_ok-tag.ensures.reads page (c.in_ok-text.ensures.reads page r))

@@ -1,20 +1,30 @@
-use Rattle.std.proofs.Common.{rules, List, sym, subst}
-use Rattle.hp_elements.specs.declared.token.Token.{Token}
-use Rattle.hp_tokens.specs.Advancing.{AreRuns}
-use Rattle.hp_steps.specs.Handling.{AllRead}
-use Rattle.hp_fragment.specs.Reading.{Took}
-use Rattle.hp_fragment.proofs.Took.{one-left}
+use Rattle.std.proofs.Common.{rules, sym, subst}
+use Rattle.hp_fragment.proofs.Took.{Going, going_end, going_next, going_on, going_start}
 use Rattle.hp_fragment.proofs.parsing.Parsing.handle.Goals as goal
 
-pub handle_only-requires-clause-read : goal.handle_only-requires-clause-read
-handle_only-requires-clause-read c =
-    (subst AllRead (one-left c.args.tokens c.pop.new.self c.in-Some.token (search rules) c.in-Some.ensures) c.requires.read).0
+pub loop-token-init : goal.loop-token-init
+loop-token-init c = (
+  tt,
+  tt,
+  subst (Going c.args.self.now c.args.self.now c.args.tokens) (sym c.into_iter-token-iterator.ensures.into_iter_gives) (going_start c.args.self.now c.args.tokens c.requires.builder c.requires.read c.requires.runs),
+)
 
-pub handle_only-requires-clause-runs : goal.handle_only-requires-clause-runs
-handle_only-requires-clause-runs c =
-    subst AreRuns (one-left c.args.tokens c.pop.new.self c.in-Some.token (search rules) c.in-Some.ensures) c.requires.runs
+pub handle_one-requires-clause-builder : goal.handle_one-requires-clause-builder
+handle_one-requires-clause-builder c = c.loop-token.invariant.2.builder
 
-pub returns-in-Some : goal.returns-in-Some
-returns-in-Some c =
-    let P : List Token → Type 0 = λ ts. Took c.args.self.now c.handle_only.new.self ts in
-    subst P (sym (one-left c.args.tokens c.pop.new.self c.in-Some.token (search rules) c.in-Some.ensures)) c.in_ok-handle_only-in-Some.ensures
+pub handle_one-requires-clause-read : goal.handle_one-requires-clause-read
+handle_one-requires-clause-read c = (going_next c.args.self.now c.loop-token.self c.args.tokens c.loop-token.token-iterator c.next.new.self c.in-Some.token c.loop-token.invariant.2 (search rules)).read.0
+
+pub handle_one-requires-clause-runs : goal.handle_one-requires-clause-runs
+handle_one-requires-clause-runs c = ((going_next c.args.self.now c.loop-token.self c.args.tokens c.loop-token.token-iterator c.next.new.self c.in-Some.token c.loop-token.invariant.2 (search rules)).runs.0, tt)
+
+pub loop-token-preserved : goal.loop-token-preserved
+loop-token-preserved c = (
+  tt,
+  tt,
+  going_on c.args.self.now c.loop-token.self c.handle_one.new.self c.args.tokens c.next.new.self c.in-Some.token
+      (going_next c.args.self.now c.loop-token.self c.args.tokens c.loop-token.token-iterator c.next.new.self c.in-Some.token c.loop-token.invariant.2 (search rules)) c.in_ok-handle_one.ensures,
+)
+
+pub returns : goal.returns
+returns c = going_end c.args.self.now c.loop-token.self c.args.tokens c.loop-token.token-iterator c.loop-token.invariant.2 (search rules)

@@ -9,7 +9,7 @@ returns-clause-steps c = λ e.
     (record { asked = s.asked; held = s.held; used = s.used; builder = c.requires.ready.builder }, refl)
 
 pub returns-clause-reads : goal.returns-clause-reads
-returns-clause-reads c = λ e refs page r. step-cut refs page c.args.self.now _ (c.pass_cut.ensures.cut e) c.pass_cut.ensures.names refl refl r
+returns-clause-reads c = λ e page r. step-cut page c.args.self.now _ (c.pass_cut.ensures.cut e) c.pass_cut.ensures.names refl refl r
 
 pub returns-clause-left : goal.returns-clause-left
 returns-clause-left c = λ e. ap (λ (l : Lexer). record c.args.self.now { lexer = l }) (c.pass_cut.ensures.left e)

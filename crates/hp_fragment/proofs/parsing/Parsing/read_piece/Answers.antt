@@ -3,5 +3,5 @@ use Rattle.hp_fragment.proofs.Steps.{reads-more}
 use Rattle.hp_fragment.proofs.parsing.Parsing.read_piece.Goals as goal
 
 pub returns-then-not-branch-clause-reads : goal.returns-then-not-branch-clause-reads
-returns-then-not-branch-clause-reads c = λ refs page r.
-    reads-more refs page c.step.new.self c.in_ok-step.field-0 (search rules) (c.in_ok-step.ensures.reads refs page (c.steps.invariant.2 refs page r))
+returns-then-not-branch-clause-reads c = λ page r.
+    reads-more page c.step.new.self c.in_ok-step.field-0 (search rules) (c.in_ok-step.ensures.reads page (c.steps.invariant.2 page r))

@@ -1,5 +1,4 @@
 use Rattle.std.proofs.Common.{rules, ℕ, List, IfOk, subst, sym}
-use Rattle.hp_names.specs.References.{Reference}
 use Rattle.hp_fragment.specs.Reading.{IsReady, Reads, ReadsOn, StepsOn}
 use Rattle.hp_fragment.specs.declared.parsing.Parsing.{Parsing}
 use Rattle.hp_fragment.proofs.parsing.Parsing.step.Goals as goal
@@ -17,5 +16,5 @@ returns-clause-steps c =
 
 pub returns-clause-reads : goal.returns-clause-reads
 returns-clause-reads c =
-    let P : Parsing → Type 0 = λ p. IfOk c.go_on.result (λ more. (refs : List Reference) (page : List ℕ) → Reads refs page p → ReadsOn refs page c.go_on.new.self more) in
+    let P : Parsing → Type 0 = λ p. IfOk c.go_on.result (λ more. (page : List ℕ) → Reads page p → ReadsOn page c.go_on.new.self more) in
     subst P (c.pass_cut.ensures.left (search rules)) c.go_on.ensures.reads

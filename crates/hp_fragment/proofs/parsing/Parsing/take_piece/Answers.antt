@@ -6,7 +6,7 @@ use Rattle.hp_fragment.proofs.NextPiece.{piece-ready, piece-taken}
 use Rattle.hp_fragment.proofs.parsing.Parsing.take_piece.Goals as goal
 
 pub returns-then-is_last-clause-reads : goal.returns-then-is_last-clause-reads
-returns-then-is_last-clause-reads c = λ refs page ended. record {
+returns-then-is_last-clause-reads c = λ page ended. record {
   ended = ended;
   later = ap chars (c.is_last.ensures.last (search rules)) ∙ chars-nil;
   used = c.requires.at_end.used;
@@ -19,6 +19,6 @@ returns-clause-takes c = (
 )
 
 pub returns-clause-reads : goal.returns-clause-reads
-returns-clause-reads c = λ refs page ended.
-    piece-taken refs page c.args.self.now _ (chars c.cut.result.0.now) ended (c.requires.at_end.used) (c.holds_nothing.ensures (search rules))
+returns-clause-reads c = λ page ended.
+    piece-taken c.rests_ahead.ensures page c.args.self.now _ (chars c.cut.result.0.now) ended c.requires.at_end.used
     c.cut.ensures.whole c.cut.ensures.closed refl (ap (λ (u : Unread). u.text) c.of_str-self.ensures) refl

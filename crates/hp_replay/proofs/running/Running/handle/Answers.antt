@@ -1,20 +1,28 @@
-use Rattle.std.proofs.Common.{rules, List, sym, subst}
-use Rattle.hp_elements.specs.declared.token.Token.{Token}
-use Rattle.hp_tokens.specs.Advancing.{AreRuns}
-use Rattle.hp_steps.specs.Handling.{AllRead}
-use Rattle.hp_replay.specs.Reading.{Took}
-use Rattle.hp_replay.proofs.Took.{one-left}
+use Rattle.std.proofs.Common.{rules, sym, subst}
+use Rattle.hp_replay.proofs.Took.{Going, going_end, going_on, going_start}
+use Rattle.hp_replay.proofs.Toward.{next_read}
 use Rattle.hp_replay.proofs.running.Running.handle.Goals as goal
 
-pub handle_only-requires-clause-read : goal.handle_only-requires-clause-read
-handle_only-requires-clause-read c =
-    (subst AllRead (one-left c.args.tokens c.pop.new.self c.in-Some.token (search rules) c.in-Some.ensures) c.requires.read).0
+pub loop-token-init : goal.loop-token-init
+loop-token-init c = (
+  tt,
+  tt,
+  subst (Going c.args.self.now c.args.self.now c.args.tokens) (sym c.into_iter-token-iterator.ensures.into_iter_gives) (going_start c.args.self.now c.args.tokens c.requires.known c.requires.read c.requires.runs),
+)
 
-pub handle_only-requires-clause-runs : goal.handle_only-requires-clause-runs
-handle_only-requires-clause-runs c =
-    subst AreRuns (one-left c.args.tokens c.pop.new.self c.in-Some.token (search rules) c.in-Some.ensures) c.requires.runs
+pub handle_one-requires-clause-known : goal.handle_one-requires-clause-known
+handle_one-requires-clause-known c = c.loop-token.invariant.2.known
 
-pub returns-in-Some : goal.returns-in-Some
-returns-in-Some c =
-    let P : List Token → Type 0 = λ ts. Took c.args.self.now c.handle_only.new.self ts in
-    subst P (sym (one-left c.args.tokens c.pop.new.self c.in-Some.token (search rules) c.in-Some.ensures)) c.in_ok-handle_only-in-Some.ensures
+pub handle_one-requires-clause-read : goal.handle_one-requires-clause-read
+handle_one-requires-clause-read c = (next_read c.loop-token.token-iterator c.next.new.self c.in-Some.token c.loop-token.invariant.2.read (search rules)).0
+
+pub loop-token-preserved : goal.loop-token-preserved
+loop-token-preserved c = (
+  tt,
+  tt,
+  going_on c.at_once.ensures.token c.args.self.now c.loop-token.self c.handle_one.new.self c.args.tokens c.loop-token.token-iterator c.next.new.self c.in-Some.token c.loop-token.invariant.2 (search rules)
+      c.in_ok-handle_one.ensures,
+)
+
+pub returns : goal.returns
+returns c = going_end c.args.self.now c.loop-token.self c.args.tokens c.loop-token.token-iterator c.loop-token.invariant.2 (search rules)

@@ -1,4 +1,4 @@
-use Rattle.std.proofs.Common.{rules, ap, refl}
+use Rattle.std.proofs.Common.{ap, refl}
 use Rattle.std.specs.Str.{chars}
 use Rattle.hp_tokens.specs.Reading.{Unread}
 use Rattle.hp_replay.specs.Reading.{edits_in, state_of}
@@ -26,11 +26,11 @@ returns-clause-valid c =
     (piece-ends c.args.self.now c.read_piece.new.self (chars c.args.piece.now)
     (c.in_ok-read_piece.ensures.reads (chars c.args.piece.now) (state_of c.args.self.now) (edits_in c.args.self.now) c.requires.valid
     (piece-starts c.args.self.now _ (chars c.args.piece.now) c.requires.between c.requires.valid c.requires.closed refl (ap (λ (u : Unread). u.text) c.of_str-self.ensures) refl))
-    c.in_ok-read_piece.ensures.at_end (c.is_used_up.ensures (search rules))) c.requires.valid
+    c.in_ok-read_piece.ensures.at_end) c.requires.valid
 
 pub returns-clause-ran : goal.returns-clause-ran
 returns-clause-ran c =
     piece-ends c.args.self.now c.read_piece.new.self (chars c.args.piece.now)
     (c.in_ok-read_piece.ensures.reads (chars c.args.piece.now) (state_of c.args.self.now) (edits_in c.args.self.now) c.requires.valid
     (piece-starts c.args.self.now _ (chars c.args.piece.now) c.requires.between c.requires.valid c.requires.closed refl (ap (λ (u : Unread). u.text) c.of_str-self.ensures) refl))
-    c.in_ok-read_piece.ensures.at_end (c.is_used_up.ensures (search rules))
+    c.in_ok-read_piece.ensures.at_end

@@ -5,10 +5,6 @@ use Rattle.hp_replay.proofs.Going.{steps-took}
 use Rattle.hp_replay.proofs.Steps.{not-asked, step-cdata, step-cut, step-tokens, told-step}
 use Rattle.hp_replay.proofs.running.Running.step.Goals as goal
 
-pub handle-requires-clause-asked : goal.handle-requires-clause-asked
-handle-requires-clause-asked c =
-    let s = told-step c.args.self.now.lexer c.args.self.now.input c.next.new.self c.next.new.input c.in_ok-tokens.field-0 (steps.Tokens _ c.in-Tokens.tokens) c.in-Tokens.is c.in_ok-tokens.ensures.step in s.2
-
 pub handle-requires-clause-read : goal.handle-requires-clause-read
 handle-requires-clause-read c =
     (stepped-read c.args.self.now.lexer c.args.self.now.input c.next.new.self c.next.new.input _ c.in-Tokens.tokens (told-step c.args.self.now.lexer c.args.self.now.input c.next.new.self c.next.new.input c.in_ok-tokens.field-0 (steps.Tokens _ c.in-Tokens.tokens) c.in-Tokens.is c.in_ok-tokens.ensures.step)).0
@@ -36,7 +32,7 @@ returns-in-AtCut-clause-reads c = λ piece from before valid r.
 
 pub returns-in_ok-handle-in-Tokens-clause-steps : goal.returns-in_ok-handle-in-Tokens-clause-steps
 returns-in_ok-handle-in-Tokens-clause-steps c =
-    steps-took c.steps_fall.ensures.steps c.args.self.now (record c.args.self.now { lexer = c.next.new.self; input = c.next.new.input }) c.handle.new.self _ c.in-Tokens.tokens
+    steps-took c.steps_fall.ensures.steps c.steps_fall.ensures.switches c.args.self.now (record c.args.self.now { lexer = c.next.new.self; input = c.next.new.input }) c.handle.new.self _ c.in-Tokens.tokens
     (told-step c.args.self.now.lexer c.args.self.now.input c.next.new.self c.next.new.input c.in_ok-tokens.field-0 (steps.Tokens _ c.in-Tokens.tokens) c.in-Tokens.is c.in_ok-tokens.ensures.step)
     c.requires.ready c.in_ok-tokens.ensures.names c.in_ok-tokens.ensures.held c.in_ok-handle-in-Tokens.ensures
 

@@ -1,0 +1,88 @@
+//! Pages in two parts, of which the second is run from the state behind the first, and how many elements they make.
+
+use hp_control::{Control, Edit, Edits};
+use hp_fragment::{ending, replay};
+use hp_pieces::Fragment;
+use hp_text::{Chunk, NoMemory, Page, check_page};
+use std::alloc::Global;
+use std::process::Abort;
+use std::test::Fail;
+
+/// How many elements these edits make.
+fn made(edits: &Edits<'_>) -> u64 {
+    let mut count: u64 = 0;
+    for edit in edits.as_slice() {
+        if matches!(edit, Edit::NewElement { .. }) {
+            count = count.saturating_add(1);
+        }
+    }
+    count
+}
+
+/// The page up to the cut, and what follows.
+fn parts<'p>(rt: &impl Abort, page: Page<'p>, cut: usize) -> (Chunk<'p>, Chunk<'p>) {
+    let text = page.as_str();
+    assert!(rt; cut <= text.len());
+    assert!(rt; text.is_char_boundary(cut));
+    let first = Chunk {
+        page,
+        number: 0,
+        from: 0,
+        to: cut as u64,
+    };
+    let second = Chunk {
+        page,
+        number: 1,
+        from: cut as u64,
+        to: text.len() as u64,
+    };
+    (first, second)
+}
+
+/// The state behind the part, and how many elements it makes.
+fn run_part<'p>(
+    alloc: Global,
+    chunk: Chunk<'p>,
+    from: Control,
+) -> Result<(Control, u64), NoMemory> {
+    let Fragment::Exact(exact) = replay(alloc, chunk, from)?;
+    let (exit, edits) = exact.into_parts();
+    let count = made(&edits);
+    Ok((exit, count))
+}
+
+/// How many elements the end of input makes.
+fn run_end(alloc: Global, from: &Control) -> Result<u64, NoMemory> {
+    let end = ending(alloc, from)?;
+    Ok(made(end.edits()))
+}
+
+/// How many elements the page makes in two parts.
+fn elements(rt: &impl Abort, alloc: Global, bytes: &[u8], cut: usize) -> Result<u64, Fail> {
+    let page = check_page(bytes)?;
+    let (first, second) = parts(rt, page, cut);
+    let (mid, front) = run_part(alloc, first, Control::start())?;
+    let (end, back) = run_part(alloc, second, mid)?;
+    let last = run_end(alloc, &end)?;
+    Ok(front.saturating_add(back).saturating_add(last))
+}
+
+#[test]
+fn parts_make_the_elements_of_the_page(rt: HostRuntime) -> Result<(), Fail> {
+    // The cuts stand before the page, in a name, a value, a reference, raw text, a section's opening, and behind the page.
+    let cases: [(&[u8], usize, u64); 8] = [
+        (b"", 0, 3),
+        (b"<p>one<p>two", 0, 5),
+        (b"<table>x<td>y", 3, 7),
+        (b"<b id='a b'><p>x</b>y", 10, 6),
+        (b"x&notit;<p>y", 5, 4),
+        (b"<script>a<b></script>z", 10, 4),
+        (b"<svg><![CDATA[x]]><p>y", 9, 5),
+        (b"<title>x", 8, 4),
+    ];
+    for (bytes, cut, count) in cases {
+        let made = elements(&rt, rt.alloc(), bytes, cut)?;
+        assert_eq!(rt; made, count, "over {bytes:?}");
+    }
+    Ok(())
+}
