@@ -6,6 +6,7 @@ use hp_elements::{
 };
 use hp_predict::Prescan;
 use hp_text::{Chunk, Page, check_page};
+use hp_tokens::LexState;
 use hp_views::View;
 use std::alloc::Global;
 use std::process::Abort;
@@ -116,8 +117,9 @@ fn a_form_ends(rt: HostRuntime) -> Result<(), Fail> {
     does(&rt, rt.alloc(), &mut view, Known::Form, Act::EndForm);
     does(&rt, rt.alloc(), &mut view, Known::Form, Act::Insert);
     does(&rt, rt.alloc(), &mut view, Known::Form, Act::FormPointer);
+    does(&rt, rt.alloc(), &mut view, Known::Div, Act::Insert);
     does(&rt, rt.alloc(), &mut view, Known::Form, Act::EndForm);
-    ends(&rt, &view, 0, 1);
+    ends(&rt, &view, 1, 1);
     Ok(())
 }
 
@@ -221,6 +223,18 @@ fn foreign_elements_come_and_go(rt: HostRuntime) -> Result<(), Fail> {
     puts(&rt, rt.alloc(), &mut view, Act::Replacement);
     does(&rt, rt.alloc(), &mut view, Known::A, Act::PopToPoint);
     ends(&rt, &view, 0, 0);
+    Ok(())
+}
+
+#[test]
+fn a_change_is_told(rt: HostRuntime) -> Result<(), Fail> {
+    let mut view = over(&rt, rt.alloc(), "<div>")?;
+    does(&rt, rt.alloc(), &mut view, Known::P, Act::Insert);
+    let lex = LexState::at_rest(Rest::Data, false);
+    let (change, kept, edits) = view.into_change(lex, false);
+    assert_eq!(rt; change.made, 1);
+    assert_eq!(rt; kept.len(), 1);
+    assert_eq!(rt; edits.len(), 2);
     Ok(())
 }
 
