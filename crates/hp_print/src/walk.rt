@@ -1,9 +1,9 @@
 //! The walk over the tree, with a stack of its own.
 
-ghost use Rattle.std.specs.Prelude.{◌≡◌, ◌+◌, ◌<◌, ◌≤◌, IfOk, OnOk, length, drop};
+ghost use Rattle.std.specs.Prelude.{◌≡◌, ◌+◌, ◌<◌, ◌≤◌, [], IfOk, OnOk, length, drop};
 ghost use Rattle.hp_control.specs.Tree.{branch};
 ghost use Rattle.hp_arena.specs.Readers.{parent_of, place_of};
-ghost use Rattle.hp_print.specs.Out.{Prints};
+ghost use Rattle.hp_print.specs.Out.{Has, Prints};
 ghost use Rattle.hp_print.specs.Print.{print};
 ghost use Rattle.hp_print.specs.Stack.{IsDeep, IsMark, Pushed, Stepped, lines_at, steps_at};
 
@@ -23,16 +23,38 @@ pub struct Mark {
     pub templates: u32,
 }
 
-/// The tree as text, in UTF-8.
+/// The tree as text, in UTF-8. It is written into memory of a usual size, and counted and written anew where that is too small.
 pub fn print_tree(alloc: Global, tree: &Tree<'_>) -> Result<Vec<u8>, NoMemory>
     ensures { IfOk result (λ text. text.items ≡ print tree.now.branches) }
 {
-    let mut count = Out::Counting(0);
-    print_all(alloc, tree, &mut count)?;
-    let size = match count {
-        Out::Counting(size) => size,
-        Out::Writing(_) => 0,
-    };
+    let mut text = guessed(alloc, tree.len());
+    print_all(alloc, tree, &mut text)?;
+    match text {
+        Out::Writing(bytes) => Ok(bytes),
+        Out::Counting(size) => print_counted(alloc, tree, size),
+    }
+}
+
+/// How much memory a text is given for each element before it is counted, and how much at most.
+const FOR_ELEMENT: usize = 256;
+const MOST: usize = 1 << 26;
+
+/// Memory for the usual text of a tree of so many elements. Where there is none, the text is counted first.
+fn guessed(alloc: Global, elements: u32) -> Out
+    ensures { Has result [] }
+{
+    let size = MOST.min(4096 + FOR_ELEMENT * elements as usize);
+    match Vec::with_capacity(alloc, size) {
+        Ok(bytes) => Out::Writing(bytes),
+        Err(_) => Out::Counting(0),
+    }
+}
+
+/// The tree as text, in UTF-8, whose length was counted. A text of absurd length is refused before anything is written.
+#[inline(never)]
+fn print_counted(alloc: Global, tree: &Tree<'_>, size: u64) -> Result<Vec<u8>, NoMemory>
+    ensures { IfOk result (λ text. text.items ≡ print tree.now.branches) }
+{
     let mut text = Out::Writing(Vec::with_capacity(alloc, size as usize)?);
     print_all(alloc, tree, &mut text)?;
     match text {
