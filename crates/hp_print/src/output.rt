@@ -1,6 +1,6 @@
 //! Where the printed text goes: it is written into memory that was taken once. Where that is too small, it is counted from there on.
 
-ghost use Rattle.std.specs.Prelude.{◌≡◌, ◌<◌, ◌++◌, ℕ, List, OnOk, length, replicate, encode_utf8_all};
+ghost use Rattle.std.specs.Prelude.{◌≡◌, ◌<◌, ◌++◌, ℕ, List, [], OnOk, length, replicate, encode_utf8_all};
 ghost use Rattle.std.specs.Str.{chars};
 ghost use Rattle.hp_print.specs.Out.{Prints, is_counting};
 ghost use Rattle.hp_print.specs.Print.{indentation};
@@ -65,6 +65,15 @@ impl Out {
                 Ok(())
             }
         }
+    }
+
+    /// Only counts from here on where that is asked for.
+    #[tactic(auto, using(crate::proofs::Pieces::prints_none))]
+    #[inline]
+    pub fn count_where(&mut self, asked: bool) -> Result<(), NoMemory>
+        ensures { OnOk result (Prints self.old self.new []) }
+    {
+        if asked { self.count_on(0) } else { Ok(()) }
     }
 
     /// Prints a text, in UTF-8.
