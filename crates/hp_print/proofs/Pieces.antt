@@ -1,5 +1,5 @@
 -- Pieces that are printed one after the other.
-use Rattle.std.proofs.Common.{◌≡◌, ℕ, true, List, [], ◌+◌, ◌++◌, length, refl, subst, sym, ◌∙◌, append_assoc, append-nil, length-append, Vec, Global, arith}
+use Rattle.std.proofs.Common.{◌≡◌, ℕ, true, List, [], ◌+◌, ◌++◌, length, refl, subst, sym, append_assoc, append-nil, length-append, Vec, Global, arith}
 use Rattle.std.proofs.lemmas.Bool.{true≢false}
 use Rattle.hp_print.specs.declared.output.Out.{Out}
 use Rattle.hp_print.specs.declared.output.Out.TheVariants.{Counting, Writing}

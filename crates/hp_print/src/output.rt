@@ -73,7 +73,11 @@ impl Out {
     pub fn count_where(&mut self, asked: bool) -> Result<(), NoMemory>
         ensures { OnOk result (Prints self.old self.new []) }
     {
-        if asked { self.count_on(0) } else { Ok(()) }
+        if !asked {
+            return Ok(());
+        }
+        self.count_on(0)?;
+        Ok(())
     }
 
     /// Prints a text, in UTF-8.

@@ -26,6 +26,7 @@ pub struct Mark {
 
 /// How much memory a text is given for each element before it is counted, and how much at most.
 const FOR_ELEMENT: usize = 256;
+
 const MOST: usize = 1 << 26;
 
 /// No line is deeper in a text that is written before it was counted, since the text of a deep tree goes by the square of its depth.
@@ -35,14 +36,25 @@ const SHALLOW: u64 = 64;
 pub fn print_tree(alloc: Global, tree: &Tree<'_>) -> Result<Vec<u8>, NoMemory>
     ensures { IfOk result (λ text. text.items ≡ print tree.now.branches) }
 {
-    let mut text = guessed(alloc, tree.len());
-    if print_all(alloc, tree, SHALLOW, &mut text).is_err() {
-        text = Out::Counting(0);
-        print_all(alloc, tree, u64::MAX, &mut text)?;
-    }
-    match text {
+    let made = first_pass(alloc, tree)?;
+    match made {
         Out::Writing(bytes) => Ok(bytes),
         Out::Counting(size) => print_counted(alloc, tree, size),
+    }
+}
+
+/// The text of a tree, where it fits into memory of a usual size and its lines aren't deep, and else how long it is.
+fn first_pass(alloc: Global, tree: &Tree<'_>) -> Result<Out, NoMemory>
+    ensures { IfOk result (λ out. Has out (print tree.now.branches)) }
+{
+    let mut text = guessed(alloc, tree.len());
+    match print_all(alloc, tree, SHALLOW, &mut text) {
+        Ok(()) => Ok(text),
+        Err(_) => {
+            text = Out::Counting(0);
+            print_all(alloc, tree, u64::MAX, &mut text)?;
+            Ok(text)
+        }
     }
 }
 
@@ -71,12 +83,7 @@ fn print_counted(alloc: Global, tree: &Tree<'_>, size: u64) -> Result<Vec<u8>, N
 }
 
 /// Prints all items of the tree; from the first line on that is deeper than that they are only counted.
-fn print_all(
-    alloc: Global,
-    tree: &Tree<'_>,
-    deepest: u64,
-    out: &mut Out,
-) -> Result<(), NoMemory>
+fn print_all(alloc: Global, tree: &Tree<'_>, deepest: u64, out: &mut Out) -> Result<(), NoMemory>
     ensures { OnOk result (Prints out.old out.new (print tree.now.branches)) }
 {
     let _elements = tree.len();
@@ -116,7 +123,6 @@ fn print_mark(
 }
 
 /// Prints the lines of an item, before those of what stands inside it, or counts them where they are deeper than that.
-#[tactic(auto, using(crate::proofs::Pieces::prints_then))]
 fn print_at(
     alloc: Global,
     out: &mut Out,
@@ -127,7 +133,8 @@ fn print_at(
     ensures { (t : Branches) → HasTag t view.entry → OnOk result (Prints out.old out.new (lines_of t depth (shown view.entry))) }
 {
     out.count_where(depth > deepest)?;
-    print_item(alloc, out, view, depth)
+    print_item(alloc, out, view, depth)?;
+    Ok(())
 }
 
 /// Marks the item after the one at a mark, if there is one.

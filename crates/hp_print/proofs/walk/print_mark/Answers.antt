@@ -16,8 +16,8 @@ overflow_add-templates c =
     let more : extra t (item.Element c.in-Element.id) ≡ c.extra_depth.result = ap tag_extra has ∙ sym c.extra_depth.ensures in
     omega (arith, extra_at_most t (item.Element c.in-Element.id), c.requires.templates, c.len-elements.ensures.count)
 
-pub overflow_add-mark-in-Element : goal.overflow_add-mark-in-Element
-overflow_add-mark-in-Element c =
+pub overflow_add-mark : goal.overflow_add-mark
+overflow_add-mark c =
     let t = c.args.tree.now.branches in
     let room : c.args.mark.level < length t = deep-room t c.len-elements.ensures.forest c.args.mark.level (parent_of c.args.mark.at) c.requires.deep in
     omega (arith, c.len-elements.ensures.count)
