@@ -1,5 +1,5 @@
 -- What holds of each act of a row holds of the act at a place.
-use Rattle.std.proofs.Common.{◌≡◌, ◌<◌, ◌≤◌, ℕ, zero, suc, ◌+◌, Bool, true, List, [], ◌∷◌, length, Option, None, Some, slice_get, IfSome, subst, sym, arith, add-zero, zero-add, lt_of_lt_of_le}
+use Rattle.std.proofs.Common.{◌≡◌, ◌<◌, ◌≤◌, ℕ, zero, suc, ◌+◌, true, List, [], ◌∷◌, length, Option, None, Some, slice_get, IfSome, subst, sym, arith, add-zero, zero-add, lt_of_lt_of_le}
 use Rattle.std.specs.List.{list_all}
 use Rattle.std.proofs.lemmas.Bool.{and_parts}
 use Rattle.std.proofs.lemmas.Option.{IfSome_then}

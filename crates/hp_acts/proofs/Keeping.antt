@@ -1,6 +1,6 @@
 -- Over the whole table: along each way through a row, no act reads what an earlier one gave away; each act has a plan; and each
 -- row ends.
-use Rattle.std.proofs.Common.{◌≡◌, ◌≤◌, ℕ, zero, suc, Bool, true, List, [], ◌∷◌, get_or, length, leb, map, refl, ap, sym, ◌∙◌, ◌&&◌, subst}
+use Rattle.std.proofs.Common.{◌≡◌, ◌≤◌, ℕ, zero, suc, Bool, true, List, [], ◌∷◌, get_or, length, leb, map, refl, ap, ◌∙◌, ◌&&◌}
 use Rattle.std.specs.List.{list_all}
 use Rattle.std.proofs.lemmas.Bool.{and_parts, leb-true}
 use Rattle.hp_elements.specs.Rules.{acts_numbered, acts_of, go_later, rows_end}

@@ -24,10 +24,10 @@ pub(crate) enum Part {
 #[derive(Clone, Copy)]
 pub(crate) struct Row {
     acts: &'static [Act],
-    ghost keeps: { row_keeps true 0 0 acts ≡ true },
-    ghost planned: { list_all is_planned acts ≡ true },
-    ghost later: { go_later 0 acts ≡ true },
-    ghost short: { length acts ≤ 8 },
+    ghost keeps: { row_keeps true 0 0 acts.now ≡ true },
+    ghost planned: { list_all is_planned acts.now ≡ true },
+    ghost later: { go_later 0 acts.now ≡ true },
+    ghost short: { length acts.now ≤ 8 },
 }
 
 /// The crate that has the rules of the mode.
@@ -69,7 +69,7 @@ fn acts_numbered(part: Part, number: u16) -> &'static [Act]
 }
 
 fn row_numbered(part: Part, number: u16) -> Row
-    ensures { result.acts ≡ acts_numbered (rows_in part) number }
+    ensures { result.acts.now ≡ acts_numbered (rows_in part) number }
 {
     let acts = acts_numbered(part, number);
     Row { acts }
@@ -77,7 +77,7 @@ fn row_numbered(part: Part, number: u16) -> Row
 
 /// The row that the token has in the mode.
 pub(crate) fn row_in(mode: Mode, token: &Token<'_>) -> Row
-    ensures { result.acts ≡ acts_for (every_mode_rows mode) (kind_of token.now) }
+    ensures { result.acts.now ≡ acts_for (every_mode_rows mode) (kind_of token.now) }
 {
     let part = part_in(mode);
     match number_in(part, mode, token) {
@@ -88,7 +88,7 @@ pub(crate) fn row_in(mode: Mode, token: &Token<'_>) -> Row
 
 /// The row that the token has in foreign content.
 pub(crate) fn foreign_row(token: &Token<'_>) -> Row
-    ensures { result.acts ≡ acts_for foreign (kind_of token.now) }
+    ensures { result.acts.now ≡ acts_for foreign (kind_of token.now) }
 {
     row_numbered(Part::Rest, hp_rules_rest::foreign_row(token))
 }
@@ -97,7 +97,7 @@ impl Row {
     /// The act of the row at that place; none where the row has no act there.
     #[inline(always)]
     pub(crate) fn act(self, at: u32) -> Option<Act>
-        ensures value { result ≡ slice_get self.acts at }
+        ensures value { result ≡ slice_get self.acts.now at }
         ensures planned { IfSome result (λ act. is_planned act ≡ true) }
         ensures later { IfSome result (λ act. goes_later at act ≡ true) }
         ensures short { IfSome result (λ act. at < 8) }
@@ -107,7 +107,7 @@ impl Row {
 
     #[inline(always)]
     fn act_at(self, at: u32) -> Option<Act>
-        ensures { result ≡ slice_get self.acts at }
+        ensures { result ≡ slice_get self.acts.now at }
     {
         self.acts.get(at as usize).copied()
     }

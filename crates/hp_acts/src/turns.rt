@@ -53,7 +53,7 @@ struct Turn<'p> {
 
 /// Whether an act of a row from that place on reads the attributes of the token.
 fn is_read_from(row: Row, from: u32) -> bool
-    ensures { result ≡ list_any reads_attributes (drop from row.acts) }
+    ensures { result ≡ list_any reads_attributes (drop from row.acts.now) }
 {
     let mut at = from;
     while let Some(act) = row.act(at) {
@@ -87,7 +87,7 @@ fn is_of_attributes(test: Test) -> bool
 /// What becomes of the token's attributes at an act of a row: they are moved unless a later act reads them.
 fn spending_at(row: Row, at: u32, act: Act) -> Spending
     requires { at < 8 }
-    ensures { leaves_whole act (drop (at + 1) row.acts) ≡ true → gives_away act ≡ true → result ≡ Copies }
+    ensures { leaves_whole act (drop (at + 1) row.acts.now) ≡ true → gives_away act ≡ true → result ≡ Copies }
 {
     match act {
         Act::Insert => {
@@ -124,7 +124,7 @@ fn carry_row<'p, B: Below>(
     fostering: bool,
     depth: u32,
 ) -> Result<bool, Refusal>
-    ensures plan { Comes result (B.heard view.old.below) (B.heard view.new.below) (row_plan depth present fostering turn.old.token 0 0 row.acts (reached view.old turn.old)) turn.new.token (reached view.new turn.new) }
+    ensures plan { Comes result (B.heard view.old.below) (B.heard view.new.below) (row_plan depth present fostering turn.old.token 0 0 row.acts.now (reached view.old turn.old)) turn.new.token (reached view.new turn.new) }
     ensures left { IfOk result (λ again. again ≡ false → IsLeftOf turn.old.token turn.new.token) }
 {
     let mut at = 0;
@@ -201,7 +201,7 @@ fn step<'p, B: Below>(
     requires planned { is_planned act ≡ true }
     ensures later { IfOk result (λ next. GoesLater at next) }
     ensures goes { IfOk result (λ next. GoesBy act at next) }
-    ensures stays { IfOk result (λ next. Stays (leaves_whole act (drop (at + 1) row.acts)) turn.old.token turn.new.token next) }
+    ensures stays { IfOk result (λ next. Stays (leaves_whole act (drop (at + 1) row.acts.now)) turn.old.token turn.new.token next) }
     ensures plan { (follow : Bool → Mode → Reached → Plan Came) (go : ℕ → Reached → Plan Came) → Goes result (B.heard view.old.below) (B.heard view.new.below) (act_then follow (present_plan follow present) fostering turn.old.token act at go (reached view.old turn.old)) (λ next. going follow go at (reached view.new turn.new) turn.new.token next) }
 {
     match act {

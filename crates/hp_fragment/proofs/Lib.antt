@@ -10,3 +10,4 @@ pub mod Started
 pub mod HandledOnce
 pub mod Texts
 pub mod Tried
+pub mod Within

@@ -57,6 +57,7 @@ impl<'p> Builder<'p> {
     }
 
     /// Handles a token. Answers the state in which the lexer goes on, where the token calls for another than its own.
+    #[inline(always)]
     pub fn handle_one(&mut self, alloc: Global, token: Token<'p>) -> Result<Option<Rest>, NoMemory>
         requires builder { IsBuilder self.old }
         requires read { IsRead token }

@@ -8,5 +8,5 @@ mod parsing;
 mod whole;
 
 pub use hp_elements::NoMemory;
-// pub use hp_replay::{ending, replay};
+pub use hp_replay::{ending, replay};
 pub use whole::parse_whole;

@@ -1,22 +1,20 @@
 -- A decimal reference in the data state: a move for its `&`, its `#` and each digit, and those that read again.
-use Rattle.std.proofs.Common.{◌≡◌, ℕ, ◌+◌, ◌*◌, ◌-◌, ◌<◌, ◌≤◌, List, [], ◌∷◌, ◌++◌, Bool, true, false, ◌&&◌, cond, length, map, take, drop, get_or, suc, zero, refl, ap, ◌∙◌, sym, subst, arith, Option, None, Some, length-append, length-take-le}
+use Rattle.std.proofs.Common.{◌≡◌, ℕ, ◌+◌, ◌*◌, ◌-◌, ◌<◌, ◌≤◌, List, [], ◌∷◌, ◌++◌, true, false, length, take, drop, suc, zero, refl, ap, ◌∙◌, sym, subst, arith, Some, length-append, length-take-le}
 use Rattle.std.specs.Prelude.{◌==◌, nat_lt, slice_index, slice_get, IsUtf8}
 use Rattle.std.specs.List.{list_all}
 use Rattle.std.specs.Str.{chars}
-use Rattle.std.specs.Char.{len_utf8, is_digit, digit_value, is_ascii_digit}
+use Rattle.std.specs.Char.{len_utf8, digit_value, is_ascii_digit}
 use Rattle.std.proofs.lemmas.Bool.{and_parts, and_from}
 use Rattle.std.proofs.Math.Seq.{take-suc, drop-cons}
 use Rattle.std.proofs.lemmas.List.{take-append-drop, take_rest}
 use borrow.Author.Tests.{lt-ltb}
 use Rattle.hp_names.specs.References.{Reference}
 use Rattle.hp_names.specs.Numeric.{numeric}
-use Rattle.hp_elements.specs.declared.token.Token.{Token}
-use Rattle.hp_tokens.specs.declared.state.State.{State}
-use Rattle.hp_tokens.specs.declared.state.State.TheVariants.{Data, NumericCharacterReference, DecimalCharacterReferenceStart, DecimalCharacterReference, NumericCharacterReferenceEnd}
+use Rattle.hp_tokens.specs.declared.state.State.TheVariants.{NumericCharacterReference, DecimalCharacterReferenceStart, DecimalCharacterReference, NumericCharacterReferenceEnd}
 use Rattle.hp_tokens.specs.declared.machine.Machine.{Machine}
 use Rattle.hp_tokens.specs.States.{enter}
-use Rattle.hp_tokens.specs.Rows.{Row, character, with_buffer, with_value}
-use Rattle.hp_tokens.specs.Moves.{Lexing, Emitted, Move, makes, standing, move, after_row, read_as}
+use Rattle.hp_tokens.specs.Rows.{character, with_buffer, with_value}
+use Rattle.hp_tokens.specs.Moves.{Lexing, Move, makes, standing, move}
 use Rattle.hp_tokens.specs.Runs.{Leads, here, onward}
 use Rattle.hp_tokens.specs.PlainLaws.{unlike}
 use Rattle.hp_tokens.proofs.Pieces.{Leads-join}

@@ -1,11 +1,11 @@
 -- A name with its semicolon is decided, whatever follows it.
-use Rattle.std.proofs.Common.{◌≡◌, ℕ, ◌<◌, ◌≤◌, ◌-◌, List, [], ◌∷◌, Bool, true, false, ◌&&◌, ◌||◌, not, nat_eq, nat_lt, length, get_or, suc, refl, arith, sym, ap, ◌∙◌, subst, Option, None, Some}
+use Rattle.std.proofs.Common.{◌≡◌, ℕ, ◌≤◌, ◌-◌, List, [], ◌∷◌, Bool, true, false, ◌&&◌, nat_eq, nat_lt, length, get_or, suc, refl, arith, sym, ap, ◌∙◌, subst, Option, Some}
 use Rattle.std.proofs.lemmas.Bool.Decides.{nat_tests}
 use Rattle.std.proofs.lemmas.Bool.{and_parts}
 use Rattle.std.specs.List.{list_all}
 use Rattle.hp_names.specs.Order.{begins}
 use Rattle.hp_names.specs.References.{Reference, semicolon, ends_with_semicolon, is_letter, is_letter_or_digit, is_name, is_rest_of_name, is_table}
-use Rattle.hp_names.specs.Longest.{longest, may_be_more, is_open, IsLongest, found_of}
+use Rattle.hp_names.specs.Longest.{longest, may_be_more, is_open, IsLongest}
 use Rattle.hp_names.specs.declared.names.Found.{Found}
 use Rattle.hp_names.proofs.LawLemmas.{longest-IsLongest}
 use Rattle.hp_names.proofs.OpenLemmas.{begins-length}

@@ -1,16 +1,15 @@
 -- A named reference in an attribute's value is three moves.
-use Rattle.std.proofs.Common.{◌≡◌, ℕ, ◌+◌, ◌-◌, ◌<◌, ◌≤◌, List, [], ◌∷◌, ◌++◌, Bool, true, false, ◌&&◌, not, cond, length, map, take, drop, refl, ap, ◌∙◌, sym, subst, arith, Option, None, Some}
+use Rattle.std.proofs.Common.{◌≡◌, ℕ, ◌+◌, ◌<◌, List, [], ◌∷◌, Bool, true, false, ◌&&◌, not, cond, length, take, drop, refl, ap, ◌∙◌, sym, subst, arith, Option, None, Some}
 use Rattle.std.specs.Prelude.{sum_by}
 use Rattle.std.specs.Char.{len_utf8, is_ascii_alphanumeric}
 use Rattle.std.proofs.lemmas.List.{length-drop}
-use Rattle.hp_elements.specs.declared.token.Token.{Token}
 use Rattle.hp_names.specs.References.{Reference}
 use Rattle.hp_names.specs.Longest.{longest, is_open}
 use Rattle.hp_names.specs.declared.names.Found.{Found}
 use Rattle.hp_tokens.specs.declared.state.State.{State}
 use Rattle.hp_tokens.specs.declared.state.State.TheVariants.{CharacterReference, NamedCharacterReference}
 use Rattle.hp_tokens.specs.declared.state.Return.{Return}
-use Rattle.hp_tokens.specs.declared.state.Return.TheVariants.{Data, Rcdata, DoubleQuoted, SingleQuoted, Unquoted}
+use Rattle.hp_tokens.specs.declared.state.Return.TheVariants.{DoubleQuoted, SingleQuoted, Unquoted}
 use Rattle.hp_tokens.specs.declared.building.Building.{Building}
 use Rattle.hp_tokens.specs.declared.building.Part.TheVariants.{Value}
 use Rattle.hp_tokens.specs.declared.machine.Machine.{Machine}
@@ -18,7 +17,7 @@ use Rattle.hp_tokens.specs.Reading.{Unread, first}
 use Rattle.hp_tokens.specs.States.{enter, return_state, is_in_value}
 use Rattle.hp_tokens.specs.Parts.{put}
 use Rattle.hp_tokens.specs.Rows.{with_buffer, returning_to}
-use Rattle.hp_tokens.specs.Moves.{Lexing, Emitted, Move, needs_more, makes, move}
+use Rattle.hp_tokens.specs.Moves.{Lexing, Move, needs_more, makes, move}
 use Rattle.hp_tokens.specs.Runs.{Leads, here, onward}
 use Rattle.hp_lex_tags.specs.Letters.{ampersand}
 use Rattle.hp_lex_tags.specs.Named.{reference_move, read_buffer, second_value, goes_on}

@@ -144,7 +144,8 @@ impl<'p> Running<'p> {
         requires read { IsRead token }
         ensures { OnOk result (TookOne self.old self.new token.entry) }
     {
-        match collect(alloc, &mut self.view, token)? {
+        let switch = collect(alloc, &mut self.view, token)?;
+        match switch {
             None => Ok(()),
             Some(rest) => {
                 self.lexer.switch(rest);

@@ -1,8 +1,8 @@
 use Rattle.hp_acts.proofs.Keeping.{numbered_keeps, numbered_later, numbered_planned, numbered_short}
 use Rattle.hp_acts.proofs.rows.row_numbered.Goals as goal
 
-pub invariant_of-Row : goal.invariant_of-Row
-invariant_of-Row c = record {
+pub invariant_of-result : goal.invariant_of-result
+invariant_of-result c = record {
   keeps = numbered_keeps c.args.part c.args.number c.acts_numbered-acts.result.now c.acts_numbered-acts.ensures;
   planned = numbered_planned c.args.part c.args.number c.acts_numbered-acts.result.now c.acts_numbered-acts.ensures;
   later = numbered_later c.args.part c.args.number c.acts_numbered-acts.result.now c.acts_numbered-acts.ensures;

@@ -12,8 +12,8 @@ pub returns-in_err-next-clause-plan : goal.returns-in_err-next-clause-plan
 returns-in_err-next-clause-plan g t c =
     let follow = rules_plan c.args.depth c.args.turn.now.token in
     let present = present_plan (rules_plan c.args.depth c.args.turn.now.token) c.args.present in
-    let go = rest_behind follow present c.args.fostering c.args.turn.now.token c.args.row.acts c.loop-act.at in
-    refused_at follow present c.args.fostering c.args.turn.now.token c.args.row.acts c.from_residual.result c.in_err-next.field-0.0 (g.B.Below.heard c.args.view.now.below) (reached c.args.view.now c.args.turn.now) c.loop-act.at (g.B.Below.heard c.loop-act.view.below) (g.B.Below.heard c.step.new.view.below) (reached c.loop-act.view c.loop-act.turn) (reached c.step.new.view c.step.new.turn) c.loop-act.turn.token c.step.new.turn.token c.in-Some.act
+    let go = rest_behind follow present c.args.fostering c.args.turn.now.token c.args.row.acts.now c.loop-act.at in
+    refused_at follow present c.args.fostering c.args.turn.now.token c.args.row.acts.now c.from_residual.result c.in_err-next.field-0.0 (g.B.Below.heard c.args.view.now.below) (reached c.args.view.now c.args.turn.now) c.loop-act.at (g.B.Below.heard c.loop-act.view.below) (g.B.Below.heard c.step.new.view.below) (reached c.loop-act.view c.loop-act.turn) (reached c.step.new.view c.step.new.turn) c.loop-act.turn.token c.step.new.turn.token c.in-Some.act
     (going follow go c.loop-act.at (reached c.step.new.view c.step.new.turn) c.step.new.turn.token)
     (is_error c.from_residual.result c.in_err-next.field-0.0 c.from_residual.ensures.1) c.loop-act.invariant (sym c.act.ensures.value ∙ c.in-Some.is) (c.in_err-next.ensures.plan follow go)
 
@@ -21,7 +21,7 @@ pub loop-act-preserved-in-At : goal.loop-act-preserved-in-At
 loop-act-preserved-in-At g t c =
     let follow = rules_plan c.args.depth c.args.turn.now.token in
     let present = present_plan (rules_plan c.args.depth c.args.turn.now.token) c.args.present in
-    let go = rest_behind follow present c.args.fostering c.args.turn.now.token c.args.row.acts c.loop-act.at in
+    let go = rest_behind follow present c.args.fostering c.args.turn.now.token c.args.row.acts.now c.loop-act.at in
     moved_to _ _ _ _ _ _ _ _ _ (g.B.Below.heard c.step.new.view.below) _ (reached c.step.new.view c.step.new.turn) _ c.step.new.turn.token c.in-Some.act c.in_ok-next.field-0 c.in-At.next c.loop-act.invariant (sym c.act.ensures.value ∙ c.in-Some.is)
     (record { plan = c.in_ok-next.ensures.plan follow go; later = c.in_ok-next.ensures.later; goes = c.in_ok-next.ensures.goes; stays = c.in_ok-next.ensures.stays }) c.in-At.is
 
@@ -29,8 +29,8 @@ pub returns-in-Done : goal.returns-in-Done
 returns-in-Done g t c =
     let follow = rules_plan c.args.depth c.args.turn.now.token in
     let present = present_plan (rules_plan c.args.depth c.args.turn.now.token) c.args.present in
-    let go = rest_behind follow present c.args.fostering c.args.turn.now.token c.args.row.acts c.loop-act.at in
-    let parts = done_at follow present c.args.fostering c.args.turn.now.token c.args.row.acts (g.B.Below.heard c.args.view.now.below) (reached c.args.view.now c.args.turn.now) c.loop-act.at (g.B.Below.heard c.loop-act.view.below) (g.B.Below.heard c.step.new.view.below) (reached c.loop-act.view c.loop-act.turn) (reached c.step.new.view c.step.new.turn) c.loop-act.turn.token c.step.new.turn.token c.in-Some.act c.in_ok-next.field-0 c.loop-act.invariant (sym c.act.ensures.value ∙ c.in-Some.is)
+    let go = rest_behind follow present c.args.fostering c.args.turn.now.token c.args.row.acts.now c.loop-act.at in
+    let parts = done_at follow present c.args.fostering c.args.turn.now.token c.args.row.acts.now (g.B.Below.heard c.args.view.now.below) (reached c.args.view.now c.args.turn.now) c.loop-act.at (g.B.Below.heard c.loop-act.view.below) (g.B.Below.heard c.step.new.view.below) (reached c.loop-act.view c.loop-act.turn) (reached c.step.new.view c.step.new.turn) c.loop-act.turn.token c.step.new.turn.token c.in-Some.act c.in_ok-next.field-0 c.loop-act.invariant (sym c.act.ensures.value ∙ c.in-Some.is)
     (record { plan = c.in_ok-next.ensures.plan follow go; later = c.in_ok-next.ensures.later; goes = c.in_ok-next.ensures.goes; stays = c.in_ok-next.ensures.stays }) c.in-Done.is in
     record { plan = parts.0; left = λ e. parts.1 }
 
@@ -38,18 +38,18 @@ pub returns-in-Again-clause-plan : goal.returns-in-Again-clause-plan
 returns-in-Again-clause-plan g t c =
     let follow = rules_plan c.args.depth c.args.turn.now.token in
     let present = present_plan (rules_plan c.args.depth c.args.turn.now.token) c.args.present in
-    let go = rest_behind follow present c.args.fostering c.args.turn.now.token c.args.row.acts c.loop-act.at in
-    again_at follow present c.args.fostering c.args.turn.now.token c.args.row.acts (g.B.Below.heard c.args.view.now.below) (reached c.args.view.now c.args.turn.now) c.loop-act.at (g.B.Below.heard c.loop-act.view.below) (g.B.Below.heard c.step.new.view.below) (reached c.loop-act.view c.loop-act.turn) (reached c.step.new.view c.step.new.turn) c.loop-act.turn.token c.step.new.turn.token c.in-Some.act c.in_ok-next.field-0 c.loop-act.invariant (sym c.act.ensures.value ∙ c.in-Some.is)
+    let go = rest_behind follow present c.args.fostering c.args.turn.now.token c.args.row.acts.now c.loop-act.at in
+    again_at follow present c.args.fostering c.args.turn.now.token c.args.row.acts.now (g.B.Below.heard c.args.view.now.below) (reached c.args.view.now c.args.turn.now) c.loop-act.at (g.B.Below.heard c.loop-act.view.below) (g.B.Below.heard c.step.new.view.below) (reached c.loop-act.view c.loop-act.turn) (reached c.step.new.view c.step.new.turn) c.loop-act.turn.token c.step.new.turn.token c.in-Some.act c.in_ok-next.field-0 c.loop-act.invariant (sym c.act.ensures.value ∙ c.in-Some.is)
     (record { plan = c.in_ok-next.ensures.plan follow go; later = c.in_ok-next.ensures.later; goes = c.in_ok-next.ensures.goes; stays = c.in_ok-next.ensures.stays }) c.in-Again.is
 
 pub loop-act-preserved-then-depth-eq0 : goal.loop-act-preserved-then-depth-eq0
 loop-act-preserved-then-depth-eq0 g t c =
     let follow = rules_plan c.args.depth c.args.turn.now.token in
     let present = present_plan (rules_plan c.args.depth c.args.turn.now.token) c.args.present in
-    let go = rest_behind follow present c.args.fostering c.args.turn.now.token c.args.row.acts c.loop-act.at in
-    let x = using_at follow present c.args.fostering c.args.turn.now.token c.args.row.acts (g.B.Below.heard c.args.view.now.below) (reached c.args.view.now c.args.turn.now) c.loop-act.at (g.B.Below.heard c.loop-act.view.below) (g.B.Below.heard c.step.new.view.below) (reached c.loop-act.view c.loop-act.turn) (reached c.step.new.view c.step.new.turn) c.loop-act.turn.token c.step.new.turn.token c.in-Some.act c.in_ok-next.field-0 c.in-Rules.mode c.in-Rules.fostering c.loop-act.invariant (sym c.act.ensures.value ∙ c.in-Some.is)
+    let go = rest_behind follow present c.args.fostering c.args.turn.now.token c.args.row.acts.now c.loop-act.at in
+    let x = using_at follow present c.args.fostering c.args.turn.now.token c.args.row.acts.now (g.B.Below.heard c.args.view.now.below) (reached c.args.view.now c.args.turn.now) c.loop-act.at (g.B.Below.heard c.loop-act.view.below) (g.B.Below.heard c.step.new.view.below) (reached c.loop-act.view c.loop-act.turn) (reached c.step.new.view c.step.new.turn) c.loop-act.turn.token c.step.new.turn.token c.in-Some.act c.in_ok-next.field-0 c.in-Rules.mode c.in-Rules.fostering c.loop-act.invariant (sym c.act.ensures.value ∙ c.in-Some.is)
     (record { plan = c.in_ok-next.ensures.plan follow go; later = c.in_ok-next.ensures.later; goes = c.in_ok-next.ensures.goes; stays = c.in_ok-next.ensures.stays }) c.in-Rules.is in
-    used_to follow present c.args.fostering c.args.turn.now.token c.args.row.acts (g.B.Below.heard c.args.view.now.below) (reached c.args.view.now c.args.turn.now) c.loop-act.at (g.B.Below.heard c.loop-act.view.below) (g.B.Below.heard c.step.new.view.below) (g.B.Below.heard c.step.new.view.below) (reached c.loop-act.view c.loop-act.turn) (reached c.step.new.view c.step.new.turn) (reached c.step.new.view c.step.new.turn) c.loop-act.turn.token c.step.new.turn.token c.step.new.turn.token c.in-Some.act c.in-Rules.mode c.in-Rules.fostering x
+    used_to follow present c.args.fostering c.args.turn.now.token c.args.row.acts.now (g.B.Below.heard c.args.view.now.below) (reached c.args.view.now c.args.turn.now) c.loop-act.at (g.B.Below.heard c.loop-act.view.below) (g.B.Below.heard c.step.new.view.below) (g.B.Below.heard c.step.new.view.below) (reached c.loop-act.view c.loop-act.turn) (reached c.step.new.view c.step.new.turn) (reached c.step.new.view c.step.new.turn) c.loop-act.turn.token c.step.new.turn.token c.step.new.turn.token c.in-Some.act c.in-Rules.mode c.in-Rules.fostering x
     (nested_none (g.B.Below.heard c.step.new.view.below) c.args.depth c.args.turn.now.token c.in-Rules.fostering c.in-Rules.mode (reached c.step.new.view c.step.new.turn) c.if-depth-eq0.true) (left_whole c.step.new.turn.token)
 
 pub returns-in_err-carry_row-in-Rules-clause-plan :
@@ -57,37 +57,37 @@ pub returns-in_err-carry_row-in-Rules-clause-plan :
 returns-in_err-carry_row-in-Rules-clause-plan g t c =
     let follow = rules_plan c.args.depth c.args.turn.now.token in
     let present = present_plan (rules_plan c.args.depth c.args.turn.now.token) c.args.present in
-    let go = rest_behind follow present c.args.fostering c.args.turn.now.token c.args.row.acts c.loop-act.at in
-    let x = using_at follow present c.args.fostering c.args.turn.now.token c.args.row.acts (g.B.Below.heard c.args.view.now.below) (reached c.args.view.now c.args.turn.now) c.loop-act.at (g.B.Below.heard c.loop-act.view.below) (g.B.Below.heard c.step.new.view.below) (reached c.loop-act.view c.loop-act.turn) (reached c.step.new.view c.step.new.turn) c.loop-act.turn.token c.step.new.turn.token c.in-Some.act c.in_ok-next.field-0 c.in-Rules.mode c.in-Rules.fostering c.loop-act.invariant (sym c.act.ensures.value ∙ c.in-Some.is)
+    let go = rest_behind follow present c.args.fostering c.args.turn.now.token c.args.row.acts.now c.loop-act.at in
+    let x = using_at follow present c.args.fostering c.args.turn.now.token c.args.row.acts.now (g.B.Below.heard c.args.view.now.below) (reached c.args.view.now c.args.turn.now) c.loop-act.at (g.B.Below.heard c.loop-act.view.below) (g.B.Below.heard c.step.new.view.below) (reached c.loop-act.view c.loop-act.turn) (reached c.step.new.view c.step.new.turn) c.loop-act.turn.token c.step.new.turn.token c.in-Some.act c.in_ok-next.field-0 c.in-Rules.mode c.in-Rules.fostering c.loop-act.invariant (sym c.act.ensures.value ∙ c.in-Some.is)
     (record { plan = c.in_ok-next.ensures.plan follow go; later = c.in_ok-next.ensures.later; goes = c.in_ok-next.ensures.goes; stays = c.in_ok-next.ensures.stays }) c.in-Rules.is in
     let deep : c.args.depth ≡ suc (c.args.depth - 1) = omega arith in
-    refused_in follow present c.args.fostering c.args.turn.now.token c.args.row.acts c.from_residual-in_err-carry_row-in-Rules.result c.in_err-carry_row-in-Rules.field-0.0 (g.B.Below.heard c.args.view.now.below) (reached c.args.view.now c.args.turn.now) c.loop-act.at (g.B.Below.heard c.loop-act.view.below) (g.B.Below.heard c.step.new.view.below) (g.B.Below.heard c.carry_row.new.view.below) (reached c.loop-act.view c.loop-act.turn) (reached c.step.new.view c.step.new.turn) (reached c.carry_row.new.view c.carry_row.new.turn) c.loop-act.turn.token c.step.new.turn.token c.carry_row.new.turn.token c.in-Some.act c.in-Rules.mode c.in-Rules.fostering
+    refused_in follow present c.args.fostering c.args.turn.now.token c.args.row.acts.now c.from_residual-in_err-carry_row-in-Rules.result c.in_err-carry_row-in-Rules.field-0.0 (g.B.Below.heard c.args.view.now.below) (reached c.args.view.now c.args.turn.now) c.loop-act.at (g.B.Below.heard c.loop-act.view.below) (g.B.Below.heard c.step.new.view.below) (g.B.Below.heard c.carry_row.new.view.below) (reached c.loop-act.view c.loop-act.turn) (reached c.step.new.view c.step.new.turn) (reached c.carry_row.new.view c.carry_row.new.turn) c.loop-act.turn.token c.step.new.turn.token c.carry_row.new.turn.token c.in-Some.act c.in-Rules.mode c.in-Rules.fostering
     (is_error c.from_residual-in_err-carry_row-in-Rules.result c.in_err-carry_row-in-Rules.field-0.0 c.from_residual-in_err-carry_row-in-Rules.ensures.1) x
-    (nested_comes (Err c.in_err-carry_row-in-Rules.field-0.0) (g.B.Below.heard c.step.new.view.below) (g.B.Below.heard c.carry_row.new.view.below) c.args.depth (c.args.depth - 1) c.args.turn.now.token c.step.new.turn.token c.carry_row.new.turn.token c.in-Rules.fostering c.in-Rules.mode c.row_in-used.result.acts (reached c.step.new.view c.step.new.turn) (reached c.carry_row.new.view c.carry_row.new.turn) deep x.whole c.row_in-used.ensures c.in_err-carry_row-in-Rules.ensures.plan)
+    (nested_comes (Err c.in_err-carry_row-in-Rules.field-0.0) (g.B.Below.heard c.step.new.view.below) (g.B.Below.heard c.carry_row.new.view.below) c.args.depth (c.args.depth - 1) c.args.turn.now.token c.step.new.turn.token c.carry_row.new.turn.token c.in-Rules.fostering c.in-Rules.mode c.row_in-used.result.acts.now (reached c.step.new.view c.step.new.turn) (reached c.carry_row.new.view c.carry_row.new.turn) deep x.whole c.row_in-used.ensures c.in_err-carry_row-in-Rules.ensures.plan)
 
 pub returns-then-branch-clause-plan : goal.returns-then-branch-clause-plan
 returns-then-branch-clause-plan g t c =
     let follow = rules_plan c.args.depth c.args.turn.now.token in
     let present = present_plan (rules_plan c.args.depth c.args.turn.now.token) c.args.present in
-    let go = rest_behind follow present c.args.fostering c.args.turn.now.token c.args.row.acts c.loop-act.at in
-    let x = using_at follow present c.args.fostering c.args.turn.now.token c.args.row.acts (g.B.Below.heard c.args.view.now.below) (reached c.args.view.now c.args.turn.now) c.loop-act.at (g.B.Below.heard c.loop-act.view.below) (g.B.Below.heard c.step.new.view.below) (reached c.loop-act.view c.loop-act.turn) (reached c.step.new.view c.step.new.turn) c.loop-act.turn.token c.step.new.turn.token c.in-Some.act c.in_ok-next.field-0 c.in-Rules.mode c.in-Rules.fostering c.loop-act.invariant (sym c.act.ensures.value ∙ c.in-Some.is)
+    let go = rest_behind follow present c.args.fostering c.args.turn.now.token c.args.row.acts.now c.loop-act.at in
+    let x = using_at follow present c.args.fostering c.args.turn.now.token c.args.row.acts.now (g.B.Below.heard c.args.view.now.below) (reached c.args.view.now c.args.turn.now) c.loop-act.at (g.B.Below.heard c.loop-act.view.below) (g.B.Below.heard c.step.new.view.below) (reached c.loop-act.view c.loop-act.turn) (reached c.step.new.view c.step.new.turn) c.loop-act.turn.token c.step.new.turn.token c.in-Some.act c.in_ok-next.field-0 c.in-Rules.mode c.in-Rules.fostering c.loop-act.invariant (sym c.act.ensures.value ∙ c.in-Some.is)
     (record { plan = c.in_ok-next.ensures.plan follow go; later = c.in_ok-next.ensures.later; goes = c.in_ok-next.ensures.goes; stays = c.in_ok-next.ensures.stays }) c.in-Rules.is in
     let deep : c.args.depth ≡ suc (c.args.depth - 1) = omega arith in
-    used_again follow present c.args.fostering c.args.turn.now.token c.args.row.acts (g.B.Below.heard c.args.view.now.below) (reached c.args.view.now c.args.turn.now) c.loop-act.at (g.B.Below.heard c.loop-act.view.below) (g.B.Below.heard c.step.new.view.below) (g.B.Below.heard c.carry_row.new.view.below) (reached c.loop-act.view c.loop-act.turn) (reached c.step.new.view c.step.new.turn) (reached c.carry_row.new.view c.carry_row.new.turn) c.loop-act.turn.token c.step.new.turn.token c.carry_row.new.turn.token c.in-Some.act c.in-Rules.mode c.in-Rules.fostering x
+    used_again follow present c.args.fostering c.args.turn.now.token c.args.row.acts.now (g.B.Below.heard c.args.view.now.below) (reached c.args.view.now c.args.turn.now) c.loop-act.at (g.B.Below.heard c.loop-act.view.below) (g.B.Below.heard c.step.new.view.below) (g.B.Below.heard c.carry_row.new.view.below) (reached c.loop-act.view c.loop-act.turn) (reached c.step.new.view c.step.new.turn) (reached c.carry_row.new.view c.carry_row.new.turn) c.loop-act.turn.token c.step.new.turn.token c.carry_row.new.turn.token c.in-Some.act c.in-Rules.mode c.in-Rules.fostering x
     (came_again c.in_ok-carry_row-in-Rules.field-0 (g.B.Below.heard c.step.new.view.below) (g.B.Below.heard c.carry_row.new.view.below) (rules_plan c.args.depth c.args.turn.now.token c.in-Rules.fostering c.in-Rules.mode (reached c.step.new.view c.step.new.turn)) c.carry_row.new.turn.token (reached c.carry_row.new.view c.carry_row.new.turn)
-    (nested_comes (Ok c.in_ok-carry_row-in-Rules.field-0) (g.B.Below.heard c.step.new.view.below) (g.B.Below.heard c.carry_row.new.view.below) c.args.depth (c.args.depth - 1) c.args.turn.now.token c.step.new.turn.token c.carry_row.new.turn.token c.in-Rules.fostering c.in-Rules.mode c.row_in-used.result.acts (reached c.step.new.view c.step.new.turn) (reached c.carry_row.new.view c.carry_row.new.turn) deep x.whole c.row_in-used.ensures c.in_ok-carry_row-in-Rules.ensures.plan) c.if-branch.true)
+    (nested_comes (Ok c.in_ok-carry_row-in-Rules.field-0) (g.B.Below.heard c.step.new.view.below) (g.B.Below.heard c.carry_row.new.view.below) c.args.depth (c.args.depth - 1) c.args.turn.now.token c.step.new.turn.token c.carry_row.new.turn.token c.in-Rules.fostering c.in-Rules.mode c.row_in-used.result.acts.now (reached c.step.new.view c.step.new.turn) (reached c.carry_row.new.view c.carry_row.new.turn) deep x.whole c.row_in-used.ensures c.in_ok-carry_row-in-Rules.ensures.plan) c.if-branch.true)
 
 pub loop-act-preserved : goal.loop-act-preserved
 loop-act-preserved g t c =
     let follow = rules_plan c.args.depth c.args.turn.now.token in
     let present = present_plan (rules_plan c.args.depth c.args.turn.now.token) c.args.present in
-    let go = rest_behind follow present c.args.fostering c.args.turn.now.token c.args.row.acts c.loop-act.at in
-    let x = using_at follow present c.args.fostering c.args.turn.now.token c.args.row.acts (g.B.Below.heard c.args.view.now.below) (reached c.args.view.now c.args.turn.now) c.loop-act.at (g.B.Below.heard c.loop-act.view.below) (g.B.Below.heard c.step.new.view.below) (reached c.loop-act.view c.loop-act.turn) (reached c.step.new.view c.step.new.turn) c.loop-act.turn.token c.step.new.turn.token c.in-Some.act c.in_ok-next.field-0 c.in-Rules.mode c.in-Rules.fostering c.loop-act.invariant (sym c.act.ensures.value ∙ c.in-Some.is)
+    let go = rest_behind follow present c.args.fostering c.args.turn.now.token c.args.row.acts.now c.loop-act.at in
+    let x = using_at follow present c.args.fostering c.args.turn.now.token c.args.row.acts.now (g.B.Below.heard c.args.view.now.below) (reached c.args.view.now c.args.turn.now) c.loop-act.at (g.B.Below.heard c.loop-act.view.below) (g.B.Below.heard c.step.new.view.below) (reached c.loop-act.view c.loop-act.turn) (reached c.step.new.view c.step.new.turn) c.loop-act.turn.token c.step.new.turn.token c.in-Some.act c.in_ok-next.field-0 c.in-Rules.mode c.in-Rules.fostering c.loop-act.invariant (sym c.act.ensures.value ∙ c.in-Some.is)
     (record { plan = c.in_ok-next.ensures.plan follow go; later = c.in_ok-next.ensures.later; goes = c.in_ok-next.ensures.goes; stays = c.in_ok-next.ensures.stays }) c.in-Rules.is in
     let deep : c.args.depth ≡ suc (c.args.depth - 1) = omega arith in
-    used_to follow present c.args.fostering c.args.turn.now.token c.args.row.acts (g.B.Below.heard c.args.view.now.below) (reached c.args.view.now c.args.turn.now) c.loop-act.at (g.B.Below.heard c.loop-act.view.below) (g.B.Below.heard c.step.new.view.below) (g.B.Below.heard c.carry_row.new.view.below) (reached c.loop-act.view c.loop-act.turn) (reached c.step.new.view c.step.new.turn) (reached c.carry_row.new.view c.carry_row.new.turn) c.loop-act.turn.token c.step.new.turn.token c.carry_row.new.turn.token c.in-Some.act c.in-Rules.mode c.in-Rules.fostering x
+    used_to follow present c.args.fostering c.args.turn.now.token c.args.row.acts.now (g.B.Below.heard c.args.view.now.below) (reached c.args.view.now c.args.turn.now) c.loop-act.at (g.B.Below.heard c.loop-act.view.below) (g.B.Below.heard c.step.new.view.below) (g.B.Below.heard c.carry_row.new.view.below) (reached c.loop-act.view c.loop-act.turn) (reached c.step.new.view c.step.new.turn) (reached c.carry_row.new.view c.carry_row.new.turn) c.loop-act.turn.token c.step.new.turn.token c.carry_row.new.turn.token c.in-Some.act c.in-Rules.mode c.in-Rules.fostering x
     (came_left c.in_ok-carry_row-in-Rules.field-0 (g.B.Below.heard c.step.new.view.below) (g.B.Below.heard c.carry_row.new.view.below) (rules_plan c.args.depth c.args.turn.now.token c.in-Rules.fostering c.in-Rules.mode (reached c.step.new.view c.step.new.turn)) c.carry_row.new.turn.token (reached c.carry_row.new.view c.carry_row.new.turn)
-    (nested_comes (Ok c.in_ok-carry_row-in-Rules.field-0) (g.B.Below.heard c.step.new.view.below) (g.B.Below.heard c.carry_row.new.view.below) c.args.depth (c.args.depth - 1) c.args.turn.now.token c.step.new.turn.token c.carry_row.new.turn.token c.in-Rules.fostering c.in-Rules.mode c.row_in-used.result.acts (reached c.step.new.view c.step.new.turn) (reached c.carry_row.new.view c.carry_row.new.turn) deep x.whole c.row_in-used.ensures c.in_ok-carry_row-in-Rules.ensures.plan) c.if-branch.false)
+    (nested_comes (Ok c.in_ok-carry_row-in-Rules.field-0) (g.B.Below.heard c.step.new.view.below) (g.B.Below.heard c.carry_row.new.view.below) c.args.depth (c.args.depth - 1) c.args.turn.now.token c.step.new.turn.token c.carry_row.new.turn.token c.in-Rules.fostering c.in-Rules.mode c.row_in-used.result.acts.now (reached c.step.new.view c.step.new.turn) (reached c.carry_row.new.view c.carry_row.new.turn) deep x.whole c.row_in-used.ensures c.in_ok-carry_row-in-Rules.ensures.plan) c.if-branch.false)
     (c.in_ok-carry_row-in-Rules.ensures.left c.if-branch.false)
 
 pub returns : goal.returns
@@ -95,6 +95,6 @@ returns g t c =
     let follow = rules_plan c.args.depth c.args.turn.now.token in
     let present = present_plan (rules_plan c.args.depth c.args.turn.now.token) c.args.present in
     record {
-      plan = ends_past follow present c.args.fostering c.args.turn.now.token c.args.row.acts (g.B.Below.heard c.args.view.now.below) (reached c.args.view.now c.args.turn.now) c.loop-act.at (g.B.Below.heard c.loop-act.view.below) (reached c.loop-act.view c.loop-act.turn) c.loop-act.turn.token c.loop-act.invariant (sym c.act.ensures.value ∙ c.in_default.is);
-      left = λ e. so_left follow present c.args.fostering c.args.turn.now.token c.args.row.acts (g.B.Below.heard c.args.view.now.below) (reached c.args.view.now c.args.turn.now) c.loop-act.at (g.B.Below.heard c.loop-act.view.below) (reached c.loop-act.view c.loop-act.turn) c.loop-act.turn.token c.loop-act.invariant;
+      plan = ends_past follow present c.args.fostering c.args.turn.now.token c.args.row.acts.now (g.B.Below.heard c.args.view.now.below) (reached c.args.view.now c.args.turn.now) c.loop-act.at (g.B.Below.heard c.loop-act.view.below) (reached c.loop-act.view c.loop-act.turn) c.loop-act.turn.token c.loop-act.invariant (sym c.act.ensures.value ∙ c.in_default.is);
+      left = λ e. so_left follow present c.args.fostering c.args.turn.now.token c.args.row.acts.now (g.B.Below.heard c.args.view.now.below) (reached c.args.view.now c.args.turn.now) c.loop-act.at (g.B.Below.heard c.loop-act.view.below) (reached c.loop-act.view c.loop-act.turn) c.loop-act.turn.token c.loop-act.invariant;
     }

@@ -27,6 +27,6 @@ returns-in-Ok g c =
     record {
       later = omega arith;
       goes = way_on c.args.act c.args.at steers;
-      stays = (c.in-Ok.ensures.left, token_stays (gives_away c.args.act) (leaves_whole c.args.act (drop (c.args.at + 1) c.args.row.acts)) c.args.turn.now.token c.carry_out.new.token c.carry_out.ensures.stays (λ w a. c.carry_out.ensures.copies (c.spending_at-spending.ensures w a)));
+      stays = (c.in-Ok.ensures.left, token_stays (gives_away c.args.act) (leaves_whole c.args.act (drop (c.args.at + 1) c.args.row.acts.now)) c.args.turn.now.token c.carry_out.new.token c.carry_out.ensures.stays (λ w a. c.carry_out.ensures.copies (c.spending_at-spending.ensures w a)));
       plan = λ follow go. act_goes follow (present_plan follow c.args.present) c.args.fostering c.args.turn.now.token c.args.at go (sight g.B.Below.heard c.args.view.now) (sight g.B.Below.heard c.carry_out.new.view) c.args.turn.now.handled c.args.act c.requires.planned steers c.in-Ok.ensures.plan;
     }

@@ -13,10 +13,10 @@ pub returns-then-branch : goal.returns-then-branch
 returns-then-branch g c =
     let P : Bool → Type 0 = λ b. Finds (sight g.B.Below.heard c.args.view.now) (sight g.B.Below.heard c.goes_to_foreign.new.view) (goes_plan (kind_of c.args.turn.now.token)) b in
     turn_foreign c.carry_row.result (g.B.Below.heard c.args.view.now.below) (g.B.Below.heard c.goes_to_foreign.new.view.below) (g.B.Below.heard c.carry_row.new.view.below) c.args.turn.now.token c.carry_row.new.turn.token (split_of c.args.view.now) (split_of c.goes_to_foreign.new.view)
-    (reached c.args.view.now c.args.turn.now) (reached c.carry_row.new.view c.carry_row.new.turn) c.foreign_row-row.result.acts (sym c.is_early.ensures ∙ c.if-is_early.false) (subst P c.if-branch.true c.in_ok-goes_to_foreign.ensures) c.foreign_row-row.ensures c.carry_row.ensures.plan
+    (reached c.args.view.now c.args.turn.now) (reached c.carry_row.new.view c.carry_row.new.turn) c.foreign_row-row.result.acts.now (sym c.is_early.ensures ∙ c.if-is_early.false) (subst P c.if-branch.true c.in_ok-goes_to_foreign.ensures) c.foreign_row-row.ensures c.carry_row.ensures.plan
 
 pub returns-else-branch : goal.returns-else-branch
 returns-else-branch g c =
     let P : Bool → Type 0 = λ b. Finds (sight g.B.Below.heard c.args.view.now) (sight g.B.Below.heard c.goes_to_foreign.new.view) (goes_plan (kind_of c.args.turn.now.token)) b in
     turn_in_mode c.carry_row-else-branch.result (g.B.Below.heard c.args.view.now.below) (g.B.Below.heard c.goes_to_foreign.new.view.below) (g.B.Below.heard c.carry_row-else-branch.new.view.below) c.args.turn.now.token c.carry_row-else-branch.new.turn.token (split_of c.args.view.now) (split_of c.goes_to_foreign.new.view)
-    (reached c.args.view.now c.args.turn.now) (reached c.carry_row-else-branch.new.view c.carry_row-else-branch.new.turn) c.row_in-row.result.acts (sym c.is_early.ensures ∙ c.if-is_early.false) (subst P c.if-branch.false c.in_ok-goes_to_foreign.ensures) c.row_in-row.ensures c.carry_row-else-branch.ensures.plan
+    (reached c.args.view.now c.args.turn.now) (reached c.carry_row-else-branch.new.view c.carry_row-else-branch.new.turn) c.row_in-row.result.acts.now (sym c.is_early.ensures ∙ c.if-is_early.false) (subst P c.if-branch.false c.in_ok-goes_to_foreign.ensures) c.row_in-row.ensures c.carry_row-else-branch.ensures.plan

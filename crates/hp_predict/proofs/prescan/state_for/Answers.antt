@@ -9,7 +9,7 @@ pub at-requires : goal.at-requires
 at-requires c =
     let inner = with_ends c.args.names.now c.args.ends.now in
     let of = c.in_ok-pile.ensures.of in
-    (omega arith, omega (arith, ap length of.stack, elements_length (inner ++ page), page_length inner))
+    omega (arith, ap length of.stack, elements_length (inner ++ page), page_length inner)
 
 pub invariant_of-result : goal.invariant_of-result
 invariant_of-result c =

@@ -1,5 +1,6 @@
 use Rattle.std.proofs.Common.{rules, true}
 use Rattle.hp_fragment.proofs.Tried.{none-behind, steps-behind, tried-made, tried-not}
+use Rattle.hp_fragment.proofs.Within.{within-on}
 use Rattle.hp_fragment.proofs.parsing.Parsing.go_on.Goals as goal
 
 pub returns-then-text-clause-steps : goal.returns-then-text-clause-steps
@@ -18,7 +19,10 @@ pub returns-then-tag-clause-reads : goal.returns-then-tag-clause-reads
 returns-then-tag-clause-reads c = λ page r. c.in_ok-tag.ensures.reads page (c.in_ok-text.ensures.reads page r)
 
 pub step_by_table-requires : goal.step_by_table-requires
-step_by_table-requires c = record { ready = (tried-not c.take_plain.new.self c.take_tag.new.self c.in_ok-tag.tag (search rules) c.in_ok-tag.ensures.tried).ready }
+step_by_table-requires c = record {
+  ready = (tried-not c.take_plain.new.self c.take_tag.new.self c.in_ok-tag.tag (search rules) c.in_ok-tag.ensures.tried).ready;
+  within = within-on c.args.self.now c.take_tag.new.self c.requires.within (λ page r. c.in_ok-tag.ensures.reads page (c.in_ok-text.ensures.reads page r));
+}
 
 pub returns-clause-steps : goal.returns-clause-steps
 returns-clause-steps c =

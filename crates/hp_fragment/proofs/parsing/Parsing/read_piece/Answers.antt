@@ -1,6 +1,10 @@
 use Rattle.std.proofs.Common.{rules}
 use Rattle.hp_fragment.proofs.Steps.{reads-more}
+use Rattle.hp_fragment.proofs.Within.{within-on}
 use Rattle.hp_fragment.proofs.parsing.Parsing.read_piece.Goals as goal
+
+pub step-requires-clause-within : goal.step-requires-clause-within
+step-requires-clause-within c = within-on c.args.self.now c.steps.self c.requires.within c.steps.invariant.2
 
 pub returns-then-not-branch-clause-reads : goal.returns-then-not-branch-clause-reads
 returns-then-not-branch-clause-reads c = λ page r.

@@ -1,8 +1,12 @@
 use Rattle.std.proofs.Common.{rules}
 use Rattle.hp_fragment.proofs.Steps.{reads-all}
+use Rattle.hp_fragment.proofs.Within.{within-on}
 use Rattle.hp_fragment.proofs.parsing.Parsing.run.Goals as goal
 
-pub returns-then-not-branch-clause-reads : goal.returns-then-not-branch-clause-reads
-returns-then-not-branch-clause-reads c = λ page r.
-    reads-all page c.take_piece.new.self c.in_ok-take_piece.field-0 (search rules)
-    (c.in_ok-take_piece.ensures.reads page (c.in_ok-read_piece.ensures.reads page (c.pieces.invariant.1 page r)))
+pub read_piece-requires-clause-within : goal.read_piece-requires-clause-within
+read_piece-requires-clause-within c = within-on c.args.self.now c.pieces.self c.requires.within c.pieces.invariant.1
+
+pub returns-then-not-take_piece-clause-reads : goal.returns-then-not-take_piece-clause-reads
+returns-then-not-take_piece-clause-reads c = λ page r.
+    reads-all page c.take_piece.new.self c.take_piece.result (search rules)
+    (c.take_piece.ensures.reads page (c.in_ok-read_piece.ensures.reads page (c.pieces.invariant.1 page r)))

@@ -1,10 +1,13 @@
 use Rattle.std.proofs.Common.{rules, ℕ, List, IfOk, subst, sym}
-use Rattle.hp_fragment.specs.Reading.{IsReady, Reads, ReadsOn, StepsOn}
+use Rattle.hp_fragment.specs.Reading.{IsReady, IsWithin, Reads, ReadsOn, StepsOn}
 use Rattle.hp_fragment.specs.declared.parsing.Parsing.{Parsing}
 use Rattle.hp_fragment.proofs.parsing.Parsing.step.Goals as goal
 
 pub go_on-requires : goal.go_on-requires
-go_on-requires c = record { ready = subst IsReady (sym (c.pass_cut.ensures.left (search rules))) c.requires.ready }
+go_on-requires c = record {
+  ready = subst IsReady (sym (c.pass_cut.ensures.left (search rules))) c.requires.ready;
+  within = subst IsWithin (sym (c.pass_cut.ensures.left (search rules))) c.requires.within;
+}
 
 pub returns-then-pass_cut-clause-reads : goal.returns-then-pass_cut-clause-reads
 returns-then-pass_cut-clause-reads c = c.pass_cut.ensures.reads (search rules)

@@ -3,6 +3,7 @@ use Rattle.hp_lexer.specs.declared.lexer.Step.TheVariants as steps
 use Rattle.hp_steps.proofs.Stepping.{stepped-read}
 use Rattle.hp_fragment.proofs.Going.{steps-took}
 use Rattle.hp_fragment.proofs.Steps.{step-cdata, step-cut, step-tokens, told-step}
+use Rattle.hp_fragment.proofs.Within.{not-asked}
 use Rattle.hp_fragment.proofs.parsing.Parsing.step_by_table.Goals as goal
 
 pub handle-requires-clause-read : goal.handle-requires-clause-read
@@ -34,3 +35,8 @@ returns-in_ok-handle-in-Tokens-clause-steps c =
     steps-took c.steps_fall.ensures.steps c.steps_fall.ensures.switches c.args.self.now (record c.args.self.now { lexer = c.next.new.self; input = c.next.new.input }) c.handle.new.self _ c.in-Tokens.tokens
     (told-step c.args.self.now.lexer c.args.self.now.input c.next.new.self c.next.new.input c.in_ok-tokens.field-0 (steps.Tokens _ c.in-Tokens.tokens) c.in-Tokens.is c.in_ok-tokens.ensures.step)
     c.in_ok-tokens.ensures.held refl c.in_ok-handle-in-Tokens.ensures
+
+pub unreachable-requires : goal.unreachable-requires
+unreachable-requires c =
+    not-asked c.never_asked.ensures c.args.self.now (record c.args.self.now { lexer = c.next.new.self; input = c.next.new.input }) c.requires.within
+    (told-step c.args.self.now.lexer c.args.self.now.input c.next.new.self c.next.new.input c.in_ok-tokens.field-0 steps.AskLastTag c.in-AskLastTag.is c.in_ok-tokens.ensures.step)
