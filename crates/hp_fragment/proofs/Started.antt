@@ -15,7 +15,7 @@ use Rattle.hp_fragment.specs.Reading.{Reads}
 use Rattle.hp_fragment.specs.declared.parsing.Parsing.{Parsing}
 
 pub started : (page : List ℕ) (p : Parsing) → p.lexer ≡ record { lex = lex_start; names = built_in; asked = asked.Nothing; rested = 2 ^ 32 } → p.input.text ≡ [] → chars p.later.now ≡ page
-    → control_of p.builder ≡ start → grown p.builder ≡ document → Reads built_in page p
+    → control_of p.builder ≡ start → grown p.builder ≡ document → Reads page p
 started page p lexer text later control tree = record {
   edits = [];
   read =

@@ -46,7 +46,7 @@ impl<'p> Parsing<'p> {
     /// The start of the page: the document alone, and the lexer in the data state.
     pub fn of_page(alloc: Global, page: Page<'p>) -> Result<Parsing<'p>, NoMemory>
         ensures ready { IfOk result IsReady }
-        ensures reads { IfOk result (Reads built_in (chars (text_of page.entry))) }
+        ensures reads { IfOk result (Reads (chars (text_of page.entry))) }
     {
         let builder = Builder::of_page(alloc, Control::start())?;
         Ok(Parsing {

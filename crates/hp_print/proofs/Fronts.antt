@@ -1,5 +1,5 @@
 -- Names whose first letters are ASCII and differ.
-use Rattle.std.proofs.Common.{◌≡◌, ◌≢◌, ℕ, ◌<◌, ◌==◌, List, [], ◌∷◌, ◌++◌, Bool, true, false, length, get_or, refl, sym, ap, ◌∙◌, inl, inr, ◌⊎◌, arith, IsUtf8, Ordering, Less, Equal, Greater}
+use Rattle.std.proofs.Common.{◌≡◌, ◌≢◌, ℕ, ◌<◌, ◌==◌, List, [], ◌∷◌, ◌++◌, false, length, get_or, refl, sym, ap, ◌∙◌, inl, inr, ◌⊎◌, arith, IsUtf8, Ordering, Less, Greater}
 use Rattle.std.specs.Str.{chars}
 use Rattle.std.specs.Char.Escape.{encode_utf16}
 use Rattle.std.specs.Ordering.{nat_cmp, ordering_then}
@@ -7,7 +7,6 @@ use Rattle.std.specs.Cmp.{nat_cmp_is}
 use Rattle.std.specs.Cmp.Lexicographic.{slice_cmp}
 use Rattle.std.proofs.lemmas.Bool.{cases_lt, true≢false}
 use Rattle.std.proofs.lemmas.Str.{chars_past_char, encode_ascii}
-use Rattle.std.proofs.Math.Utf8.{encode}
 use Rattle.hp_print.specs.Order.{by_units, units}
 use Rattle.hp_print.proofs.Units.{small}
 

@@ -1,5 +1,5 @@
 -- The line of an attribute: how long it is, and how it is written piece by piece.
-use Rattle.std.proofs.Common.{◌≡◌, ℕ, ◌+◌, ◌*◌, List, ◌++◌, length, length-append, append_assoc, sym, ap, ◌∙◌, arith, replicate, IsUtf8}
+use Rattle.std.proofs.Common.{◌≡◌, ℕ, ◌+◌, ◌*◌, List, ◌++◌, length, length-append, append_assoc, sym, ap, ◌∙◌, arith, IsUtf8}
 use Rattle.std.specs.Prelude.{codes, encode_utf8_all}
 use Rattle.std.specs.Str.{chars}
 use Rattle.std.proofs.lemmas.List.{length-replicate}

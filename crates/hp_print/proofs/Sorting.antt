@@ -1,6 +1,6 @@
 -- Attributes that are put into order.
-use Rattle.std.proofs.Common.{◌≡◌, ℕ, suc, ◌+◌, ◌<◌, ◌≤◌, true, false, List, [], ◌∷◌, ◌++◌, drop, length, get_or, refl, ap, sym, ◌∙◌, append_assoc, append-nil, add-one, length-append, arith}
-use Rattle.std.specs.List.{fold, flat_map, list_all}
+use Rattle.std.proofs.Common.{◌≡◌, ℕ, suc, ◌+◌, ◌<◌, true, List, [], ◌∷◌, ◌++◌, drop, length, get_or, refl, ap, sym, ◌∙◌, append_assoc, add-one, arith}
+use Rattle.std.specs.List.{list_all}
 use Rattle.std.specs.Str.{chars, IsAscii}
 use Rattle.std.specs.Prelude.{nat_lt}
 use Rattle.std.proofs.lemmas.Bool.{and_parts}
@@ -14,8 +14,7 @@ use Rattle.hp_elements.specs.declared.tag.AttributeSpace.{AttributeSpace}
 use Rattle.hp_elements.specs.declared.tag.AttributeSpace.TheVariants.{Plain, Xlink, Xml, Xmlns}
 use Rattle.hp_print.specs.declared.attributes.Shown.{Shown}
 use Rattle.hp_print.specs.declared.output.Out.{Out}
-use Rattle.hp_print.specs.declared.output.Out.TheVariants.{Counting, Writing}
-use Rattle.hp_print.specs.Order.{comes_before, in_order, placed, space_word}
+use Rattle.hp_print.specs.Order.{comes_before, in_order, space_word}
 use Rattle.hp_print.specs.Out.{Prints, is_counting}
 use Rattle.hp_print.specs.Print.{attribute_line, attribute_lines}
 use Rattle.hp_print.specs.Shown.{attribute_of, attributes_of}

@@ -1,5 +1,5 @@
 -- Weights order code points as their UTF-16 code units do.
-use Rattle.std.proofs.Common.{◌≡◌, ℕ, ◌+◌, ◌-◌, ◌*◌, ◌/◌, ◌%◌, ◌<◌, ◌≤◌, List, [], ◌∷◌, ◌++◌, Bool, true, false, map, arith, refl, sym, ap, ◌∙◌, inl, inr, Ordering, Less, Equal, Greater}
+use Rattle.std.proofs.Common.{◌≡◌, ℕ, ◌+◌, ◌-◌, ◌/◌, ◌%◌, ◌<◌, ◌≤◌, List, [], ◌∷◌, ◌++◌, true, false, map, arith, refl, sym, ap, ◌∙◌, inl, inr, Ordering, Less, Equal, Greater}
 use Rattle.std.specs.Prelude.{nat_lt, nat_le}
 use Rattle.std.specs.Char.Escape.{encode_utf16}
 use Rattle.std.specs.Ordering.{nat_cmp, ordering_then}

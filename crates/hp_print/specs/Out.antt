@@ -12,7 +12,7 @@ abbrev pub is_counting : Out → Bool
 is_counting (Counting count) = true
 is_counting (Writing written) = false
 
--- these bytes were printed after the others
+-- these bytes were printed after the others; what is counted goes on being counted
 pub record Prints (old new : Out) (piece : List ℕ) : Type 0 where
   pub after : (bytes : List ℕ) → Has old bytes → Has new (bytes ++ piece)
-  pub kind : is_counting new ≡ is_counting old
+  pub kind : is_counting old ≡ true → is_counting new ≡ true

@@ -115,13 +115,18 @@ fn print_attribute(out: &mut Out, attribute: Shown<'_>, depth: u64) -> Result<()
     if depth >= 64 {
         return print_deep(out, attribute, depth);
     }
+    let size = line_size(attribute, depth).ok_or(NoMemory)?;
     match out {
         Out::Counting(count) => {
-            let size = line_size(attribute, depth).ok_or(NoMemory)?;
             *count = count.checked_add(size).ok_or(NoMemory)?;
             Ok(())
         }
-        Out::Writing(bytes) => write_attribute(bytes, attribute, depth),
+        Out::Writing(bytes) => {
+            if ((bytes.capacity() - bytes.len()) as u64) < size {
+                return out.count_on(size);
+            }
+            write_attribute(bytes, attribute, depth)
+        }
     }
 }
 

@@ -1,6 +1,6 @@
-//! Where the printed text goes: it is counted, and then written into memory that was taken once.
+//! Where the printed text goes: it is written into memory that was taken once. Where that is too small, it is counted from there on.
 
-ghost use Rattle.std.specs.Prelude.{◌≡◌, ◌<◌, ◌++◌, OnOk, replicate, encode_utf8_all};
+ghost use Rattle.std.specs.Prelude.{◌≡◌, ◌<◌, ◌++◌, ℕ, List, [], OnOk, length, replicate, encode_utf8_all};
 ghost use Rattle.std.specs.Str.{chars};
 ghost use Rattle.hp_print.specs.Out.{Prints, is_counting};
 ghost use Rattle.hp_print.specs.Print.{indentation};
@@ -39,10 +39,45 @@ impl Out {
                 Ok(())
             }
             Out::Writing(bytes) => {
+                if bytes.capacity() - bytes.len() < piece.len() {
+                    return self.count_on(piece.len() as u64);
+                }
                 bytes.extend_from_slice(piece)?;
                 Ok(())
             }
         }
+    }
+
+    /// Counts so many bytes, and all that come. What was written is dropped.
+    #[tactic(auto, using(crate::proofs::Pieces::counts_on, crate::proofs::Pieces::counts))]
+    #[inline(never)]
+    pub fn count_on(&mut self, more: u64) -> Result<(), NoMemory>
+        ensures { OnOk result ((piece : List ℕ) → length piece ≡ more → Prints self.old self.new piece) }
+    {
+        match self {
+            Out::Counting(count) => {
+                *count = count.checked_add(more).ok_or(NoMemory)?;
+                Ok(())
+            }
+            Out::Writing(bytes) => {
+                let count = (bytes.len() as u64).checked_add(more).ok_or(NoMemory)?;
+                *self = Out::Counting(count);
+                Ok(())
+            }
+        }
+    }
+
+    /// Only counts from here on where that is asked for.
+    #[tactic(auto, using(crate::proofs::Pieces::prints_none))]
+    #[inline]
+    pub fn count_where(&mut self, asked: bool) -> Result<(), NoMemory>
+        ensures { OnOk result (Prints self.old self.new []) }
+    {
+        if !asked {
+            return Ok(());
+        }
+        self.count_on(0)?;
+        Ok(())
     }
 
     /// Prints a text, in UTF-8.
@@ -63,7 +98,12 @@ impl Out {
                 *count = count.checked_add(blanks).ok_or(NoMemory)?;
                 Ok(())
             }
-            Out::Writing(bytes) => push_blanks(bytes, blanks),
+            Out::Writing(bytes) => {
+                if ((bytes.capacity() - bytes.len()) as u64) < blanks {
+                    return self.count_on(blanks);
+                }
+                push_blanks(bytes, blanks)
+            }
         }
     }
 

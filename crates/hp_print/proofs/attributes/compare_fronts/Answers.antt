@@ -1,4 +1,4 @@
-use Rattle.std.proofs.Common.{◌≡◌, ℕ, List, sym, ap, ◌∙◌}
+use Rattle.std.proofs.Common.{ℕ, List, sym, ap, ◌∙◌}
 use Rattle.std.specs.Str.{chars}
 use Rattle.hp_print.specs.Order.{by_units}
 use Rattle.hp_print.proofs.Fronts.{fronts_tell}

@@ -1,4 +1,4 @@
-use Rattle.std.proofs.Common.{◌≡◌, ◌++◌, ◌∷◌, true, sym, ap, ◌∙◌}
+use Rattle.std.proofs.Common.{◌≡◌, ◌++◌, ◌∷◌, sym, ap, ◌∙◌}
 use Rattle.hp_print.specs.Order.{comes_before}
 use Rattle.hp_print.specs.Shown.{attribute_of}
 use Rattle.hp_print.proofs.Ordered.{ordered, ordered_next, ordered_last, in_order_already, last}

@@ -1,4 +1,4 @@
-use Rattle.std.proofs.Common.{◌≡◌, ap, arith, length}
+use Rattle.std.proofs.Common.{ap, arith, length}
 use Rattle.hp_print.specs.Shown.{attribute_of}
 use Rattle.hp_print.proofs.Sizes.{spelled, line_length}
 use Rattle.hp_print.proofs.attributes.line_size.Goals as goal

@@ -1,6 +1,5 @@
 use Rattle.std.proofs.Common.{[], ◌++◌, refl, sym, ap, ◌∙◌, append-nil, append_assoc}
 use Rattle.hp_print.specs.Print.{attribute_line, attribute_lines}
-use Rattle.hp_print.specs.Shown.{attribute_of}
 use Rattle.hp_print.proofs.Pieces.{prints_then, prints_none, prints_as}
 use Rattle.hp_print.proofs.attributes.print_unsorted.Goals as goal
 

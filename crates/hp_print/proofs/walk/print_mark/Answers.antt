@@ -16,8 +16,8 @@ overflow_add-templates c =
     let more : extra t (item.Element c.in-Element.id) ≡ c.extra_depth.result = ap tag_extra has ∙ sym c.extra_depth.ensures in
     omega (arith, extra_at_most t (item.Element c.in-Element.id), c.requires.templates, c.len-elements.ensures.count)
 
-pub overflow_add-mark-in-Element : goal.overflow_add-mark-in-Element
-overflow_add-mark-in-Element c =
+pub overflow_add-mark : goal.overflow_add-mark
+overflow_add-mark c =
     let t = c.args.tree.now.branches in
     let room : c.args.mark.level < length t = deep-room t c.len-elements.ensures.forest c.args.mark.level (parent_of c.args.mark.at) c.requires.deep in
     omega (arith, c.len-elements.ensures.count)
@@ -52,7 +52,7 @@ returns-in_ok-push_first-in-Element c =
     let tag : (branch b id).tag ≡ Some c.in-Element.tag.now = rw c.in-Element.is at c.view-view.ensures.tag in
     let more : extra b x ≡ c.extra_depth.result = ap tag_extra tag ∙ sym c.extra_depth.ensures in
     let deeper : c.args.mark.templates + c.extra_depth.result ≡ c.args.mark.templates + extra b x = omega arith in
-    let printed = rw c.in-Element.is at (c.in_ok-print_item.ensures b c.view-view.ensures.tag) in
+    let printed = rw c.in-Element.is at (c.in_ok-print_at.ensures b c.view-view.ensures.tag) in
     stepped_element t c.args.mark x (c.args.mark.templates + c.extra_depth.result) _ _ _ _ _ c.len-elements.ensures.forest c.requires has deeper
     c.in_ok-push_next.ensures printed c.in_ok-push_first-in-Element.ensures
 
@@ -63,7 +63,7 @@ returns-in_default c =
     let mark = c.args.mark in
     let there = in-shown t (parent_of mark.at) (place_of mark.at) mark.at view c.requires.at c.view-view.ensures.view in
     let x = item_shown view there.1 in
-    let printed = subst (λ o. Prints c.args.out.now c.print_item.new.out (lines_of t.branches (mark.level + mark.templates) o)) x.1 (c.in_ok-print_item.ensures t.branches c.view-view.ensures.tag) in
+    let printed = subst (λ o. Prints c.args.out.now c.print_at.new.out (lines_of t.branches (mark.level + mark.templates) o)) x.1 (c.in_ok-print_at.ensures t.branches c.view-view.ensures.tag) in
     stepped_leaf t mark x.0 _ _ _ _ c.len-elements.ensures.forest c.requires (there.0 ∙ x.1) (leaf_inside t.branches view x.0 x.1 c.in_default.not-Element)
     c.in_ok-push_next.ensures printed
 
