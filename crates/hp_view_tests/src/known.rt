@@ -13,6 +13,13 @@ fn does(rt: &impl Abort, alloc: Global, view: &mut Whole, known: Known, act: Act
     carried(rt, alloc, view, tag(known), act, false);
 }
 
+/// The acts, one after the other, each for the start tag of its name.
+fn do_all(rt: &impl Abort, alloc: Global, view: &mut Whole, acts: &[(Known, Act)]) {
+    for step in acts {
+        does(rt, alloc, view, step.0, step.1);
+    }
+}
+
 /// An act for a comment.
 fn notes(rt: &impl Abort, alloc: Global, view: &mut Whole, act: Act) {
     carried(
@@ -28,61 +35,34 @@ fn notes(rt: &impl Abort, alloc: Global, view: &mut Whole, act: Act) {
 /// A view of a page whose head and body have been opened.
 fn in_body(rt: &impl Abort, alloc: Global) -> Whole {
     let mut view = View::whole(Control::start());
-    does(rt, alloc, &mut view, Known::Html, Act::InsertHtml);
-    does(rt, alloc, &mut view, Known::Head, Act::Insert);
-    does(rt, alloc, &mut view, Known::Head, Act::HeadPointer);
-    does(rt, alloc, &mut view, Known::Head, Act::Pop);
-    does(rt, alloc, &mut view, Known::Body, Act::Insert);
+    let acts = [
+        (Known::Html, Act::InsertHtml),
+        (Known::Head, Act::Insert),
+        (Known::Head, Act::HeadPointer),
+        (Known::Head, Act::Pop),
+        (Known::Body, Act::Insert),
+    ];
+    do_all(rt, alloc, &mut view, &acts);
     view
 }
 
 #[test]
 fn the_page_is_changed(rt: HostRuntime) {
     let mut view = in_body(&rt, rt.alloc());
-    does(
-        &rt,
-        rt.alloc(),
-        &mut view,
-        Known::Body,
-        that(Test::SecondIsBody),
-    );
-    does(
-        &rt,
-        rt.alloc(),
-        &mut view,
-        Known::Body,
-        Act::AddMissingToBody,
-    );
-    does(
-        &rt,
-        rt.alloc(),
-        &mut view,
-        Known::Html,
-        Act::AddMissingToFirst,
-    );
-    does(&rt, rt.alloc(), &mut view, Known::Html, not(Test::IsQuirks));
-    does(&rt, rt.alloc(), &mut view, Known::Html, Act::Quirks);
-    does(
-        &rt,
-        rt.alloc(),
-        &mut view,
-        Known::Html,
-        that(Test::IsQuirks),
-    );
+    let acts = [
+        (Known::Body, that(Test::SecondIsBody)),
+        (Known::Body, Act::AddMissingToBody),
+        (Known::Html, Act::AddMissingToFirst),
+        (Known::Html, not(Test::IsQuirks)),
+        (Known::Html, Act::Quirks),
+        (Known::Html, that(Test::IsQuirks)),
+        (Known::Frameset, Act::DetachBody),
+        (Known::Frameset, Act::PopToFirst),
+        (Known::Title, Act::PushHead),
+    ];
+    do_all(&rt, rt.alloc(), &mut view, &acts);
     assert_eq!(rt; view.change.stack.len(), 2);
-    assert_eq!(rt; view.edits.len(), 8);
-}
-
-#[test]
-fn the_head_comes_back(rt: HostRuntime) {
-    let mut view = in_body(&rt, rt.alloc());
-    does(&rt, rt.alloc(), &mut view, Known::Frameset, Act::DetachBody);
-    does(&rt, rt.alloc(), &mut view, Known::Frameset, Act::PopToFirst);
-    assert_eq!(rt; view.change.stack.len(), 1);
-    does(&rt, rt.alloc(), &mut view, Known::Title, Act::PushHead);
-    assert_eq!(rt; view.change.stack.len(), 2);
-    does(&rt, rt.alloc(), &mut view, Known::Title, Act::TakeHeadOff);
-    assert_eq!(rt; view.change.stack.len(), 1);
+    assert_eq!(rt; view.edits.len(), 9);
 }
 
 #[test]
@@ -97,36 +77,18 @@ fn comments_are_put(rt: HostRuntime) {
 #[test]
 fn a_bold_paragraph_is_adopted(rt: HostRuntime) {
     let mut view = in_body(&rt, rt.alloc());
-    does(&rt, rt.alloc(), &mut view, Known::B, Act::Insert);
-    does(&rt, rt.alloc(), &mut view, Known::B, Act::AppendToList);
-    does(&rt, rt.alloc(), &mut view, Known::P, Act::Insert);
-    does(&rt, rt.alloc(), &mut view, Known::B, Act::Adopt(Which::Its));
+    let acts = [
+        (Known::B, Act::Insert),
+        (Known::B, Act::AppendToList),
+        (Known::P, Act::Insert),
+        (Known::B, Act::Adopt(Which::Its)),
+        (Known::I, Act::Insert),
+        (Known::I, Act::AppendToList),
+        (Known::I, Act::Pop),
+        (Known::I, Act::Reconstruct),
+        (Known::I, Act::TakeOff(Which::Its)),
+    ];
+    do_all(&rt, rt.alloc(), &mut view, &acts);
     assert_eq!(rt; view.change.stack.len(), 3);
     assert_eq!(rt; view.change.formatting.len(), 0);
-}
-
-#[test]
-fn elements_are_taken_off(rt: HostRuntime) {
-    let mut view = in_body(&rt, rt.alloc());
-    does(&rt, rt.alloc(), &mut view, Known::I, Act::Insert);
-    does(&rt, rt.alloc(), &mut view, Known::I, Act::AppendToList);
-    does(&rt, rt.alloc(), &mut view, Known::I, Act::Pop);
-    does(&rt, rt.alloc(), &mut view, Known::I, Act::Reconstruct);
-    assert_eq!(rt; view.change.stack.len(), 3);
-    does(
-        &rt,
-        rt.alloc(),
-        &mut view,
-        Known::I,
-        Act::TakeOff(Which::Its),
-    );
-    assert_eq!(rt; view.change.stack.len(), 2);
-    does(
-        &rt,
-        rt.alloc(),
-        &mut view,
-        Known::I,
-        Act::PopTo(SetName::Special),
-    );
-    assert_eq!(rt; view.change.stack.len(), 2);
 }
