@@ -20,7 +20,7 @@ use crate::plain::{is_plain, put_plain};
 use crate::questions::holds;
 use crate::rows::{Row, foreign_row, row_in};
 use crate::token_parts::{Spending, after_line_feed, rename};
-use hp_control::{Below, Change, Crossing, Refusal};
+use hp_control::{Below, Crossing, Refusal};
 use hp_elements::{Act, Mode, Rest, Test, Token};
 use hp_foreign::goes_to_foreign;
 use hp_views::{PageFacts, View};
@@ -336,10 +336,10 @@ pub fn handle<'p, B: Below>(
 }
 
 /// From now on no line feed is dropped.
-fn skip_no_more(change: &mut Change)
-    ensures { change.new ≡ record change.old { skip_lf = false } }
+fn skip_no_more(skip_lf: &mut bool)
+    ensures { skip_lf.new ≡ false }
 {
-    change.skip_lf = false;
+    *skip_lf = false;
 }
 
 /// The same where a line feed is to be dropped.
@@ -351,7 +351,7 @@ fn handle_skipping<'p, B: Below>(
 ) -> Result<Handled, Refusal>
     ensures plan { Handles result (sight B.heard view.old) (sight B.heard view.new) (λ v. handle_rest (without_line_feed token.entry) (unskipped v)) }
 {
-    skip_no_more(&mut view.change);
+    skip_no_more(&mut view.change.skip_lf);
     match after_line_feed(alloc, token)? {
         Some(token) => take_turns(alloc, view, token),
         None => Ok(NOTHING),
