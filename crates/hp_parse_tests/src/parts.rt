@@ -23,6 +23,7 @@ fn made(edits: &Edits<'_>) -> u64 {
 fn parts<'p>(rt: &impl Abort, page: Page<'p>, cut: usize) -> (Chunk<'p>, Chunk<'p>) {
     let text = page.as_str();
     assert!(rt; cut <= text.len());
+    assert!(rt; text.is_char_boundary(0));
     assert!(rt; text.is_char_boundary(cut));
     let first = Chunk {
         page,

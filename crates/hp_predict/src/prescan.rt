@@ -96,11 +96,7 @@ fn lex_for(alloc: Global, after_cr: bool, name: &Name) -> Result<LexState, NoMem
 }
 
 /// The mode, and the one that it goes back to, where the current node has that name.
-fn modes_for(
-    templates: &Stack<Mode>,
-    stack: &OpenElements,
-    name: &Name,
-) -> (Mode, Option<Mode>)
+fn modes_for(templates: &Stack<Mode>, stack: &OpenElements, name: &Name) -> (Mode, Option<Mode>)
     ensures mode { result.0 ≡ (if spec_is_text name.now then modes.Text else reset_mode true templates.now stack.now) }
     ensures original { result.1 ≡ (if spec_is_text name.now then Some (reset_mode true templates.now (drop 1 stack.now)) else None) }
 {

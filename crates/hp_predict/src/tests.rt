@@ -1,7 +1,9 @@
 //! Guesses as an independent model makes them, and what each predictor says.
 
 use crate::{Contrary, Prescan, Quiet};
-use hp_control::{Answer, Control, FactKind, FormattingEntry, OpenElements, Predictor, Question, Stack, truth};
+use hp_control::{
+    Answer, Control, FactKind, FormattingEntry, OpenElements, Predictor, Question, Stack, truth,
+};
 use hp_elements::{Chain, Kinds, Known, Mode, Name, Namespace, Rest, SetName, Tag};
 use hp_text::{Chunk, Page, check_page};
 use std::alloc::Global;

@@ -78,7 +78,6 @@ module _ (names : List Reference) (from : Parser) where
           let more : move (table names) (more_unread l later) ≡ makes (more_unread k later) xs = subst P made (move-stays (table names) (table_steady names) l later) in
           subst (λ (x : Move). SameMove x (move (table names) h.at)) more (move-same names (more_unread l later) h.at h.alike)
 
-
   abbrev Gone : List ℕ → ControlState → List Edit → List Token → Lexing → Type 0
   Gone later c es ts k = HasGone names from (turned_by handle c ts k) later (left_after handle c ts) (es ++ made_after handle c ts)
 

@@ -5,7 +5,10 @@ ghost use Rattle.hp_views.specs.Begins.{begun_by, Begins, ended};
 ghost use Rattle.hp_views.specs.View.{split_of};
 
 use crate::view::View;
-use hp_control::{Answer, Assumptions, Below, Change, Edits, FormChange, Guess, OpenElements, Predictor, Question, Stack};
+use hp_control::{
+    Answer, Assumptions, Below, Change, Edits, FormChange, Guess, OpenElements, Predictor,
+    Question, Stack,
+};
 use hp_elements::{Mode, NoMemory, Rest, Text};
 use hp_tokens::LexState;
 use std::alloc::Global;

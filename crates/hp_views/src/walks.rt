@@ -56,12 +56,7 @@ ghost use Rattle.hp_elements.specs.declared.sets.SetName.TheVariants as sets;
 ghost use Rattle.hp_views.specs.Walks.{walk_to};
 
 /// Walks down from a depth to the first element that is a goal or a stop; where it is found doesn't count from there.
-pub fn element_walk_from(
-    stack: &OpenElements,
-    from: usize,
-    goals: &Kinds,
-    stops: &Kinds,
-) -> Walk
+pub fn element_walk_from(stack: &OpenElements, from: usize, goals: &Kinds, stops: &Kinds) -> Walk
     ensures { EndsAs (walk_of goals.now stops.now (drop from stack.now)) result }
 {
     for depth in from..stack.len() {
