@@ -158,7 +158,7 @@ ARGUMENTS = {
     'InScope': ('Scope', 'Which'), 'OneInScope': ('Scope', 'SetName'), 'CurrentIs': ('Known',), 'BelowIs': ('Known',),
     'CurrentIsIn': ('SetName',), 'Listed': ('Known',), 'AgainAs': ('Known',), 'As': ('Mode',), 'AsFostered': ('Mode',),
     'InsertBare': ('Known',), 'PopTo': ('SetName',), 'Through': ('Which',), 'ThroughFirstOf': ('SetName',),
-    'ImpliedExcept': ('Which',), 'Adopt': ('Which',), 'TakeOff': ('Which',), 'Lexer': ('Rest',), 'Switch': ('Mode',),
+    'ImpliedExcept': ('Which',), 'Adopt': ('Which',), 'Lexer': ('Rest',), 'Switch': ('Mode',),
     'PushTemplateMode': ('Mode',), 'ReplaceTemplateMode': ('Mode',), 'Named': ('Known',),
 }
 

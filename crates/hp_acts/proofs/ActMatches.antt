@@ -45,7 +45,7 @@ by_its_plan fit None f h m = absurd (true≢false (sym h))
 
 -- each act of a row has a plan
 pub planned : (fostering : Bool) (t : Token) (a : Act) → is_row_act a ≡ true → is_some (act_plan fostering t a) ≡ true
-planned fostering t (act.TakeOff which) h = absurd (true≢false (sym h))
+planned fostering t act.Done h = refl
 planned fostering t _ h = refl
 
 -- what an act does, its edits in their effect

@@ -1,16 +1,9 @@
 -- What holds of each act of a row holds of the act at a place.
 use Rattle.std.proofs.Common.{◌≡◌, ◌<◌, ◌≤◌, ℕ, zero, suc, ◌+◌, true, List, [], ◌∷◌, length, Option, None, Some, slice_get, IfSome, subst, sym, arith, add-zero, zero-add, lt_of_lt_of_le}
-use Rattle.std.specs.List.{list_all}
 use Rattle.std.proofs.lemmas.Bool.{and_parts}
 use Rattle.std.proofs.lemmas.Option.{IfSome_then}
 use Rattle.hp_elements.specs.Rules.{go_later, goes_later}
 use Rattle.hp_elements.specs.declared.act.Act.{Act}
-use Rattle.hp_acts.specs.Rows.{is_planned}
-
-planned_get : (acts : List Act) (at : ℕ) → list_all is_planned acts ≡ true → IfSome (slice_get acts at) (λ a. is_planned a ≡ true)
-planned_get [] at h = tt
-planned_get (a ∷ acts) zero h = (and_parts (is_planned a) (list_all is_planned acts) h).0
-planned_get (a ∷ acts) (suc at) h = planned_get acts at (and_parts (is_planned a) (list_all is_planned acts) h).1
 
 later_get : (acts : List Act) (start at : ℕ) → go_later start acts ≡ true → IfSome (slice_get acts at) (λ a. goes_later (start + at) a ≡ true)
 later_get [] start at h = tt
@@ -29,9 +22,6 @@ short_get {X} (x ∷ xs) (suc at) = go (slice_get xs at) (short_get xs at)
     go (Some x) h = omega arith
 
 module _ (acts : List Act) (at : ℕ) (result : Option Act) (is : result ≡ slice_get acts at) where
-  pub planned_at : list_all is_planned acts ≡ true → IfSome result (λ a. is_planned a ≡ true)
-  planned_at h = let P : Option Act → Type 0 = λ o. IfSome o (λ a. is_planned a ≡ true) in subst P (sym is) (planned_get acts at h)
-
   pub later_at : go_later 0 acts ≡ true → IfSome result (λ a. goes_later at a ≡ true)
   later_at h =
       let P : Option Act → Type 0 = λ o. IfSome o (λ a. goes_later at a ≡ true) in

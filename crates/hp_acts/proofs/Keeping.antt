@@ -1,5 +1,4 @@
--- Over the whole table: along each way through a row, no act reads what an earlier one gave away; each act has a plan; and each
--- row ends.
+-- Over the whole table: along each way through a row, no act reads what an earlier one gave away; and each row ends.
 use Rattle.std.proofs.Common.{◌≡◌, ◌≤◌, ℕ, zero, suc, Bool, true, List, [], ◌∷◌, get_or, length, leb, map, refl, ap, ◌∙◌, ◌&&◌}
 use Rattle.std.specs.List.{list_all}
 use Rattle.std.proofs.lemmas.Bool.{and_parts, leb-true}
@@ -7,7 +6,7 @@ use Rattle.hp_elements.specs.Rules.{acts_numbered, acts_of, go_later, rows_end}
 use Rattle.hp_elements.specs.declared.act.Act.{Act}
 use Rattle.hp_acts.specs.declared.rows.Part.{Part}
 use Rattle.hp_acts.specs.declared.rows.Part.TheVariants as part
-use Rattle.hp_acts.specs.Rows.{is_planned, rows_in, rows_planned}
+use Rattle.hp_acts.specs.Rows.{rows_in}
 use Rattle.hp_acts.specs.Spending.{row_keeps, rows_keep}
 
 part_keeps : (p : Part) → rows_keep (rows_in p) ≡ true
@@ -21,12 +20,6 @@ passes_at test [] i none h = none
 passes_at test (acts ∷ rows) zero none h = (and_parts (test acts) (list_all test rows) h).0
 passes_at test (acts ∷ rows) (suc i) none h = passes_at test rows i none (and_parts (test acts) (list_all test rows) h).1
 
-part_planned : (p : Part) → rows_planned (rows_in p) ≡ true
-part_planned part.Page = refl
-part_planned part.Body = refl
-part_planned part.Table = refl
-part_planned part.Rest = refl
-
 part_ends : (p : Part) → rows_end (rows_in p) ≡ true
 part_ends part.Page = refl
 part_ends part.Body = refl
@@ -37,9 +30,6 @@ part_ends part.Rest = refl
 module _ (p : Part) (number : ℕ) (acts : List Act) (is : acts ≡ acts_numbered (rows_in p) number) where
   pub numbered_keeps : row_keeps true 0 0 acts ≡ true
   numbered_keeps = ap (row_keeps true 0 0) is ∙ passes_at (row_keeps true 0 0) (map acts_of (rows_in p)) number refl (part_keeps p)
-
-  pub numbered_planned : list_all is_planned acts ≡ true
-  numbered_planned = ap (list_all is_planned) is ∙ passes_at (list_all is_planned) (map acts_of (rows_in p)) number refl (part_planned p)
 
   ends : (go_later 0 acts && leb (length acts) 8) ≡ true
   ends = ap (λ (found : List Act). go_later 0 found && leb (length found) 8) is ∙ passes_at (λ found. go_later 0 found && leb (length found) 8) (map acts_of (rows_in p)) number refl (part_ends p)

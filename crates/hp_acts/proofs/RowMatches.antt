@@ -37,11 +37,10 @@ use Rattle.hp_acts.specs.RowPlans.{left as came_left, again as came_again}
 use Rattle.hp_acts.specs.Suiting.{act_suits, plan_suits, rules_suit, while_own}
 use Rattle.hp_acts.proofs.Matching.{IsHandled, MatchesAlike, MatchesTurn, matches_before, nothing_handled, no_touch, then_nothing, then_then, touched_before, touched_part_then}
 
--- an act that plans of rows have: a test stands beside them, and no row takes an entry off by its name
+-- an act that plans of rows have: a test stands beside them
 abbrev pub is_row_act : Act → Bool
 is_row_act (act.If test otherwise) = false
 is_row_act (act.Unless test otherwise) = false
-is_row_act (act.TakeOff which) = false
 is_row_act _ = true
 
 abbrev pub has_row_acts : RowPlan → Bool
@@ -169,7 +168,6 @@ module _ (s : ControlState) (from : Rank) (n : ℕ) (t : Token) (read : IsRead t
         matches_before s d e (model_switches to c) (end_by (answer_of s) (go (at + 1) e)) (f c) x (rest v e st g h q)
     act_matches (act.If test otherwise) at go v d next last f suits r st g h i q rest = absurd (true≢false (sym r))
     act_matches (act.Unless test otherwise) at go v d next last f suits r st g h i q rest = absurd (true≢false (sym r))
-    act_matches (act.TakeOff which) at go v d next last f suits r st g h i q rest = absurd (true≢false (sym r))
     act_matches other at go v d next last f suits r st g h i q rest =
         let parts = and_parts (fits (kind_of t) other v) (next (after (kind_of t) other v)) h in
         subst (λ x. MatchesTurn s d x (and_then (goes_on (plainly (step fostering t other (state_over d.split s)))) f)) (sym (end_then (answer_of s) (by_plan (act_plan fostering t other) d.split) (λ w. go (at + 1) (changed d w))))

@@ -100,7 +100,6 @@ way_keeps whole at place (act.If x otherwise) acts go h (inl e) = ap (λ b. go b
 way_keeps whole at place (act.If x otherwise) acts go h (inr e) = ap (λ b. go b place) (and_yes whole) ∙ (ap (go whole) e ∙ (and_parts (go whole (at + 1)) (go whole otherwise) h).1)
 way_keeps whole at place (act.Unless x otherwise) acts go h (inl e) = ap (λ b. go b place) (and_yes whole) ∙ (ap (go whole) e ∙ (and_parts (go whole (at + 1)) (go whole otherwise) h).0)
 way_keeps whole at place (act.Unless x otherwise) acts go h (inr e) = ap (λ b. go b place) (and_yes whole) ∙ (ap (go whole) e ∙ (and_parts (go whole (at + 1)) (go whole otherwise) h).1)
-way_keeps whole at place (act.TakeOff which) acts go h w = absurd (cc)
 way_keeps whole at place a acts go h w = ap (go (whole && leaves_whole a acts)) w ∙ h
 
 and_no : (b : Bool) → (b && false) ≡ false

@@ -21,7 +21,6 @@ use Rattle.hp_acts.specs.declared.turns.Next.TheVariants.{At}
 use Rattle.hp_acts.specs.Carrying.{CarriesBy, Goes, IsWay, going}
 use Rattle.hp_acts.specs.Plans.{act_plan, by_plan, test_plan}
 use Rattle.hp_acts.specs.RowPlans.{Reached, Came, act_then, changed}
-use Rattle.hp_acts.specs.Rows.{is_planned}
 
 -- the acts that carry nothing out themselves
 abbrev pub is_steering : Act → Bool
@@ -80,23 +79,23 @@ module _ (follow : Bool → Mode → Reached → Plan Came) (present : Reached �
   then_carried (act.Lexer rest) r h = absurd (cc)
   then_carried a r h = refl
 
-  -- an act that has a plan
-  ran : (old new : Sight) (a : Act) → is_planned a ≡ true → CarriesBy (Ok tt) old new (act_plan fostering t a) → Runs old.heard new.heard (by_plan (act_plan fostering t a) old.split) (Ok new.split)
-  ran old new (act.TakeOff which) p h = absurd (cc)
-  ran old new _ p h = h
+  -- an act, by its plan
+  ran : (old new : Sight) (a : Act) → CarriesBy (Ok tt) old new (act_plan fostering t a) → Runs old.heard new.heard (by_plan (act_plan fostering t a) old.split) (Ok new.split)
+  ran old new act.Done h = h
+  ran old new _ h = h
 
-  crossed : (old new : Sight) (a : Act) (crossing : Crossing) → is_planned a ≡ true → CarriesBy (Err (Crossed crossing)) old new (act_plan fostering t a) → Runs old.heard new.heard (by_plan (act_plan fostering t a) old.split) (Err crossing)
-  crossed old new (act.TakeOff which) crossing p h = absurd (cc)
-  crossed old new _ crossing p h = h
+  crossed : (old new : Sight) (a : Act) (crossing : Crossing) → CarriesBy (Err (Crossed crossing)) old new (act_plan fostering t a) → Runs old.heard new.heard (by_plan (act_plan fostering t a) old.split) (Err crossing)
+  crossed old new act.Done crossing h = h
+  crossed old new _ crossing h = h
 
-  pub act_goes : (old new : Sight) (handled : Handled) (a : Act) → is_planned a ≡ true → is_steering a ≡ false → CarriesBy (Ok tt) old new (act_plan fostering t a) → Partway old.heard new.heard (then_by a (record { split = old.split; handled = handled })) (go (at + 1) (record { split = new.split; handled = handled }))
-  act_goes old new handled a p s h =
+  pub act_goes : (old new : Sight) (handled : Handled) (a : Act) → is_steering a ≡ false → CarriesBy (Ok tt) old new (act_plan fostering t a) → Partway old.heard new.heard (then_by a (record { split = old.split; handled = handled })) (go (at + 1) (record { split = new.split; handled = handled }))
+  act_goes old new handled a s h =
       let r : Reached = record { split = old.split; handled = handled } in
       let P : Plan Came → Type 0 = λ plan. Partway old.heard new.heard plan (go (at + 1) (record { split = new.split; handled = handled })) in
-      subst P (sym (then_carried a r s)) (λ last end more. runs_then (λ v. go (at + 1) (changed r v)) (ran old new a p h) more)
+      subst P (sym (then_carried a r s)) (λ last end more. runs_then (λ v. go (at + 1) (changed r v)) (ran old new a h) more)
 
-  pub act_crosses : (old new : Sight) (handled : Handled) (a : Act) (result : Result Next Refusal) (refused : Refusal) (rest : Next → Plan Came) → result ≡ Err refused → is_planned a ≡ true → is_steering a ≡ false → CarriesBy (Err refused) old new (act_plan fostering t a) → Goes result old.heard new.heard (then_by a (record { split = old.split; handled = handled })) rest
-  act_crosses old new handled a result refused rest e p s h =
+  pub act_crosses : (old new : Sight) (handled : Handled) (a : Act) (result : Result Next Refusal) (refused : Refusal) (rest : Next → Plan Came) → result ≡ Err refused → is_steering a ≡ false → CarriesBy (Err refused) old new (act_plan fostering t a) → Goes result old.heard new.heard (then_by a (record { split = old.split; handled = handled })) rest
+  act_crosses old new handled a result refused rest e s h =
       let P : Result Next Refusal → Type 0 = λ x. Goes x old.heard new.heard (then_by a (record { split = old.split; handled = handled })) rest in
       subst P (sym e) (by_refusal refused h)
     where
@@ -105,7 +104,7 @@ module _ (follow : Bool → Mode → Reached → Plan Came) (present : Reached �
       by_refusal (Crossed crossing) h =
           let r : Reached = record { split = old.split; handled = handled } in
           let P : Plan Came → Type 0 = λ plan. Runs old.heard new.heard plan (Err crossing) in
-          subst P (sym (then_carried a r s)) (runs_crosses (λ v. go (at + 1) (changed r v)) (crossed old new a crossing p h))
+          subst P (sym (then_carried a r s)) (runs_crosses (λ v. go (at + 1) (changed r v)) (crossed old new a crossing h))
 
   tested : (old new : Sight) (handled : Handled) (test : Test) (holds : Bool) (place : Bool → ℕ) → Finds old new (λ v. test_plan t test v) holds → Partway old.heard new.heard (followed_by (test_plan t test old.split) (λ b. go (place b) (record { split = old.split; handled = handled }))) (go (place holds) (record { split = new.split; handled = handled }))
   tested old new handled test holds place f =

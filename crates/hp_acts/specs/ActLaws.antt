@@ -111,7 +111,6 @@ act_faithful f t h act.CloseDescription = close_description_faithful
 act_faithful f t h act.Walk = walk_faithful (name_of t)
 act_faithful f t h act.DetachBody = detach_faithful
 act_faithful f t h act.TakeHeadOff = take_head_off_faithful
-act_faithful f t h (act.TakeOff which) = tt
 act_faithful f t h act.EndForm = end_form_faithful
 act_faithful f t h act.CloseLink = close_link_faithful f
 act_faithful f t h act.AppendToList = by_tag_own append_to_list_plan append_to_list (html_tag t) (tag_of t) h append_to_list_faithful

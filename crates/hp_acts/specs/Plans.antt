@@ -1,5 +1,5 @@
--- What each act and each test of a row asks of the older state and changes of a view, given the token (13.2.6). TakeOff, which
--- stands in no row, has none; for those that only steer the row it is the plan that changes nothing.
+-- What each act and each test of a row asks of the older state and changes of a view, given the token (13.2.6). For the acts that
+-- only steer the row it is the plan that changes nothing.
 use Rattle.std.specs.Prelude.{Bool, if◌then◌else◌, Option, Some, None}
 use Rattle.hp_elements.specs.Names.{text_of, known_of}
 use Rattle.hp_elements.specs.Quirks.{gives_quirks}
@@ -106,7 +106,6 @@ close_plan fostering t act.EndForm = Some end_form_plan
 close_plan fostering t act.DetachBody = Some detach_plan
 close_plan fostering t (act.Adopt which) = Some (adopt_plan fostering (name_for t which))
 close_plan fostering t act.CloseLink = Some (close_link_plan fostering)
-close_plan fostering t (act.TakeOff which) = None
 close_plan fostering t other = field_plan other
 
 -- what puts nodes into the tree

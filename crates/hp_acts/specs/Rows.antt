@@ -1,11 +1,8 @@
 -- The row that a token has: the crate that has it, and its number there.
-use Rattle.std.specs.Prelude.{Bool, true, false, List, map, Option}
-use Rattle.std.specs.List.{list_all}
-use Rattle.hp_elements.specs.declared.act.Act.{Act}
-use Rattle.hp_elements.specs.declared.act.Act.TheVariants as act
+use Rattle.std.specs.Prelude.{List, Option}
 use Rattle.hp_elements.specs.declared.token.Mode.{Mode}
 use Rattle.hp_elements.specs.declared.token.Mode.TheVariants as mode
-use Rattle.hp_elements.specs.Rules.{Row, acts_of}
+use Rattle.hp_elements.specs.Rules.{Row}
 use Rattle.hp_rules_page.specs.Table as page
 use Rattle.hp_rules_body.specs.Table as body
 use Rattle.hp_rules_table.specs.Table as table
@@ -42,11 +39,3 @@ mode_rows_in part.Page m = page.rows_of m
 mode_rows_in part.Body m = body.rows_of m
 mode_rows_in part.Table m = table.rows_of m
 mode_rows_in part.Rest m = rest.rows_of m
-
--- the acts of rows: each has a plan
-abbrev pub is_planned : Act → Bool
-is_planned (act.TakeOff which) = false
-is_planned _ = true
-
-abbrev pub rows_planned : List Row → Bool
-rows_planned rows = list_all (list_all is_planned) (map acts_of rows)

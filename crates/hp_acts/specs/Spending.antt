@@ -94,7 +94,6 @@ ways_keep act.Again whole at acts go = true
 ways_keep (act.AgainAs name) whole at acts go = true
 ways_keep (act.If test otherwise) whole at acts go = go whole (at + 1) && go whole otherwise
 ways_keep (act.Unless test otherwise) whole at acts go = go whole (at + 1) && go whole otherwise
-ways_keep (act.TakeOff which) whole at acts go = false
 ways_keep a whole at acts go = go (whole && leaves_whole a acts) (at + 1)
 
 -- whether each act finds the token as it wants it, along each way through a row; the acts before the place next are passed over

@@ -16,7 +16,7 @@ use crate::inserts::{
 };
 use crate::questions::{fails, holds};
 use crate::stack_acts::{
-    adopt_named, append_current, implied_except, take_named_off, through, through_foreign, walk,
+    adopt_named, append_current, implied_except, through, through_foreign, walk,
 };
 use crate::token_parts::{Spending, bare};
 use hp_adoption::{close_link, flush, reconstruct};
@@ -118,7 +118,6 @@ fn close<'p, B: Below>(
         Act::Adopt(which) => adopt_named(alloc, view, token, which, fostering),
         Act::CloseLink => close_link(alloc, view, fostering),
         Act::EndForm => view.end_form(alloc),
-        Act::TakeOff(which) => take_named_off(alloc, view, token, which),
         Act::DetachBody => view.detach_body(alloc),
         _ => set(alloc, view, act),
     }

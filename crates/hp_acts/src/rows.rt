@@ -1,11 +1,10 @@
 //! The row that a token has, among the rules of all modes.
 ghost use Rattle.std.specs.Prelude.{◌≡◌, ◌<◌, ◌≤◌, [], true, IfSome, is_some, length, unwrap_or, slice_get};
-ghost use Rattle.std.specs.List.{list_all};
 ghost use Rattle.hp_elements.specs.Rules.{acts_for, acts_numbered, go_later, goes_later};
 ghost use Rattle.hp_elements.specs.Tokens.{kind_of};
 ghost use Rattle.hp_rules_rest.specs.Foreign.{foreign};
 ghost use Rattle.hp_rules_rest.specs.Whole.{every_mode_rows};
-ghost use Rattle.hp_acts.specs.Rows.{part_in, rows_in, mode_rows_in, is_planned};
+ghost use Rattle.hp_acts.specs.Rows.{part_in, rows_in, mode_rows_in};
 ghost use Rattle.hp_acts.specs.Spending.{row_keeps};
 
 use hp_elements::{Act, Mode, Token};
@@ -19,13 +18,12 @@ pub(crate) enum Part {
     Rest,
 }
 
-/// A row of the rules: its acts. Each of them has a plan, and along each way through the row it finds the token as it wants it;
+/// A row of the rules: its acts. Along each way through the row each of them finds the token as it wants it;
 /// a test goes on behind its own place, and there are no more than eight acts, so that each row ends.
 #[derive(Clone, Copy)]
 pub(crate) struct Row {
     acts: &'static [Act],
     ghost keeps: { row_keeps true 0 0 acts.now ≡ true },
-    ghost planned: { list_all is_planned acts.now ≡ true },
     ghost later: { go_later 0 acts.now ≡ true },
     ghost short: { length acts.now ≤ 8 },
 }
@@ -98,7 +96,6 @@ impl Row {
     #[inline(always)]
     pub(crate) fn act(self, at: u32) -> Option<Act>
         ensures value { result ≡ slice_get self.acts.now at }
-        ensures planned { IfSome result (λ act. is_planned act ≡ true) }
         ensures later { IfSome result (λ act. goes_later at act ≡ true) }
         ensures short { IfSome result (λ act. at < 8) }
     {

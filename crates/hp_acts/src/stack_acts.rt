@@ -1,5 +1,5 @@
 //! The acts on the stack and on the list of formatting elements that need the token's name.
-ghost use Rattle.std.specs.Prelude.{◌≡◌, ◌<◌, OnOk, length};
+ghost use Rattle.std.specs.Prelude.{◌≡◌, OnOk};
 ghost use Rattle.hp_elements.specs.Names.{known_of};
 ghost use Rattle.hp_elements.specs.declared.kinds.Kinds.TheVariants as kinds;
 ghost use Rattle.hp_adoption.specs.AdoptPlans.{adopt_plan};
@@ -15,9 +15,9 @@ ghost use Rattle.hp_acts.specs.declared.token_parts.Spending.TheVariants.{Copies
 
 use crate::token_parts::{Spending, html_of, name_of, take_tag};
 use hp_adoption::{adopt, append_to_list};
-use hp_control::{Below, Crossing, FormattingEntry, Refusal};
-use hp_elements::{Kinds, Name, Token, Which};
-use hp_views::{View, Walk, name_walk};
+use hp_control::{Below, Refusal};
+use hp_elements::{Kinds, Token, Which};
+use hp_views::View;
 use std::alloc::Global;
 
 /// Pops up to and with the nearest HTML element of that name.
@@ -99,56 +99,4 @@ pub(crate) fn append_current<'p, B: Below>(
 {
     let tag = take_tag(alloc, token, spending)?;
     append_to_list(alloc, view, tag)
-}
-
-/// Takes the last entry of that name off the list of formatting elements, and its element off the stack.
-pub(crate) fn take_named_off<'p, B: Below>(
-    alloc: Global,
-    view: &mut View<'p, B>,
-    token: &Token<'p>,
-    which: Which,
-) -> Result<(), Refusal> {
-    let name = name_of(alloc, token, which)?;
-    match name_walk(&view.change.formatting, &name) {
-        Walk::Found(depth) => take_entry_off(alloc, view, depth),
-        Walk::Stopped => Ok(()),
-        Walk::PastAll => older_entry_stays(alloc, view, name),
-    }
-}
-
-fn id_of(entry: &FormattingEntry) -> Option<u64> {
-    match entry {
-        FormattingEntry::Marker => None,
-        FormattingEntry::Element { id, .. } => Some(*id),
-    }
-}
-
-/// Takes the own entry at that depth off the list, and its element off the stack.
-fn take_entry_off<'p, B: Below>(
-    alloc: Global,
-    view: &mut View<'p, B>,
-    depth: usize,
-) -> Result<(), Refusal>
-    requires { depth < length view.old.change.formatting }
-{
-    match id_of(view.change.formatting.at(depth)) {
-        None => Ok(()),
-        Some(id) => {
-            view.remove_entry(alloc, id)?;
-            view.take_off(alloc, id)
-        }
-    }
-}
-
-/// An older entry isn't this view's to take off.
-fn older_entry_stays<'p, B: Below>(
-    alloc: Global,
-    view: &mut View<'p, B>,
-    name: Name,
-) -> Result<(), Refusal> {
-    if view.is_listed(alloc, name)? {
-        Err(Refusal::Crossed(Crossing::X1))
-    } else {
-        Ok(())
-    }
 }

@@ -10,7 +10,6 @@ ghost use Rattle.hp_acts.specs.Carrying.{Comes, Goes, GoesBy, Stays, going, next
 ghost use Rattle.hp_acts.specs.HandlePlans.{all_turns_plan, handle_plan, handle_rest, without_line_feed};
 ghost use Rattle.hp_acts.specs.Handling.{GoesLater, Handles, unskipped};
 ghost use Rattle.hp_acts.specs.RowPlans.{Reached, Came, act_then, is_early, turn_plan};
-ghost use Rattle.hp_acts.specs.Rows.{is_planned};
 ghost use Rattle.hp_acts.specs.Spending.{IsLeftOf, gives_away, is_of_attributes, leaves_whole, reads_attributes};
 ghost use Rattle.hp_acts.specs.declared.token_parts.Spending.TheVariants.{Copies};
 ghost use Rattle.hp_acts.specs.declared.turns.Next.TheVariants.{Again, At, Done, Rules};
@@ -198,7 +197,6 @@ fn step<'p, B: Below>(
 ) -> Result<Next, Refusal>
     requires later { goes_later at act ≡ true }
     requires short { at < 8 }
-    requires planned { is_planned act ≡ true }
     ensures later { IfOk result (λ next. GoesLater at next) }
     ensures goes { IfOk result (λ next. GoesBy act at next) }
     ensures stays { IfOk result (λ next. Stays (leaves_whole act (drop (at + 1) row.acts.now)) turn.old.token turn.new.token next) }

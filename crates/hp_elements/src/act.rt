@@ -126,8 +126,6 @@ pub enum Act {
     DetachBody,
     /// Takes the head element off the stack.
     TakeHeadOff,
-    /// Takes the entry and the element of that name off the formatting list and the stack.
-    TakeOff(Which),
     EndForm,
     /// Where the formatting list has an `a` after its last marker: adopts `a`, and then takes the element of that entry off list
     /// and stack. Nothing where there is none.

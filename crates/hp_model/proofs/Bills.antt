@@ -16,19 +16,18 @@ use Rattle.hp_elements.specs.declared.token.Mode.{Mode}
 use Rattle.hp_elements.specs.declared.token.Mode.TheVariants as mode
 use Rattle.hp_elements.specs.declared.token.Token.{Token}
 use Rattle.hp_elements.proofs.PlaceLemmas.{at_every_kind}
-use Rattle.hp_control.specs.Adoption.{Spot, find_name}
 use Rattle.hp_control.specs.Foreign.{insert_as_current, insert_foreign}
 use Rattle.hp_control.specs.Outcome.{nothing_done}
 use Rattle.hp_elements.specs.Quirks.{gives_quirks}
-use Rattle.hp_control.specs.Acts.{set_quirks, take_off}
-use Rattle.hp_control.specs.Composed.{drop_entry, implied_but}
+use Rattle.hp_control.specs.Acts.{set_quirks}
+use Rattle.hp_control.specs.Composed.{implied_but}
 use Rattle.hp_control.specs.States.{ControlState, is_settled}
 use Rattle.hp_rules_rest.specs.Foreign.{foreign}
 use Rattle.hp_rules_rest.specs.Whole.{every_mode_rows}
 use Rattle.hp_model.specs.Growth.{times}
-use Rattle.hp_model.specs.Steps.{implied_but_for, step, take_off_entry}
+use Rattle.hp_model.specs.Steps.{implied_but_for, step}
 use Rattle.hp_model.specs.Tokens.{is_self_closing, name_for, name_of, parts_of, tag_of}
-use Rattle.hp_model.proofs.Costs.{Costs, costs_none, costs_then, costs_within, costs_adopt, costs_close_link, costs_flush, costs_reconstruct, free_clear, free_close_description, free_close_item, free_close_paragraph, free_drop_entry, free_end_form, free_pop_by, free_pop_run, free_pop_to, free_push_head, free_take_head_off, free_take_off, free_through, free_through_named, within_append_to_list}
+use Rattle.hp_model.proofs.Costs.{Costs, costs_none, costs_within, costs_adopt, costs_close_link, costs_flush, costs_reconstruct, free_clear, free_close_description, free_close_item, free_close_paragraph, free_end_form, free_pop_by, free_pop_run, free_pop_to, free_push_head, free_take_head_off, free_through, free_through_named, within_append_to_list}
 use Rattle.hp_model.proofs.Course.{Course, Where, at, anywhere, left, after, assume, fits, alien}
 use Rattle.hp_model.proofs.Passes.{Rank, fixed, beside, base_of, goes_foreign, rank, start}
 
@@ -116,11 +115,6 @@ act_costs most fostering t act.CloseItem c h = free_close_item c
 act_costs most fostering t act.CloseDescription c h = free_close_description c
 act_costs most fostering t act.Walk c h = free_through (kinds.Html (name_of t)) (kinds.Set sets.Special) c
 act_costs most fostering t act.TakeHeadOff c h = free_take_head_off c.head c
-act_costs most fostering t (act.TakeOff which) c h = go (find_name (name_for t which) c.formatting)
-  where
-    go : (o : Option Spot) → Costs 0 0 c (take_off_entry o c).control
-    go None = costs_none 0 0 c
-    go (Some entry) = costs_then 0 0 0 0 c (drop_entry entry.id c).control (take_off entry.id (drop_entry entry.id c).control).control (free_drop_entry entry.id c) (free_take_off entry.id (drop_entry entry.id c).control)
 act_costs most fostering t act.EndForm c h = free_end_form c
 act_costs most fostering t act.CloseLink c h = costs_within 36 0 (times 1 (most + 64)) 0 c (step fostering t act.CloseLink c).control (omega arith) (omega arith) (costs_close_link fostering c)
 act_costs most fostering t act.AppendToList c h = within_append_to_list (tag_of t) c

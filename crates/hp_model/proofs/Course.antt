@@ -278,7 +278,6 @@ after kind act.CloseItem v = thinner v
 after kind act.CloseDescription v = thinner v
 after kind act.Walk v = thinner v
 after kind act.TakeHeadOff v = record (thinner v) { base = if v.made && is_above v.base then tall else rooted }
-after kind (act.TakeOff which) v = thinner v
 after kind act.EndForm v = thinner v
 after kind act.CloseLink v = thinner v
 after kind (act.Adopt which) v = thinner v
@@ -326,7 +325,6 @@ fits kind act.CloseItem v = is_standing v.base
 fits kind act.CloseDescription v = is_standing v.base
 fits kind act.Walk v = is_standing v.base
 fits kind act.TakeHeadOff v = is_standing v.base
-fits kind (act.TakeOff which) v = is_standing v.base
 fits kind act.EndForm v = is_standing v.base
 fits kind act.CloseLink v = is_standing v.base
 fits kind (act.Adopt which) v = is_standing v.base

@@ -101,7 +101,6 @@ act_found kind act.CloseDescription v n s g h = current v.base s.stack s.next h 
 act_found kind act.Walk v n s g h = current v.base s.stack s.next h g.base
 act_found kind act.DetachBody v n s g h = current v.base s.stack s.next h g.base
 act_found kind act.TakeHeadOff v n s g h = current v.base s.stack s.next h g.base
-act_found kind (act.TakeOff which) v n s g h = current v.base s.stack s.next h g.base
 act_found kind act.EndForm v n s g h = current v.base s.stack s.next h g.base
 act_found kind act.CloseLink v n s g h = current v.base s.stack s.next h g.base
 act_found kind (act.Adopt which) v n s g h = current v.base s.stack s.next h g.base

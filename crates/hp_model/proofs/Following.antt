@@ -31,14 +31,13 @@ use Rattle.hp_elements.proofs.NameLemmas.{found_text, known_of_text}
 use Rattle.hp_control.specs.declared.element.OpenElement.{OpenElement}
 use Rattle.hp_control.specs.declared.element.FormattingEntry.{FormattingEntry}
 use Rattle.hp_control.specs.declared.element.FormattingEntry.TheVariants.{Marker, Element}
-use Rattle.hp_control.specs.Acts.{append_entry, append_to_list, current_id, element_for, equal_ids, push_head_of, remove_earliest, set_quirks, take_head_off_of, take_off, with_stack, head_element, insert, pop, without_entry}
-use Rattle.hp_control.specs.Adoption.{Spot, find_name}
-use Rattle.hp_control.specs.Composed.{is_white, put_characters, foster_characters, drop_entry}
+use Rattle.hp_control.specs.Acts.{append_entry, append_to_list, current_id, element_for, equal_ids, push_head_of, remove_earliest, set_quirks, take_head_off_of, with_stack, head_element, insert, pop, without_entry}
+use Rattle.hp_control.specs.Composed.{is_white, put_characters, foster_characters}
 use Rattle.hp_control.specs.Foreign.{current_namespace, insert_in, opened_namespace, tag_in}
-use Rattle.hp_control.specs.Outcome.{Act as ControlAct, and_then, becomes, nothing_done}
+use Rattle.hp_control.specs.Outcome.{Act as ControlAct, becomes, nothing_done}
 use Rattle.hp_control.specs.States.{ControlState, AreIds, IsId, IsNew, IsFormatting, entry_ids, is_html, is_named, is_rooted, is_settled, is_tall, is_template, is_template_mode}
 use Rattle.hp_control.specs.Walks.{cleared as cleared_list, open_at, reset_mode}
-use Rattle.hp_model.specs.Steps.{implied_but_for, quirks_of, step, take_off_entry}
+use Rattle.hp_model.specs.Steps.{implied_but_for, quirks_of, step}
 use Rattle.hp_model.specs.Tokens.{bare as bare_tag, is_self_closing, name_for, name_of, parts_of, tag_of}
 use Rattle.hp_model.specs.Whole.{IsRead}
 use Rattle.hp_model.proofs.Tally.{tally}
@@ -46,7 +45,7 @@ use Rattle.hp_model.proofs.Ids.{are_ids, between, between-none, is_id, new-none,
 use Rattle.hp_model.proofs.Stacks.{counted, is_counted, pushed-keeps}
 use Rattle.hp_model.proofs.Thins.{Ready, Thins, Thinning, entry_is, tally-entries, thins_all, thins_list, thinning_nothing, thinning_then, ready_after}
 use Rattle.hp_model.proofs.Thinning.{thinning_pop, thinning_pop_to, thinning_pop_to_first, thinning_through, thinning_through_named, thinning_walk, thinning_implied, thinning_implied_except, thinning_implied_thoroughly, thinning_close_paragraph, thinning_close_item, thinning_close_description, thinning_end_form, thinning_take_off, thinning_remove_entry, thinning_reconstruct, one_new}
-use Rattle.hp_model.proofs.Adopting.{thinning_adopt, thinning_close_link, thinning_flushed, thinning_taken, name-found, entry-id}
+use Rattle.hp_model.proofs.Adopting.{thinning_adopt, thinning_close_link, thinning_flushed}
 use Rattle.hp_model.proofs.Resetting.{reset-settled, reset-no_select}
 use Rattle.hp_model.proofs.Course as course
 use Rattle.hp_model.proofs.Course.{Course, Along, Base, bare, rooted, tall, alien, Count, fell, kept, unknown, Where, at, anywhere, left, Room, BaseIs, CountIs, PlaceIs, RoomIs, OriginalIs, IsMade, MadeIs, is_standing, is_bare, is_above, is_alien, thinner, higher, after_reset, is_settled_at, is_a_template, is_foreign_top, kind_is_template, kind_is_html, is_start, is_formatting_start, has_room, after, fits}
@@ -304,13 +303,6 @@ pub implied_but_thins : (o : Option Known) → Thinning (implied_but_for o)
 implied_but_thins None = thinning_implied
 implied_but_thins (Some name) = thinning_implied_except name
 
-take_off_named_along : (v : Course) (n : ℕ) (s : ControlState) (name : List ℕ) → is_standing v.base ≡ true → Along v n s → Along (thinner v) n (take_off_entry (find_name name s.formatting) s).control
-take_off_named_along v n s name h g = go (find_name name s.formatting) refl
-  where
-    go : (o : Option Spot) → find_name name s.formatting ≡ o → Along (thinner v) n (take_off_entry o s).control
-    go None e = thin_by v n s nothing_done h g thinning_nothing
-    go (Some entry) e = thin_by v n s (and_then (drop_entry entry.id) (take_off entry.id)) h g (thinning_taken entry.id (entry-id s.next entry s.formatting g.list_ids (name-found name s.formatting entry e g.formatting)))
-
 quirks_along : (v : Course) (n : ℕ) (s : ControlState) (parts : DoctypeParts) → Along v n s → Along v n (quirks_of parts s).control
 quirks_along v n s parts g = go (gives_quirks parts)
   where
@@ -349,7 +341,6 @@ act_along fostering t read act.CloseItem v n s g h = thin_by v n s (step fosteri
 act_along fostering t read act.CloseDescription v n s g h = thin_by v n s (step fostering t act.CloseDescription) h g thinning_close_description
 act_along fostering t read act.Walk v n s g h = thin_by v n s (step fostering t act.Walk) h g (thinning_walk (name_of t))
 act_along fostering t read act.TakeHeadOff v n s g h = take_head_off_along v n s g h
-act_along fostering t read (act.TakeOff which) v n s g h = take_off_named_along v n s (name_for t which) h g
 act_along fostering t read act.EndForm v n s g h = thin_by v n s (step fostering t act.EndForm) h g thinning_end_form
 act_along fostering t read act.CloseLink v n s g h = thin_by v n s (step fostering t act.CloseLink) h g (thinning_close_link fostering)
 act_along fostering t read (act.Adopt which) v n s g h = thin_by v n s (step fostering t (act.Adopt which)) h g (thinning_adopt fostering (name_for t which))

@@ -55,7 +55,6 @@ finds act.CloseDescription c = has_current c
 finds act.Walk c = has_current c
 finds act.DetachBody c = has_current c
 finds act.TakeHeadOff c = has_current c
-finds (act.TakeOff which) c = has_current c
 finds act.EndForm c = has_current c
 finds act.CloseLink c = has_current c
 finds (act.Adopt which) c = has_current c

@@ -1,5 +1,5 @@
 -- What each test of a row asks of a full state and of the token, and what each act does to it (13.2.6).
-use Rattle.std.specs.Prelude.{ℕ, Bool, true, false, if◌then◌else◌, List, Option, None, Some}
+use Rattle.std.specs.Prelude.{Bool, true, false, if◌then◌else◌, Option, None, Some}
 use Rattle.hp_elements.specs.Names.{text_of, known_of}
 use Rattle.hp_elements.specs.Quirks.{gives_quirks}
 use Rattle.hp_elements.specs.declared.act.Act.TheVariants as act
@@ -16,11 +16,11 @@ use Rattle.hp_elements.specs.declared.token.Token.{Token}
 use Rattle.hp_control.specs.declared.edit.Child.TheVariants as child
 use Rattle.hp_control.specs.declared.edit.Place.TheVariants.{Into}
 use Rattle.hp_control.specs.declared.edit.Ref.TheVariants.{Fixed}
-use Rattle.hp_control.specs.Acts.{put_at, put_here, put_into_first, set_quirks, add_missing_to_first, add_missing_to_body, insert, insert_into_document, push_head, pop, pop_to, pop_to_first, through, through_named, walk, detach_body, take_head_off, take_off, append_to_list, add_marker, clear, frameset_not_ok, skip_line_feed, point_head, point_form, reset, keep_original, to_original, switch_to, push_template_mode, replace_template_mode, pop_template_mode, empty_pending, append_pending}
-use Rattle.hp_control.specs.Adoption.{Spot, find_name, adopt, reconstruct}
-use Rattle.hp_control.specs.Composed.{in_scope, named_in_scope, template_in_stack, has_modes, is_second_body, is_frameset_ok, is_quirks, has_form, current_is, below_is, is_listed, implied, implied_except, implied_thoroughly, close_paragraph, close_item, close_description, end_form, close_link, drop_entry, flush}
+use Rattle.hp_control.specs.Acts.{put_at, put_here, put_into_first, set_quirks, add_missing_to_first, add_missing_to_body, insert, insert_into_document, push_head, pop, pop_to, pop_to_first, through, through_named, walk, detach_body, take_head_off, append_to_list, add_marker, clear, frameset_not_ok, skip_line_feed, point_head, point_form, reset, keep_original, to_original, switch_to, push_template_mode, replace_template_mode, pop_template_mode, empty_pending, append_pending}
+use Rattle.hp_control.specs.Adoption.{adopt, reconstruct}
+use Rattle.hp_control.specs.Composed.{in_scope, named_in_scope, template_in_stack, has_modes, is_second_body, is_frameset_ok, is_quirks, has_form, current_is, below_is, is_listed, implied, implied_except, implied_thoroughly, close_paragraph, close_item, close_description, end_form, close_link, flush}
 use Rattle.hp_control.specs.Foreign.{insert_foreign, insert_as_current, pop_to_point, through_foreign, names_foreign, put_replacements, has_font_attribute}
-use Rattle.hp_control.specs.Outcome.{Act, and_then, nothing_done}
+use Rattle.hp_control.specs.Outcome.{Act, nothing_done}
 use Rattle.hp_control.specs.States.{ControlState}
 use Rattle.hp_model.specs.Tokens.{bare, tag_of, name_of, name_for, is_self_closing, characters, comment, parts_of, doctype_of, has_hidden_type}
 
@@ -55,14 +55,6 @@ holds t test.NamesForeign c = names_foreign (name_of t) c
 abbrev pub implied_but_for : Option Known → Act
 implied_but_for None = implied
 implied_but_for (Some name) = implied_except name
-
-abbrev pub take_off_entry : Option Spot → Act
-take_off_entry None = nothing_done
-take_off_entry (Some entry) = and_then (drop_entry entry.id) (take_off entry.id)
-
--- the last entry of the name after the last marker leaves the list, and its element the stack
-abbrev pub take_off_named : List ℕ → Act
-take_off_named name c = take_off_entry (find_name name c.formatting) c
 
 abbrev pub quirks_of : DoctypeParts → Act
 quirks_of parts = if gives_quirks parts then set_quirks else nothing_done
@@ -103,7 +95,6 @@ step fostering t act.CloseDescription = close_description
 step fostering t act.Walk = walk (name_of t)
 step fostering t act.DetachBody = detach_body
 step fostering t act.TakeHeadOff = take_head_off
-step fostering t (act.TakeOff which) = take_off_named (name_for t which)
 step fostering t act.EndForm = end_form
 step fostering t act.CloseLink = close_link fostering
 step fostering t act.AppendToList = append_to_list (tag_of t)

@@ -96,7 +96,6 @@ any_touch s crossing (x ∷ xs) h = go (same_crossing crossing x.crossing) (is_o
 row_of : (kind : Kind) (a : Act) (w : Track) → track_fits kind a w ≡ true → is_row_act a ≡ true
 row_of kind (act.If x otherwise) w h = absurd (true≢false (sym h))
 row_of kind (act.Unless x otherwise) w h = absurd (true≢false (sym h))
-row_of kind (act.TakeOff which) w h = absurd (true≢false (sym h))
 row_of kind _ w h = refl
 
 module _ (s : ControlState) (first : 0 < s.next) (n : ℕ) where

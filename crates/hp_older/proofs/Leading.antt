@@ -193,7 +193,6 @@ act_did s fostering t read act.InsertBareHtml v n w c o g on h k = absurd (true�
 act_did s fostering t read act.PushHead v n w c o g on h k = absurd (true≢false (sym k))
 act_did s fostering t read act.PopToFirst v n w c o g on h k = absurd (true≢false (sym k))
 act_did s fostering t read act.TakeHeadOff v n w c o g on h k = absurd (true≢false (sym k))
-act_did s fostering t read (act.TakeOff which) v n w c o g on h k = absurd (true≢false (sym k))
 act_did s fostering t read act.HeadPointer v n w c o g on h k = absurd (true≢false (sym k))
 act_did s fostering t read act.QuirksOfDoctype v n w c o g on h k = absurd (true≢false (sym k))
 act_did s fostering t read (act.If x otherwise) v n w c o g on h k = absurd (true≢false (sym k))

@@ -140,7 +140,6 @@ track_fits kind act.InsertBareHtml w = false
 track_fits kind act.PushHead w = false
 track_fits kind act.PopToFirst w = false
 track_fits kind act.TakeHeadOff w = false
-track_fits kind (act.TakeOff which) w = false
 track_fits kind act.HeadPointer w = false
 track_fits kind act.QuirksOfDoctype w = false
 track_fits kind (act.If x otherwise) w = false

@@ -27,7 +27,7 @@ use Rattle.hp_control.specs.Foreign.{current_namespace, insert_in, opened_namesp
 use Rattle.hp_control.specs.Outcome.{Act, Outcome, and_then, becomes, choose, nothing_done}
 use Rattle.hp_control.specs.States.{ControlState}
 use Rattle.hp_control.specs.Walks.{has_entry, open_at, reach, seen}
-use Rattle.hp_model.specs.Steps.{implied_but_for, step, take_off_entry}
+use Rattle.hp_model.specs.Steps.{implied_but_for, step}
 use Rattle.hp_model.specs.Tokens.{is_self_closing, name_for, name_of, parts_of, tag_of}
 
 abbrev pub Leaves : Act → Type 0
@@ -175,10 +175,6 @@ implied_but_for-leaves : (o : Option Known) → Leaves (implied_but_for o)
 implied_but_for-leaves None c = refl
 implied_but_for-leaves (Some name) c = refl
 
-take_off_entry-leaves : (o : Option Spot) → Leaves (take_off_entry o)
-take_off_entry-leaves None = λ c. refl
-take_off_entry-leaves (Some entry) = in_order (drop_entry entry.id) (take_off entry.id) (drop_entry-leaves entry.id) (take_off-leaves entry.id)
-
 pub step-leaves : (fostering : Bool) (t : Token) (a : RowAct) → Leaves (step fostering t a)
 step-leaves fostering t act.QuirksOfDoctype = one_of (gives_quirks (parts_of t)) set_quirks nothing_done (λ c. refl) nothing
 step-leaves fostering t act.InsertForeign = insert_in-leaves (opened_namespace (tag_of t).name) fostering (is_self_closing t) (tag_of t)
@@ -194,7 +190,6 @@ step-leaves fostering t act.CloseItem = close_item-leaves
 step-leaves fostering t act.CloseDescription = close_description-leaves
 step-leaves fostering t act.Walk = through-leaves (kinds.Html (name_of t)) (kinds.Set sets.Special)
 step-leaves fostering t act.TakeHeadOff = λ c. take_head_off_of-leaves c.head c
-step-leaves fostering t (act.TakeOff which) = λ c. take_off_entry-leaves (find_name (name_for t which) c.formatting) c
 step-leaves fostering t act.EndForm = end_form-leaves
 step-leaves fostering t act.CloseLink = λ c. close_link_of-leaves fostering (find_name (text_of known.A) c.formatting) c
 step-leaves fostering t act.AppendToList = append_to_list-leaves (tag_of t)

@@ -18,7 +18,7 @@ returns-in_ok-holds-in-Unless-clause-plan g c = λ follow go.
 pub returns-in-Err-clause-plan : goal.returns-in-Err-clause-plan
 returns-in-Err-clause-plan g c = λ follow go.
     act_crosses follow (present_plan follow c.args.present) c.args.fostering c.args.turn.now.token c.args.at go (sight g.B.Below.heard c.args.view.now) (sight g.B.Below.heard c.carry_out.new.view) c.args.turn.now.handled
-    c.args.act (Err c.in-Err.refused) c.in-Err.refused (λ next. going follow go c.args.at (reached c.carry_out.new.view (record { token = c.carry_out.new.token; handled = c.args.turn.now.handled })) c.carry_out.new.token next) refl c.requires.planned
+    c.args.act (Err c.in-Err.refused) c.in-Err.refused (λ next. going follow go c.args.at (reached c.carry_out.new.view (record { token = c.carry_out.new.token; handled = c.args.turn.now.handled })) c.carry_out.new.token next) refl
     (not_steering c.args.act c.in_default.not-Done c.in_default.not-Again c.in_default.not-AgainAs c.in_default.not-As c.in_default.not-AsFostered c.in_default.not-AsPresent c.in_default.not-If c.in_default.not-Unless c.in_default.not-Stop c.in_default.not-Lexer) c.in-Err.ensures.plan
 
 pub returns-in-Ok : goal.returns-in-Ok
@@ -28,5 +28,5 @@ returns-in-Ok g c =
       later = omega arith;
       goes = way_on c.args.act c.args.at steers;
       stays = (c.in-Ok.ensures.left, token_stays (gives_away c.args.act) (leaves_whole c.args.act (drop (c.args.at + 1) c.args.row.acts.now)) c.args.turn.now.token c.carry_out.new.token c.carry_out.ensures.stays (λ w a. c.carry_out.ensures.copies (c.spending_at-spending.ensures w a)));
-      plan = λ follow go. act_goes follow (present_plan follow c.args.present) c.args.fostering c.args.turn.now.token c.args.at go (sight g.B.Below.heard c.args.view.now) (sight g.B.Below.heard c.carry_out.new.view) c.args.turn.now.handled c.args.act c.requires.planned steers c.in-Ok.ensures.plan;
+      plan = λ follow go. act_goes follow (present_plan follow c.args.present) c.args.fostering c.args.turn.now.token c.args.at go (sight g.B.Below.heard c.args.view.now) (sight g.B.Below.heard c.carry_out.new.view) c.args.turn.now.handled c.args.act steers c.in-Ok.ensures.plan;
     }

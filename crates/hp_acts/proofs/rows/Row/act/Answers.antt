@@ -1,8 +1,5 @@
-use Rattle.hp_acts.proofs.ActsAt.{later_at, planned_at, short_at}
+use Rattle.hp_acts.proofs.ActsAt.{later_at, short_at}
 use Rattle.hp_acts.proofs.rows.Row.act.Goals as goal
-
-pub returns-clause-planned : goal.returns-clause-planned
-returns-clause-planned c = planned_at c.args.self.acts.now c.args.at c.act_at.result c.act_at.ensures c.args.self.planned
 
 pub returns-clause-later : goal.returns-clause-later
 returns-clause-later c = later_at c.args.self.acts.now c.args.at c.act_at.result c.act_at.ensures c.args.self.later
