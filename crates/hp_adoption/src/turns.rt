@@ -6,7 +6,7 @@ ghost use Rattle.hp_control.specs.KindTests.{within};
 ghost use Rattle.hp_views.specs.View.{sight, Carries};
 ghost use Rattle.hp_views.specs.Walks.{id_walk};
 ghost use Rattle.hp_views.specs.declared.walks.Walk.TheVariants.{Found};
-ghost use Rattle.hp_adoption.specs.AdoptPlans.{own_turn, entry_turn, walk_turn, older_turn, kind_turn, turn_plan, turns_plan};
+ghost use Rattle.hp_adoption.specs.AdoptPlans.{changes_older, own_turn, entry_turn, walk_turn, older_turn, kind_turn, turn_plan, turns_plan};
 ghost use Rattle.hp_adoption.specs.Entries.{is_element, tag_in};
 ghost use Rattle.hp_adoption.specs.Turning.{Turns, last_within, seat_depth};
 
@@ -166,6 +166,17 @@ fn turn_older<'p, B: Below>(
     turn_by(alloc, view, name, standing.kind)
 }
 
+/// Whether a turn whose older entry stands so has to change older elements. One without such an entry never does.
+fn crosses(kind: EntryKind, stack: &OpenElements) -> bool
+    ensures { result ≡ changes_older stack.now kind }
+{
+    match kind {
+        EntryKind::Absent | EntryKind::Hidden => false,
+        EntryKind::Closed => true,
+        EntryKind::InScope => !hides(stack, stack.len()),
+    }
+}
+
 /// The same, by how the older entry stands.
 fn turn_by<'p, B: Below>(
     alloc: Global,
@@ -175,17 +186,12 @@ fn turn_by<'p, B: Below>(
 ) -> Result<bool, Refusal>
     ensures { Turns result (sight B.heard view.old) (sight B.heard view.new) (λ v. kind_turn name.now v kind) }
 {
+    if crosses(kind, &view.change.stack) {
+        return Err(Refusal::Crossed(Crossing::X1));
+    }
     match kind {
         EntryKind::Absent => walk(alloc, view, name),
-        EntryKind::Closed => Err(Refusal::Crossed(Crossing::X1)),
-        EntryKind::Hidden => Ok(false),
-        EntryKind::InScope => {
-            if hides(&view.change.stack, view.change.stack.len()) {
-                Ok(false)
-            } else {
-                Err(Refusal::Crossed(Crossing::X1))
-            }
-        }
+        _ => Ok(false),
     }
 }
 
