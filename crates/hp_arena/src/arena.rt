@@ -56,13 +56,18 @@ impl<'p> Model for Arena<'p> {
 /// The most nodes before, and the most room of, one reservation.
 const MOST: usize = 0x2000_0000;
 
+/// How many elements, and how many leaves, there is memory for from the start. So much is mapped apart by the C library: what isn't
+/// touched costs nothing, and what grows out of it is moved without a copy.
+const FIRST: usize = 4096;
+
 impl<'p> Arena<'p> {
     /// The document alone.
     pub fn start(alloc: Global) -> Result<Arena<'p>, AllocError>
         ensures { IfOk result (λ t. t.branches ≡ document) }
     {
-        let mut nodes = Vec::new(alloc);
-        let mut elements = Vec::new(alloc);
+        let mut nodes = Vec::with_capacity(alloc, 2 * FIRST)?;
+        let mut elements = Vec::with_capacity(alloc, FIRST)?;
+        let leaves = Vec::with_capacity(alloc, FIRST)?;
         nodes.push(Node {
             prev: 0,
             next: 0,
@@ -77,7 +82,7 @@ impl<'p> Arena<'p> {
         Ok(Arena {
             nodes,
             elements,
-            leaves: Vec::new(alloc),
+            leaves,
             doctypes: Vec::new(alloc),
             cells: Vec::new(alloc),
             spare: 0,

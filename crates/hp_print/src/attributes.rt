@@ -123,7 +123,7 @@ fn print_attribute(out: &mut Out, attribute: Shown<'_>, depth: u64) -> Result<()
         }
         Out::Writing(bytes) => {
             if ((bytes.capacity() - bytes.len()) as u64) < size {
-                return out.count_on(size);
+                return print_deep(out, attribute, depth);
             }
             write_attribute(bytes, attribute, depth)
         }

@@ -1,4 +1,4 @@
-//! Where the printed text goes: it is written into memory that was taken once. Where that is too small, it is counted from there on.
+//! Where the printed text goes: it is written into memory that grows up to a limit. Where that is too small, it is counted from there on.
 
 ghost use Rattle.std.specs.Prelude.{◌≡◌, ◌<◌, ◌++◌, ℕ, List, [], OnOk, length, replicate, encode_utf8_all};
 ghost use Rattle.std.specs.Str.{chars};
@@ -13,6 +13,9 @@ pub enum Out {
     Counting(u64),
     Writing(Vec<u8>),
 }
+
+/// How many bytes are written at most before they were counted.
+pub const MOST: usize = 1 << 26;
 
 const BLANKS: [u8; 64] = [b' '; 64];
 
@@ -40,11 +43,25 @@ impl Out {
             }
             Out::Writing(bytes) => {
                 if bytes.capacity() - bytes.len() < piece.len() {
-                    return self.count_on(piece.len() as u64);
+                    return self.put_beyond(piece);
                 }
                 bytes.extend_from_slice(piece)?;
                 Ok(())
             }
+        }
+    }
+
+    /// Prints these bytes where the memory is too small for them: it grows up to a limit, and from there on they are counted.
+    #[inline(never)]
+    fn put_beyond(&mut self, piece: &[u8]) -> Result<(), NoMemory>
+        ensures { OnOk result (Prints self.old self.new piece.now) }
+    {
+        match self {
+            Out::Writing(bytes) if piece.len() <= MOST.saturating_sub(bytes.len()) => {
+                bytes.extend_from_slice(piece)?;
+                Ok(())
+            }
+            _ => self.count_on(piece.len() as u64),
         }
     }
 

@@ -9,7 +9,7 @@ ghost use Rattle.hp_print.specs.Print.{lines_of, print};
 ghost use Rattle.hp_print.specs.Stack.{IsDeep, IsMark, Pushed, Stepped, lines_at, steps_at};
 
 use crate::items::{extra_depth, print_item};
-use crate::output::Out;
+use crate::output::{MOST, Out};
 use hp_arena::{At, NodeView, Tree};
 use hp_elements::NoMemory;
 use std::alloc::Global;
@@ -24,10 +24,8 @@ pub struct Mark {
     pub templates: u32,
 }
 
-/// How much memory a text is given for each element before it is counted, and how much at most.
+/// How much memory a text is given at first for each element.
 const FOR_ELEMENT: usize = 256;
-
-const MOST: usize = 1 << 26;
 
 /// No line is deeper in a text that is written before it was counted, since the text of a deep tree goes by the square of its depth.
 const SHALLOW: u64 = 64;

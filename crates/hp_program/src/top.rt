@@ -17,6 +17,7 @@ use hp_text::{
     write_whole,
 };
 use std::alloc::Global;
+use std::mem;
 use std::sync::Wait;
 use std::thread::Threads;
 
@@ -39,6 +40,8 @@ fn print_page(alloc: Global, page: Page<'_>) -> Result<Vec<u8>, NoMemory>
 {
     let tree = parse_whole(alloc, page)?;
     let text = print_tree(alloc, &tree)?;
+    // The process ends once the text is written, and its memory goes back whole: nothing is given back piece by piece.
+    mem::forget(tree);
     Ok(text)
 }
 
