@@ -179,7 +179,10 @@ impl<'p> Parsing<'p> {
     fn is_at_markup(&self) -> bool
         ensures { result ≡ true → first self.now.input.text ≡ Some 60 }
     {
-        matches!(self.input.front(), Some(b'<'))
+        match self.input.front() {
+            Some(b'<') => true,
+            _ => false,
+        }
     }
 
     /// The text at the front that is emitted as it stands, or what a usual reference there stands for.
