@@ -3,12 +3,10 @@ use Rattle.std.proofs.Common.{◌≡◌, ℕ, List, [], ◌∷◌, refl, ap, ◌
 use Rattle.hp_elements.specs.declared.token.Rest.{Rest}
 use Rattle.hp_elements.specs.declared.token.Token.{Token}
 use Rattle.hp_tokens.specs.Advancing.{AreRuns}
-use Rattle.hp_tokens.specs.Reading.{Unread}
 use Rattle.hp_tokens.specs.Rows.{character}
 use Rattle.hp_control.specs.States.{ControlState, IsValid}
 use Rattle.hp_control.specs.Tree.{Tree, applied_all}
 use Rattle.hp_control.specs.declared.edit.Edit.{Edit}
-use Rattle.hp_lexer.specs.declared.lexer.Lexer.{Lexer}
 use Rattle.hp_model.specs.Whole.{IsRead}
 use Rattle.hp_model.specs.AtOnce.{RunsAtOnce, handle_at_once}
 use Rattle.hp_model.specs.Turns.{left_by}

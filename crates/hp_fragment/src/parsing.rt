@@ -268,6 +268,7 @@ impl<'p> Parsing<'p> {
     }
 
     /// Handles a token, and switches the lexer where it calls for that.
+    #[inline(always)]
     fn handle_one(&mut self, alloc: Global, token: Token<'p>) -> Result<(), NoMemory>
         requires builder { IsBuilder self.old.builder }
         requires read { IsRead token }

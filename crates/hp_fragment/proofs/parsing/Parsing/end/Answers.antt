@@ -11,4 +11,4 @@ pub returns : goal.returns
 returns c = λ page all.
     let read = c.ends_of_text.ensures.read _ _ c.in_ok-tokens.tokens (c.in_ok-tokens.ensures 0) in
     tree-of c.at_once.ensures.token c.rests_ahead.ensures c.ends_of_text.ensures.handled page c.args.self c.in_ok-tokens.tokens c.handle_last.new.builder c.in_ok-tree.tree.branches all c.requires.at_end read.0 read.1
-        c.in_ok-tokens.ensures c.in_ok-handle_last.ensures c.in_ok-tree.ensures
+    c.in_ok-tokens.ensures c.in_ok-handle_last.ensures c.in_ok-tree.ensures
