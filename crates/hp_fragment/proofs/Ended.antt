@@ -1,37 +1,48 @@
 -- The tree at the end of a page.
-use Rattle.std.proofs.Common.{◌≡◌, ℕ, List, [], ◌++◌, ap, ◌∙◌, sym, subst}
+use Rattle.std.proofs.Common.{◌≡◌, ℕ, List, [], ◌++◌, true, refl, ap, ◌∙◌, sym, subst, append-nil}
 use Rattle.hp_elements.specs.declared.token.Token.{Token}
 use Rattle.hp_names.specs.References.{Reference}
 use Rattle.hp_names.specs.BuiltIn.{built_in}
 use Rattle.hp_tokens.specs.Advancing.{AreRuns, Ends, end_of_text, lexing, singles}
-use Rattle.hp_tokens.specs.Moves.{Lexing}
-use Rattle.hp_control.specs.States.{ControlState}
+use Rattle.hp_tokens.specs.Moves.{Lexing, Move, needs_more, move}
+use Rattle.hp_tokens.specs.Runs.{followed_by as more_unread}
+use Rattle.hp_tokens.specs.declared.machine.Machine.{Machine}
+use Rattle.hp_control.proofs.StartLemmas.{start_valid}
+use Rattle.hp_control.specs.declared.edit.Edit.{Edit}
+use Rattle.hp_control.specs.States.{ControlState, may_be_ahead, start}
 use Rattle.hp_control.specs.Tree.{Tree}
 use Rattle.hp_lexer.specs.declared.lexer.Asked.{Asked}
 use Rattle.hp_lexer.specs.Standing.{opened, stands}
 use Rattle.hp_lexer.specs.Table.{table}
-use Rattle.hp_model.specs.Handling.{handle}
-use Rattle.hp_run.specs.Pages.{IsTreeOf}
 use Rattle.hp_model.specs.AtOnce.{RunsAtOnce, handle_at_once}
-use Rattle.hp_steps.specs.Handling.{made_after}
+use Rattle.hp_model.specs.Handling.{handle}
+use Rattle.hp_model.specs.Runs.{Parser, rests, goes, step_by}
+use Rattle.hp_run.specs.Pages.{IsTreeOf}
+use Rattle.hp_steps.specs.Alike.{SameMove}
+use Rattle.hp_steps.specs.Handling.{AllRead, made_after}
 use Rattle.hp_steps.specs.Standing.{HasRead}
-use Rattle.hp_steps.proofs.Ending.{ended-on}
-use Rattle.hp_steps.proofs.Together.{Comes, together}
+use Rattle.hp_steps.proofs.Shifting.{move-same}
+use Rattle.hp_steps.proofs.Turning.{Does, all-together}
+use Rattle.hp_pieces.proofs.SameRuns.{end-same}
+use Rattle.hp_pieces.specs.Laws.{EndsHandled, RestsAhead}
 use Rattle.hp_fragment.proofs.Steps.{makes-tree}
-use Rattle.hp_fragment.specs.Building.{control_of, grown, HandledLast}
+use Rattle.hp_fragment.specs.Building.{control_of, grown, HandledAll}
 use Rattle.hp_fragment.specs.Reading.{IsAtEnd, Reads, HasReadAll}
 use Rattle.hp_fragment.specs.declared.builder.Builder.{Builder}
 use Rattle.hp_fragment.specs.declared.parsing.Parsing.{Parsing}
 
 -- the tree at the end of the page
-pub tree-of : RunsAtOnce → (page : List ℕ) (p : Parsing) (tokens : List Token) (after : Builder) (tree : Tree) → HasReadAll page p → IsAtEnd p
-    → ((rested : ℕ) → Ends (table p.lexer.names) (lexing p.lexer.lex end_of_text rested) [] tokens) → HandledLast p.builder after tokens → tree ≡ grown after → IsTreeOf built_in page tree
-tree-of law page p tokens after tree all at_end ends handled is =
-    ended-on built_in page (stands p.lexer p.input) (lexing p.lexer.lex end_of_text 0) c r.edits tokens
-    (subst (λ (t : List ℕ). HasRead built_in page (stands p.lexer p.input) t c r.edits) all.later r.read) all.ended.needs
-    end (record { machine = ap (λ (a : Asked). opened a p.lexer.lex.machine) at_end.asked; unread = ap (λ (t : List ℕ). p.lexer.lex.ahead ++ t) all.used })
-    comes.quiet tree
-    (makes-tree (grown p.builder) r.edits (made_after handle c (singles tokens)) (made_after handle_at_once c tokens) tree r.grown (is ∙ handled.handled.grown) (comes.made (grown p.builder)))
+pub tree-of : RunsAtOnce → RestsAhead → EndsHandled → (page : List ℕ) (p : Parsing) (tokens : List Token) (after : Builder) (tree : Tree) → HasReadAll page p → IsAtEnd p → AllRead tokens → AreRuns tokens
+    → ((rested : ℕ) → Ends (table p.lexer.names) (lexing p.lexer.lex end_of_text rested) [] tokens) → HandledAll p.builder after tokens → tree ≡ grown after → IsTreeOf built_in page tree
+tree-of law ahead ends page p tokens after tree all at_end read runs left handled is = record {
+  read = record { lexing = h.at; control = c };
+  edits = r.edits;
+  at_end = made_after handle c (singles tokens);
+  runs = record { goes = h.goes; rests = record { no_step = λ q fs e. none q fs (sym (ap (step_by (record { lexing = h.at; control = c })) no_move) ∙ e) } };
+  ends = end-same built_in (record { lexing = h.at; control = c }) (ends built_in there c tokens may end)
+      (record { lexing = record { machine = sym machine ∙ h.alike.machine; unread = sym unread ∙ (sym (append-nil here.unread) ∙ h.alike.unread) }; control = refl });
+  builds = makes-tree (grown p.builder) r.edits (made_after handle c (singles tokens)) (made_after handle_at_once c tokens) tree r.grown (is ∙ handled.grown) (does.made (grown p.builder));
+}
   where
     r : Reads page p
     r = all.ended.reads
@@ -39,11 +50,38 @@ tree-of law page p tokens after tree all at_end ends handled is =
     c : ControlState
     c = control_of p.builder
 
-    end : Ends (table built_in) (lexing p.lexer.lex end_of_text 0) [] tokens
-    end = subst (λ (n : List Reference). Ends (table n) (lexing p.lexer.lex end_of_text 0) [] tokens) r.names (ends 0)
+    here : Lexing
+    here = stands p.lexer p.input
 
-    comes : Comes c tokens
-    comes = together law tokens c handled.read (subst AreRuns (sym end.appends.appended) end.appends.runs) at_end.builder.valid handled.quiet
+    there : Lexing
+    there = lexing p.lexer.lex end_of_text 0
 
-pub end-runs : (names : List Reference) (l : Lexing) (tokens : List Token) → Ends (table names) l [] tokens → AreRuns tokens
-end-runs names l tokens end = subst AreRuns (sym end.appends.appended) end.appends.runs
+    h : HasRead built_in page here [] c r.edits
+    h = subst (λ (t : List ℕ). HasRead built_in page here t c r.edits) all.later r.read
+
+    machine : here.machine ≡ there.machine
+    machine = ap (λ (a : Asked). opened a p.lexer.lex.machine) at_end.asked
+
+    unread : here.unread ≡ there.unread
+    unread = ap (λ (t : List ℕ). p.lexer.lex.ahead ++ t) all.used
+
+    may : may_be_ahead there.machine.state there.unread ≡ true
+    may =
+        subst (λ (m : Machine). may_be_ahead m.state there.unread ≡ true) machine
+        (subst (λ (u : List ℕ). may_be_ahead here.machine.state u ≡ true) unread
+        (ahead page start (record { lexing = r.read.at; control = c }) r.edits here start_valid r.read.goes r.read.alike.machine all.ended.needs))
+
+    end : Ends (table built_in) there [] tokens
+    end = subst (λ (n : List Reference). Ends (table n) there [] tokens) r.names (left 0)
+
+    does : Does c tokens there
+    does = all-together law tokens c there read runs at_end.builder.valid
+
+    none : (q : Parser) (fs : List Edit) → rests ≡ goes q fs → ⊥
+    none q fs e = cc
+
+    no_move : move (table built_in) h.at ≡ needs_more
+    no_move =
+        let is_same : more_unread here [] ≡ here = ap (λ (u : List ℕ). record here { unread = u }) (append-nil here.unread) in
+        let now : move (table built_in) (more_unread here []) ≡ needs_more = ap (move (table built_in)) is_same ∙ all.ended.needs in
+        subst (λ (x : Move). SameMove x (move (table built_in) h.at)) now (move-same built_in (more_unread here []) h.at h.alike)

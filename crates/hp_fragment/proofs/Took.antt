@@ -1,15 +1,12 @@
 -- The tokens of a step.
-use Rattle.std.proofs.Common.{◌≡◌, ℕ, List, [], ◌∷◌, true, false, refl, ap, ◌∙◌, sym, subst, map, Option}
+use Rattle.std.proofs.Common.{◌≡◌, ℕ, List, [], ◌∷◌, refl, ap, ◌∙◌, sym, subst, map, Option}
 use Rattle.hp_elements.specs.declared.token.Rest.{Rest}
 use Rattle.hp_elements.specs.declared.token.Token.{Token}
-use Rattle.hp_elements.specs.declared.token.Token.TheVariants as token
 use Rattle.hp_tokens.specs.Advancing.{AreRuns}
-use Rattle.hp_tokens.specs.Reading.{Unread}
 use Rattle.hp_tokens.specs.Rows.{character}
 use Rattle.hp_control.specs.States.{ControlState, IsValid}
 use Rattle.hp_control.specs.Tree.{Tree, applied_all}
 use Rattle.hp_control.specs.declared.edit.Edit.{Edit}
-use Rattle.hp_lexer.specs.declared.lexer.Lexer.{Lexer}
 use Rattle.hp_model.specs.Whole.{IsRead}
 use Rattle.hp_model.specs.AtOnce.{RunsAtOnce, handle_at_once}
 use Rattle.hp_model.specs.Turns.{left_by}
@@ -17,14 +14,10 @@ use Rattle.hp_steps.specs.Handling.{AllRead, left_after, lexer_after, made_after
 use Rattle.hp_steps.proofs.Lexers.{characters-after}
 use Rattle.hp_steps.proofs.Together.{applied-append}
 use Rattle.hp_fragment.proofs.Toward.{at_once-valid}
-use Rattle.hp_fragment.specs.Building.{control_of, grown, is_start, IsBuilder, HandledOne, HandledAll, HasGrown}
+use Rattle.hp_fragment.specs.Building.{control_of, grown, IsBuilder, HandledOne, HandledAll, HasGrown}
 use Rattle.hp_fragment.specs.Reading.{Took}
 use Rattle.hp_fragment.specs.declared.builder.Builder.{Builder}
 use Rattle.hp_fragment.specs.declared.parsing.Parsing.{Parsing}
-
-pub no-start : (t : Token) → is_start t ≡ false → IsRead t
-no-start (token.Start self_closing tag) h = let no : true ≡ false = h in cc
-no-start _ h = tt
 
 -- a text
 pub took-text : (old new : Parsing) (mid : Builder) (text : List ℕ) → HandledAll old.builder mid (map character text) → HasGrown mid new.builder → new.lexer ≡ old.lexer → new.input ≡ old.input → new.later ≡ old.later

@@ -1,8 +1,7 @@
 -- Tree construction over the tokens of a page, each token at once (13.2.6).
-use Rattle.std.specs.Prelude.{◌≡◌, Bool, true, false, List, map, Option}
+use Rattle.std.specs.Prelude.{◌≡◌, List, map, Option}
 use Rattle.hp_elements.specs.declared.token.Rest.{Rest}
 use Rattle.hp_elements.specs.declared.token.Token.{Token}
-use Rattle.hp_elements.specs.declared.token.Token.TheVariants as token
 use Rattle.hp_control.specs.Apply.{named_edit}
 use Rattle.hp_control.specs.Faithful.{StandsOn, state_over}
 use Rattle.hp_control.specs.Nothing.{nothing}
@@ -11,12 +10,8 @@ use Rattle.hp_control.specs.Tree.{Tree, applied_all}
 use Rattle.hp_views.specs.View.{split_of}
 use Rattle.hp_model.specs.Turns.{left_by}
 use Rattle.hp_model.specs.AtOnce.{handle_at_once}
-use Rattle.hp_steps.specs.Handling.{AllRead, AreQuiet, left_after, made_after}
+use Rattle.hp_steps.specs.Handling.{left_after, made_after}
 use Rattle.hp_fragment.specs.declared.builder.Builder.{Builder}
-
-abbrev pub is_start : Token → Bool
-is_start (token.Start self_closing tag) = true
-is_start _ = false
 
 -- the control state, and the tree once all edits are applied to it
 abbrev pub control_of : Builder → ControlState
@@ -42,12 +37,6 @@ pub record HandledAll (old new : Builder) (ts : List Token) : Type 0 where
   pub control : control_of new ≡ left_after handle_at_once (control_of old) ts
   pub grown : grown new ≡ applied_all (grown old) (made_after handle_at_once (control_of old) ts)
   pub builder : IsBuilder new
-
--- tokens were handled as the lexer reads them, and none called for another state of the lexer
-pub record HandledLast (old new : Builder) (ts : List Token) : Type 0 where
-  pub read : AllRead ts
-  pub quiet : AreQuiet handle_at_once (control_of old) ts
-  pub handled : HandledAll old new ts
 
 -- edits were applied to the tree
 pub record HasGrown (old new : Builder) : Type 0 where

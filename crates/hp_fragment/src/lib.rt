@@ -2,7 +2,6 @@
 #![tactic(auto)]
 
 mod builder;
-mod last;
 mod laws;
 mod parsing;
 mod whole;

@@ -1,11 +1,12 @@
 // A run of the sequential parser over a page.
-ghost use Rattle.std.specs.Prelude.{◌≡◌, ◌≢◌, ◌^◌, ◌<◌, ◌≤◌, ℕ, List, [], ◌∷◌, length, map, true, false, IfOk, OnOk};
+ghost use Rattle.std.specs.Prelude.{◌≡◌, ◌≢◌, ◌^◌, ◌<◌, ◌≤◌, ℕ, List, [], ◌∷◌, length, map, true, false, Some, IfOk, OnOk};
 ghost use Rattle.std.specs.List.{list_all};
 ghost use Rattle.std.specs.Str.{chars};
 ghost use Rattle.hp_names.specs.BuiltIn.{built_in};
 ghost use Rattle.hp_text.specs.Page.{text_of};
 ghost use Rattle.hp_tokens.specs.Advancing.{AreRuns, held};
 ghost use Rattle.hp_tokens.specs.Plain.{none_of};
+ghost use Rattle.hp_tokens.specs.Reading.{first};
 ghost use Rattle.hp_tokens.specs.Rows.{character};
 ghost use Rattle.hp_views.specs.View.{split_of};
 ghost use Rattle.hp_acts.specs.Plain.{takes_text};
@@ -14,18 +15,17 @@ ghost use Rattle.hp_lexer.specs.declared.lexer.Asked.TheVariants as asked;
 ghost use Rattle.hp_model.specs.Whole.{IsRead};
 ghost use Rattle.hp_run.specs.Pages.{IsTreeOf};
 ghost use Rattle.hp_steps.specs.Handling.{AllRead};
-ghost use Rattle.hp_fragment.specs.Building.{IsBuilder, HandledLast};
+ghost use Rattle.hp_fragment.specs.Building.{IsBuilder, HandledAll};
 ghost use Rattle.hp_fragment.specs.Reading.{IsReady, IsAtEnd, IsWithin, Reads, HasEnded, HasReadAll, StepsOn, ReadsOn, TakesPiece, ReadsPiece, Took, TookText, Tried};
 
 use crate::NoMemory;
 use crate::builder::Builder;
-use crate::last::{is_start, of_page};
 use crate::laws::{never_asked, rests_ahead};
 use hp_arena::Tree;
 use hp_control::Control;
 use hp_elements::{Rest, Text, Token, Tokens};
 use hp_lexer::{Cursor, Lexer, Step};
-use hp_pieces::cut;
+use hp_pieces::{cut, of_page};
 use hp_text::Page;
 use hp_tokens::{LexState, Machine, OwnedText};
 use std::alloc::Global;
@@ -162,7 +162,7 @@ impl<'p> Parsing<'p> {
     {
         hp_model::at_once();
         hp_lexer::steps_fall();
-        if !self.builder.takes_text() {
+        if self.is_at_markup() || !self.builder.takes_text() {
             return Ok(false);
         }
         match self.next_text() {
@@ -171,6 +171,17 @@ impl<'p> Parsing<'p> {
                 Ok(true)
             }
             None => Ok(false),
+        }
+    }
+
+    /// Whether `<` comes next, which begins no text.
+    #[inline(always)]
+    fn is_at_markup(&self) -> bool
+        ensures { result ≡ true → first self.now.input.text ≡ Some 60 }
+    {
+        match self.input.front() {
+            Some(b'<') => true,
+            _ => false,
         }
     }
 
@@ -257,6 +268,7 @@ impl<'p> Parsing<'p> {
     }
 
     /// Handles a token, and switches the lexer where it calls for that.
+    #[inline(always)]
     fn handle_one(&mut self, alloc: Global, token: Token<'p>) -> Result<(), NoMemory>
         requires builder { IsBuilder self.old.builder }
         requires read { IsRead token }
@@ -281,6 +293,8 @@ impl<'p> Parsing<'p> {
         ensures { IfOk result (λ tree. (page : List ℕ) → HasReadAll page self.entry → IsTreeOf built_in page tree.branches) }
     {
         hp_model::at_once();
+        hp_pieces::ends_of_text();
+        rests_ahead();
         let Parsing {
             lexer,
             mut builder,
@@ -316,25 +330,21 @@ fn page_lexer() -> Lexer
     }
 }
 
-/// Handles the tokens of the end of input, of which none is a start tag.
+/// Handles the tokens of the end of input. What they call for has no effect, since nothing is read behind them.
 fn handle_last<'p>(
     alloc: Global,
     builder: &mut Builder<'p>,
     tokens: Tokens<'static>,
 ) -> Result<(), NoMemory>
     requires builder { IsBuilder builder.old }
+    requires read { AllRead tokens }
     requires runs { AreRuns tokens }
-    ensures { OnOk result (HandledLast builder.old builder.new tokens.entry) }
+    ensures { OnOk result (HandledAll builder.old builder.new tokens.entry) }
 {
     hp_model::at_once();
     for token in tokens {
-        if is_start(&token) {
-            return Err(NoMemory);
-        }
         let token = of_page(alloc, token)?;
-        if builder.handle_one(alloc, token)?.is_some() {
-            return Err(NoMemory);
-        }
+        let _ = builder.handle_one(alloc, token)?;
     }
     Ok(())
 }

@@ -11,7 +11,7 @@ use Rattle.hp_tokens.specs.declared.state.State.TheVariants.{MarkupDeclarationOp
 use Rattle.hp_control.specs.States.{is_proper_prefix, may_be_ahead}
 use Rattle.hp_steps.specs.Closing.{EndsAtTag}
 
-abbrev has_none : List ℕ → Bool
+abbrev pub has_none : List ℕ → Bool
 has_none xs = list_all (λ c. not (c == 62)) xs
 
 prefix-ends : (f : ℕ → ℕ) → f 62 ≡ 62 → (xs ks ys : List ℕ) → is_proper_prefix (map f xs) ks ≡ true → has_none ks ≡ true → EndsAtTag ys → EndsAtTag (xs ++ ys)

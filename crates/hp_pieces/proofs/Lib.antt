@@ -11,3 +11,6 @@ pub mod SameRuns
 pub mod Joining
 pub mod Ahead
 pub mod Cutting
+pub mod LastRows
+pub mod LastMoves
+pub mod LastTokens

@@ -1,14 +1,19 @@
 -- The laws of runs from known states and of ends of input.
-use Rattle.std.specs.Prelude.{◌≡◌, ℕ, List, ◌++◌, true}
+use Rattle.std.specs.Prelude.{◌≡◌, ℕ, List, [], ◌++◌, true}
+use Rattle.hp_elements.specs.declared.token.Token.{Token}
 use Rattle.hp_names.specs.BuiltIn.{built_in}
+use Rattle.hp_names.specs.References.{Reference}
+use Rattle.hp_tokens.specs.Advancing.{AreRuns, Ends as EndsText, singles}
 use Rattle.hp_tokens.specs.Moves.{Lexing, asks_last_tag, move, needs_more}
 use Rattle.hp_control.specs.declared.edit.Edit.{Edit}
 use Rattle.hp_control.specs.States.{ControlState, IsValid, may_be_ahead, start}
 use Rattle.hp_control.specs.Tree.{applied_all, document}
 use Rattle.hp_lexer.specs.Table.{table}
 use Rattle.hp_model.specs.AtOnce.{MakeSame}
-use Rattle.hp_model.specs.Runs.{Goes, Parser, followed_by, step}
+use Rattle.hp_model.specs.Handling.{handle}
+use Rattle.hp_model.specs.Runs.{EndsWith, Goes, Parser, followed_by, step}
 use Rattle.hp_run.specs.Pages.{IsTreeOf}
+use Rattle.hp_steps.specs.Handling.{AllRead, made_after}
 use Rattle.hp_pieces.specs.Running.{Ends, Leads, parser_in}
 
 -- from each state there is a run over each text
@@ -40,3 +45,12 @@ NeverAsked = (text : List ℕ) (s : ControlState) (p : Parser) (es : List Edit) 
 abbrev pub RestsAhead : Type 0
 RestsAhead = (text : List ℕ) (s : ControlState) (p : Parser) (es : List Edit) (l : Lexing) → IsValid s → Goes (step (table built_in)) (followed_by (parser_in s) text) es p
     → l.machine ≡ p.lexing.machine → move (table built_in) l ≡ needs_more → may_be_ahead l.machine.state l.unread ≡ true
+
+-- the tokens of the end of input are as the lexer reads them
+abbrev pub EndsRead : Type 0
+EndsRead = (names : List Reference) (l : Lexing) (tokens : List Token) → EndsText (table names) l [] tokens → AllRead tokens × AreRuns tokens
+
+-- Handled one behind the other they are the end of the run, whatever they call for: none but the last move emits others than characters, and behind that nothing is read.
+abbrev pub EndsHandled : Type 0
+EndsHandled = (names : List Reference) (l : Lexing) (c : ControlState) (tokens : List Token) → may_be_ahead l.machine.state l.unread ≡ true → EndsText (table names) l [] tokens
+    → EndsWith (table names) (record { lexing = l; control = c }) (made_after handle c (singles tokens))

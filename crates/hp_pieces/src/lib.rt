@@ -6,9 +6,11 @@ mod exact;
 mod fragment;
 mod laws;
 mod pieces;
+mod tokens;
 
 pub use ending::Ending;
 pub use exact::Exact;
 pub use fragment::Fragment;
-pub use laws::runs_between;
+pub use laws::{ends_of_text, runs_between};
 pub use pieces::cut;
+pub use tokens::of_page;

@@ -1,18 +1,16 @@
 -- What the tokens of the end of input do is the end of input.
-use Rattle.std.proofs.Common.{◌≡◌, ℕ, List, [], ◌∷◌, ◌++◌, ◌^◌, refl, ap, ◌∙◌, sym, subst, append-nil, map}
+use Rattle.std.proofs.Common.{◌≡◌, ℕ, List, [], ◌∷◌, ◌++◌, ◌^◌, refl, ap, ◌∙◌, sym, subst, append-nil, map, true}
 use Rattle.std.specs.Prelude.{All}
 use Rattle.std.proofs.lemmas.List.Elements.{All-cons, All-nil}
 use Rattle.hp_elements.specs.declared.token.Token.{Token}
 use Rattle.hp_names.specs.BuiltIn.{built_in}
-use Rattle.hp_names.specs.References.{Reference}
-use Rattle.hp_tokens.specs.Advancing.{AreRuns, Ends as EndsText, end_of_text, lexing, singles, tokens_of}
-use Rattle.hp_tokens.specs.Moves.{Lexing}
+use Rattle.hp_tokens.specs.Advancing.{AreRuns, Ends as EndsText, end_of_text, lexing, singles}
 use Rattle.hp_tokens.specs.declared.lexing.LexState.{LexState}
 use Rattle.hp_control.specs.Apply.{named, named_child, named_edit, named_place}
 use Rattle.hp_control.specs.Edits.{IsFixed, IsFixedChild, IsFixedEdit, IsFixedPlace}
 use Rattle.hp_control.specs.Faithful.{Split}
 use Rattle.hp_control.specs.Nothing.{nothing}
-use Rattle.hp_control.specs.States.{ControlState, IsValid, lex_start}
+use Rattle.hp_control.specs.States.{ControlState, IsValid, lex_start, may_be_ahead}
 use Rattle.hp_control.specs.Tree.{applied_all}
 use Rattle.hp_control.specs.declared.edit.Child.{Child}
 use Rattle.hp_control.specs.declared.edit.Child.TheVariants as child
@@ -27,13 +25,11 @@ use Rattle.hp_lexer.specs.declared.lexer.Lexer.{Lexer}
 use Rattle.hp_lexer.specs.Table.{table}
 use Rattle.hp_model.specs.AtOnce.{RunsAtOnce, handle_at_once}
 use Rattle.hp_model.specs.Handling.{handle}
-use Rattle.hp_model.specs.Runs.{EndsWith}
-use Rattle.hp_steps.proofs.Began.{tokens-append}
-use Rattle.hp_steps.proofs.Ending.{end-goes}
-use Rattle.hp_steps.proofs.Together.{Comes, together}
-use Rattle.hp_steps.specs.Handling.{AreQuiet, made_after}
+use Rattle.hp_steps.proofs.Turning.{Does, all-together}
+use Rattle.hp_steps.specs.Handling.{AllRead, made_after}
 use Rattle.hp_pieces.proofs.SameRuns.{end-same}
 use Rattle.hp_pieces.specs.Fragments.{IsEnd}
+use Rattle.hp_pieces.specs.Laws.{EndsHandled}
 use Rattle.hp_pieces.specs.Running.{parser_in}
 use Rattle.hp_replay.specs.Collecting.{CollectsAll, control_of, edits_of}
 
@@ -64,28 +60,18 @@ pub told-fixed : (es : List Edit) → All IsFixedEdit (map (named_edit nothing) 
 told-fixed [] = All-nil IsFixedEdit
 told-fixed (e ∷ es) = All-cons IsFixedEdit (named_edit nothing e) (map (named_edit nothing) es) (edit-fixed e) (told-fixed es)
 
--- the moves of the end are an end of the run
-ends-run : (l : Lexing) (c : ControlState) (tokens : List Token) → EndsText (table built_in) l [] tokens → AreQuiet handle c (singles tokens)
-    → EndsWith (table built_in) (record { lexing = l; control = c }) (made_after handle c (singles tokens))
-ends-run l c tokens end q = subst (λ (ts : List Token). EndsWith (table built_in) (record { lexing = l; control = c }) (made_after handle c ts)) all way
-  where
-    all : tokens_of end.first ++ tokens_of end.rest ≡ singles tokens
-    all = sym (tokens-append end.first end.rest) ∙ (sym end.appends.spelled ∙ ap singles (sym end.appends.appended))
-
-    way : EndsWith (table built_in) (record { lexing = l; control = c }) (made_after handle c (tokens_of end.first ++ tokens_of end.rest))
-    way = end-goes (table built_in) c end.rest end.leads end.ended (subst (AreQuiet handle c) (sym all) q)
-
-pub ending_is : RunsAtOnce → (s : ControlState) (v w : Split) (tokens : List Token) (edits : List Edit) → IsValid (record s { lex = lex_start }) → control_of v ≡ record s { lex = lex_start } → v.edits ≡ []
-    → ((rested : ℕ) → EndsText (table built_in) (lexing s.lex end_of_text rested) [] tokens) → CollectsAll v w tokens → edits ≡ edits_of w → IsEnd (record { entry = s; edits = edits })
-ending_is law s v w tokens edits valid is none left handled told = record {
+pub ending_is : RunsAtOnce → EndsHandled → (s : ControlState) (v w : Split) (tokens : List Token) (edits : List Edit) → IsValid s → IsValid (record s { lex = lex_start }) → control_of v ≡ record s { lex = lex_start } → v.edits ≡ []
+    → AllRead tokens → AreRuns tokens → ((rested : ℕ) → EndsText (table built_in) (lexing s.lex end_of_text rested) [] tokens) → CollectsAll v w tokens → edits ≡ edits_of w
+    → IsEnd (record { entry = s; edits = edits })
+ending_is law ends s v w tokens edits kept valid is none read runs left handled told = record {
   ends = record {
     made = made_after handle c (singles tokens);
-    ends = end-same built_in (parser_in s) (ends-run (lexing s.lex end_of_text 0) c tokens (left 0) comes.quiet) (record { lexing = record { machine = refl; unread = append-nil s.lex.ahead }; control = refl });
+    ends = end-same built_in (parser_in s) (ends built_in (lexing s.lex end_of_text 0) c tokens ahead (left 0)) (record { lexing = record { machine = refl; unread = append-nil s.lex.ahead }; control = refl });
     same = λ tree.
         ap (applied_all tree) told
         ∙ (handled.edits tree
         ∙ (ap (λ (es : List Edit). applied_all tree (es ++ made_after handle_at_once (control_of v) tokens)) (ap (map (named_edit nothing)) none)
-        ∙ (ap (λ (d : ControlState). applied_all tree (made_after handle_at_once d tokens)) is ∙ sym (comes.made tree))));
+        ∙ (ap (λ (d : ControlState). applied_all tree (made_after handle_at_once d tokens)) is ∙ sym (does.made tree))));
   };
   fixed = subst (All IsFixedEdit) (sym told) (told-fixed w.edits);
 }
@@ -93,11 +79,11 @@ ending_is law s v w tokens edits valid is none left handled told = record {
     c : ControlState
     c = record s { lex = lex_start }
 
-    comes : Comes c tokens
-    comes = together law tokens c handled.read (subst AreRuns (sym (left 0).appends.appended) (left 0).appends.runs) valid (subst (λ (d : ControlState). AreQuiet handle_at_once d tokens) is handled.quiet)
+    ahead : may_be_ahead s.lex.machine.state (s.lex.ahead ++ []) ≡ true
+    ahead = ap (may_be_ahead s.lex.machine.state) (append-nil s.lex.ahead) ∙ kept.lex.ahead
 
-pub end-runs : (names : List Reference) (l : Lexing) (tokens : List Token) → EndsText (table names) l [] tokens → AreRuns tokens
-end-runs names l tokens end = subst AreRuns (sym end.appends.appended) end.appends.runs
+    does : Does c tokens (lexing s.lex end_of_text 0)
+    does = all-together law tokens c (lexing s.lex end_of_text 0) read runs valid
 
 -- the lexer over the built-in names, from a state
 pub named-ends : (lexer : Lexer) (lex own : LexState) (tokens : List Token) → lexer ≡ record { lex = lex; names = built_in; asked = asked.Nothing; rested = 2 ^ 32 } → lex ≡ own

@@ -1,9 +1,7 @@
 -- Tokens that are handled one behind the other.
-use Rattle.std.proofs.Common.{◌≡◌, List, [], ◌∷◌, ◌++◌, true, false, refl, ap, ◌∙◌, sym, subst, append_assoc, append-nil, map, Option, None, Some}
-use Rattle.std.specs.Prelude.{is_some}
+use Rattle.std.proofs.Common.{◌≡◌, List, [], ◌∷◌, ◌++◌, refl, ap, ◌∙◌, sym, subst, append_assoc, append-nil, map, Option}
 use Rattle.hp_elements.specs.declared.token.Rest.{Rest}
 use Rattle.hp_elements.specs.declared.token.Token.{Token}
-use Rattle.hp_elements.specs.declared.token.Token.TheVariants as token
 use Rattle.hp_tokens.specs.Advancing.{AreRuns}
 use Rattle.hp_control.specs.Faithful.{Split}
 use Rattle.hp_control.specs.States.{ControlState, IsValid}
@@ -13,21 +11,20 @@ use Rattle.hp_model.proofs.Handled.{handle-valid}
 use Rattle.hp_model.specs.AtOnce.{MakeSame, RunsAtOnce, handle_at_once}
 use Rattle.hp_model.specs.Turns.{left_by}
 use Rattle.hp_model.specs.Whole.{IsRead}
-use Rattle.hp_steps.specs.Handling.{AllRead, AreQuiet, left_after, made_after}
+use Rattle.hp_steps.specs.Handling.{AllRead, left_after, made_after}
 use Rattle.hp_steps.proofs.Together.{applied-append}
-use Rattle.hp_replay.specs.Collecting.{Collects, CollectsAll, IsKnown, control_of, edits_of, is_start}
+use Rattle.hp_replay.specs.Collecting.{Collects, CollectsAll, IsKnown, control_of, edits_of}
 
 -- what is left to do leads to what all tokens do
 pub record Toward (start now : Split) (tokens rest : List Token) : Type 0 where
-  pub read : AllRead rest → AllRead tokens
+  pub read : AllRead rest
   pub runs : AreRuns rest
   pub known : IsKnown now
-  pub quiet : AreQuiet handle_at_once (control_of now) rest → AreQuiet handle_at_once (control_of start) tokens
   pub control : left_after handle_at_once (control_of now) rest ≡ left_after handle_at_once (control_of start) tokens
   pub edits : MakeSame (edits_of now ++ made_after handle_at_once (control_of now) rest) (edits_of start ++ made_after handle_at_once (control_of start) tokens)
 
-pub toward_start : (v : Split) (tokens : List Token) → IsKnown v → AreRuns tokens → Toward v v tokens tokens
-toward_start v tokens h runs = record { read = λ r. r; runs = runs; known = h; quiet = λ q. q; control = refl; edits = λ t. refl }
+pub toward_start : (v : Split) (tokens : List Token) → IsKnown v → AllRead tokens → AreRuns tokens → Toward v v tokens tokens
+toward_start v tokens h read runs = record { read = read; runs = runs; known = h; control = refl; edits = λ t. refl }
 
 -- a token at once leaves a valid state
 pub at_once-valid : RunsAtOnce → (t : Token) (c : ControlState) → IsRead t → AreRuns (t ∷ []) → IsValid c → IsValid (left_by (handle_at_once c t))
@@ -37,13 +34,12 @@ at_once-valid law t c read runs v = subst IsValid (law t c read runs.0 v).contro
 pub same-behind : (es fs gs : List Edit) → MakeSame es fs → MakeSame (es ++ gs) (fs ++ gs)
 same-behind es fs gs h t = applied-append t es gs ∙ (ap (λ (x : Tree). applied_all x gs) (h t) ∙ sym (applied-append t fs gs))
 
-pub toward_on : RunsAtOnce → (start now next : Split) (tokens before rest : List Token) (t : Token) → Toward start now tokens before → before ≡ t ∷ rest → IsRead t → Collects now next t None
+pub toward_on : RunsAtOnce → (start now next : Split) (tokens before rest : List Token) (t : Token) (to : Option Rest) → Toward start now tokens before → before ≡ t ∷ rest → Collects now next t to
     → Toward start next tokens rest
-toward_on law start now next tokens before rest t h is read one = record {
-  read = λ r. here.read (read, r);
+toward_on law start now next tokens before rest t to h is one = record {
+  read = here.read.1;
   runs = here.runs.1;
-  known = record { stands = one.stands; valid = subst IsValid (sym one.control) (at_once-valid law t (control_of now) read (here.runs.0, tt) here.known.valid) };
-  quiet = λ q. here.quiet (sym one.switch, subst (λ (c : ControlState). AreQuiet handle_at_once c rest) one.control q);
+  known = record { stands = one.stands; valid = subst IsValid (sym one.control) (at_once-valid law t (control_of now) here.read.0 (here.runs.0, tt) here.known.valid) };
   control = ap (λ (c : ControlState). left_after handle_at_once c rest) one.control ∙ here.control;
   edits = λ tree.
       ap (λ (c : ControlState). applied_all tree (edits_of next ++ made_after handle_at_once c rest)) one.control
@@ -62,8 +58,6 @@ toward_on law start now next tokens before rest t h is read one = record {
 
 pub toward_end : (start now : Split) (tokens rest : List Token) → Toward start now tokens rest → rest ≡ [] → CollectsAll start now tokens
 toward_end start now tokens rest h is = record {
-  read = here.read tt;
-  quiet = here.quiet tt;
   control = here.control;
   edits = λ tree. ap (λ (es : List Edit). applied_all tree es) (sym (append-nil (edits_of now))) ∙ here.edits tree;
   known = here.known;
@@ -71,15 +65,6 @@ toward_end start now tokens rest h is = record {
   where
     here : Toward start now tokens []
     here = subst (Toward start now tokens) is h
-
-pub none_told : (o : Option Rest) → is_some o ≡ false → o ≡ None
-none_told None h = refl
-none_told (Some rest) h = let no : true ≡ false = h in cc
-
--- a token that is no start tag is one as the lexer reads it
-pub other_read : (t : Token) → is_start t ≡ false → IsRead t
-other_read (token.Start self_closing tag) h = let no : true ≡ false = h in cc
-other_read _ h = tt
 
 -- more edits told
 pub told_on : (f : Edit → Edit) (old new before rest all : List Edit) (edit told : Edit) → old ++ map f before ≡ all → before ≡ edit ∷ rest → told ≡ f edit → new ≡ old ++ told ∷ [] → new ++ map f rest ≡ all

@@ -1,8 +1,7 @@
 -- Tree construction whose edits are kept, each token at once (13.2.6).
-use Rattle.std.specs.Prelude.{◌≡◌, Bool, true, false, List, ◌++◌, map, Option}
+use Rattle.std.specs.Prelude.{◌≡◌, List, ◌++◌, map, Option}
 use Rattle.hp_elements.specs.declared.token.Rest.{Rest}
 use Rattle.hp_elements.specs.declared.token.Token.{Token}
-use Rattle.hp_elements.specs.declared.token.Token.TheVariants as token
 use Rattle.hp_control.specs.Apply.{named_edit}
 use Rattle.hp_control.specs.Faithful.{Split, StandsOn, state_over}
 use Rattle.hp_control.specs.Nothing.{nothing}
@@ -10,11 +9,7 @@ use Rattle.hp_control.specs.States.{ControlState, IsValid}
 use Rattle.hp_control.specs.declared.edit.Edit.{Edit}
 use Rattle.hp_model.specs.AtOnce.{MakeSame, handle_at_once}
 use Rattle.hp_model.specs.Turns.{left_by}
-use Rattle.hp_steps.specs.Handling.{AllRead, AreQuiet, left_after, made_after}
-
-abbrev pub is_start : Token → Bool
-is_start (token.Start self_closing tag) = true
-is_start _ = false
+use Rattle.hp_steps.specs.Handling.{left_after, made_after}
 
 -- the control state that a view is, and its edits with each element told by its id
 abbrev pub control_of : Split → ControlState
@@ -35,10 +30,8 @@ pub record Collects (old new : Split) (t : Token) (to : Option Rest) : Type 0 wh
   pub switch : to ≡ (handle_at_once (control_of old) t).switch
   pub stands : StandsOn nothing new
 
--- tokens were handled as the lexer reads them, and none called for another state of the lexer
+-- tokens were handled
 pub record CollectsAll (old new : Split) (ts : List Token) : Type 0 where
-  pub read : AllRead ts
-  pub quiet : AreQuiet handle_at_once (control_of old) ts
   pub control : control_of new ≡ left_after handle_at_once (control_of old) ts
   pub edits : MakeSame (edits_of new) (edits_of old ++ made_after handle_at_once (control_of old) ts)
   pub known : IsKnown new

@@ -15,6 +15,7 @@ pub fn ending<'p>(alloc: Global, from: &Control) -> Result<Ending<'p>, NoMemory>
     ensures { IfOk result (λ ending. ending.entry ≡ from.now) }
 {
     hp_model::at_once();
+    hp_pieces::ends_of_text();
     let entry = from.copy(alloc)?;
     entry.is_kept();
     let (control, lex) = apart(from.copy(alloc)?);

@@ -5,13 +5,14 @@ ghost use Rattle.hp_control.specs.Composed.{is_foreign_now};
 ghost use Rattle.hp_control.specs.States.{lex_start};
 ghost use Rattle.hp_model.specs.Whole.{IsRead};
 ghost use Rattle.hp_views.specs.View.{split_of};
+ghost use Rattle.hp_steps.specs.Handling.{AllRead};
 ghost use Rattle.hp_replay.specs.Collecting.{control_of, Collects, CollectsAll, IsKnown};
 
 use crate::NoMemory;
-use crate::tokens::{is_start, of_page};
 use hp_acts::handle;
 use hp_control::{Control, Nothing};
 use hp_elements::{Rest, Token, Tokens};
+use hp_pieces::of_page;
 use hp_tokens::LexState;
 use hp_views::View;
 use std::alloc::Global;
@@ -80,25 +81,21 @@ pub(crate) fn is_foreign<'p>(alloc: Global, view: &mut View<'p, Nothing>) -> Res
     view.foreign_now(alloc)
 }
 
-/// Handles the tokens of the end of input, of which none is a start tag.
+/// Handles the tokens of the end of input. What they call for has no effect, since nothing is read behind them.
 pub(crate) fn collect_last<'p>(
     alloc: Global,
     view: &mut View<'p, Nothing>,
     tokens: Tokens<'static>,
 ) -> Result<(), NoMemory>
     requires known { IsKnown (split_of view.old) }
+    requires read { AllRead tokens }
     requires runs { AreRuns tokens }
     ensures { OnOk result (CollectsAll (split_of view.old) (split_of view.new) tokens.entry) }
 {
     hp_model::at_once();
     for token in tokens {
-        if is_start(&token) {
-            return Err(NoMemory);
-        }
         let token = of_page(alloc, token)?;
-        if collect(alloc, view, token)?.is_some() {
-            return Err(NoMemory);
-        }
+        let _ = collect(alloc, view, token)?;
     }
     Ok(())
 }

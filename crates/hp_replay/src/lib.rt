@@ -6,7 +6,6 @@ mod collecting;
 mod laws;
 mod replaying;
 mod running;
-mod tokens;
 mod told;
 
 pub use at_end::ending;

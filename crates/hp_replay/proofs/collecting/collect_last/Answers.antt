@@ -1,33 +1,33 @@
-use Rattle.std.proofs.Common.{rules, sym, subst, ◌∙◌, Option, None}
-use Rattle.hp_elements.specs.declared.token.Rest.{Rest}
+use Rattle.std.proofs.Common.{rules, sym, subst}
 use Rattle.hp_elements.specs.declared.token.Token.{Token}
 use Rattle.hp_model.specs.Whole.{IsRead}
 use Rattle.hp_views.specs.View.{split_of}
 use Rattle.hp_replay.specs.Collecting.{Collects}
-use Rattle.hp_replay.proofs.Toward.{Toward, none_told, other_read, toward_end, toward_on, toward_start}
+use Rattle.hp_replay.proofs.Toward.{Toward, next_read, toward_end, toward_on, toward_start}
 use Rattle.hp_replay.proofs.collecting.collect_last.Goals as goal
 
 pub loop-token-init : goal.loop-token-init
 loop-token-init c = (
   tt,
   tt,
-  subst (Toward (split_of c.args.view.now) (split_of c.args.view.now) c.args.tokens) (sym c.into_iter-token-iterator.ensures.into_iter_gives) (toward_start (split_of c.args.view.now) c.args.tokens c.requires.known c.requires.runs),
+  subst (Toward (split_of c.args.view.now) (split_of c.args.view.now) c.args.tokens) (sym c.into_iter-token-iterator.ensures.into_iter_gives)
+      (toward_start (split_of c.args.view.now) c.args.tokens c.requires.known c.requires.read c.requires.runs),
 )
 
 pub collect-requires-clause-known : goal.collect-requires-clause-known
 collect-requires-clause-known c = c.loop-token.invariant.2.known
 
 pub collect-requires-clause-read : goal.collect-requires-clause-read
-collect-requires-clause-read c = subst IsRead (sym c.in_ok-token.ensures) (other_read c.in-Some.token (sym c.is_start.ensures ∙ c.if-is_start.false))
+collect-requires-clause-read c =
+    subst IsRead (sym c.in_ok-token.ensures) (next_read c.loop-token.token-iterator c.next.new.self c.in-Some.token c.loop-token.invariant.2.read (search rules)).0
 
 pub loop-token-preserved : goal.loop-token-preserved
 loop-token-preserved c =
-    let P : Option Rest → Type 0 = λ o. Collects (split_of c.loop-token.view) (split_of c.collect.new.view) c.in_ok-token.token o in
-    let Q : Token → Type 0 = λ t. Collects (split_of c.loop-token.view) (split_of c.collect.new.view) t None in (
+    let P : Token → Type 0 = λ t. Collects (split_of c.loop-token.view) (split_of c.collect.new.view) t c.in_ok-collect.field-0 in (
       tt,
       tt,
-      toward_on c.at_once.ensures.token (split_of c.args.view.now) (split_of c.loop-token.view) (split_of c.collect.new.view) c.args.tokens c.loop-token.token-iterator c.next.new.self c.in-Some.token c.loop-token.invariant.2
-          (search rules) (other_read c.in-Some.token (sym c.is_start.ensures ∙ c.if-is_start.false)) (subst Q c.in_ok-token.ensures (subst P (none_told c.in_ok-collect.field-0 (sym c.is_some.ensures ∙ c.if-is_some.false)) c.in_ok-collect.ensures)),
+      toward_on c.at_once.ensures.token (split_of c.args.view.now) (split_of c.loop-token.view) (split_of c.collect.new.view) c.args.tokens c.loop-token.token-iterator c.next.new.self c.in-Some.token
+          c.in_ok-collect.field-0 c.loop-token.invariant.2 (search rules) (subst P c.in_ok-token.ensures c.in_ok-collect.ensures),
     )
 
 pub returns : goal.returns

@@ -1,9 +1,14 @@
-use Rattle.hp_fragment.proofs.Ended.{end-runs, tree-of}
+use Rattle.hp_fragment.proofs.Ended.{tree-of}
 use Rattle.hp_fragment.proofs.parsing.Parsing.end.Goals as goal
 
+pub handle_last-requires-clause-read : goal.handle_last-requires-clause-read
+handle_last-requires-clause-read c = (c.ends_of_text.ensures.read _ _ c.in_ok-tokens.tokens (c.in_ok-tokens.ensures 0)).0
+
 pub handle_last-requires-clause-runs : goal.handle_last-requires-clause-runs
-handle_last-requires-clause-runs c = end-runs _ _ _ (c.in_ok-tokens.ensures 0)
+handle_last-requires-clause-runs c = (c.ends_of_text.ensures.read _ _ c.in_ok-tokens.tokens (c.in_ok-tokens.ensures 0)).1
 
 pub returns : goal.returns
 returns c = λ page all.
-    tree-of c.at_once.ensures.token page c.args.self c.in_ok-tokens.tokens c.handle_last.new.builder c.in_ok-tree.tree.branches all c.requires.at_end c.in_ok-tokens.ensures c.in_ok-handle_last.ensures c.in_ok-tree.ensures
+    let read = c.ends_of_text.ensures.read _ _ c.in_ok-tokens.tokens (c.in_ok-tokens.ensures 0) in
+    tree-of c.at_once.ensures.token c.rests_ahead.ensures c.ends_of_text.ensures.handled page c.args.self c.in_ok-tokens.tokens c.handle_last.new.builder c.in_ok-tree.tree.branches all c.requires.at_end read.0 read.1
+    c.in_ok-tokens.ensures c.in_ok-handle_last.ensures c.in_ok-tree.ensures

@@ -1,20 +1,11 @@
-// What is asked of a token, and the tokens of the end of input as tokens of the page.
+//! Tokens of the end of input as tokens of a page.
 ghost use Rattle.std.specs.Prelude.{◌≡◌, IfOk};
-ghost use Rattle.hp_replay.specs.Collecting.{is_start};
 
-use crate::NoMemory;
-use hp_elements::{Doctype, DoctypeParts, Text, Token};
+use hp_elements::{Doctype, DoctypeParts, NoMemory, Text, Token};
 use std::alloc::Global;
 
-/// Whether the token is a start tag.
-pub(crate) fn is_start(token: &Token<'_>) -> bool
-    ensures { result ≡ is_start token.now }
-{
-    matches!(token, Token::Start { .. })
-}
-
 /// The same token for a page of any life. Its texts are copied, which is done once a page, at its end.
-pub(crate) fn of_page<'p>(alloc: Global, token: Token<'static>) -> Result<Token<'p>, NoMemory>
+pub fn of_page<'p>(alloc: Global, token: Token<'static>) -> Result<Token<'p>, NoMemory>
     ensures { IfOk result (λ own. own ≡ token.entry) }
 {
     match token {
