@@ -1,12 +1,18 @@
 -- A plan, and then another from where it led.
-use Rattle.std.proofs.Common.{◌≡◌, Result, Ok, Err, subst, sym}
+use Rattle.std.proofs.Common.{◌≡◌, ℕ, false, true, List, [], ◌∷◌, Result, Ok, Err, ap, subst, sym}
+use Rattle.std.specs.Prelude.{◌==◌, length}
+use Rattle.std.specs.List.{list_all}
 use Rattle.std.specs.Result.{IsErrAnd}
 use Rattle.hp_control.specs.declared.change.Refusal.{Refusal}
 use Rattle.hp_control.specs.declared.change.Refusal.TheVariants.{Crossed, NoMemory}
+use Rattle.hp_control.specs.declared.edit.Child.TheVariants as child
+use Rattle.hp_control.specs.Composed.{is_white}
 use Rattle.hp_control.specs.Faithful.{Split}
 use Rattle.hp_control.specs.Plan.{Plan, followed_by, Runs}
 use Rattle.hp_control.specs.Running.{runs_then, runs_crosses}
+use Rattle.hp_views.specs.PlacePlans.{put_plan}
 use Rattle.hp_views.specs.View.{Sight, Carries}
+use Rattle.hp_adoption.specs.FlushPlans.{flush_by, flush_text}
 
 pub carries_next : (result : Result (Unit {0}) Refusal) (old mid new : Sight) (p q : Split → Plan Split) → Runs old.heard mid.heard (p old.split) (Ok mid.split) → Carries result mid new q → Carries result old new (λ v. followed_by (p v) q)
 carries_next (Ok u) old mid new p q r k = runs_then q r k
@@ -27,3 +33,8 @@ pub carries_as : (result : Result (Unit {0}) Refusal) (old new : Sight) (p q : S
 carries_as (Ok u) old new p q e run = let P : Plan Split → Type 0 = λ x. Runs old.heard new.heard x (Ok new.split) in subst P e run
 carries_as (Err (Crossed crossing)) old new p q e run = let P : Plan Split → Type 0 = λ x. Runs old.heard new.heard x (Err crossing) in subst P e run
 carries_as (Err NoMemory) old new p q e run = tt
+
+-- white characters go to the current node, all of them
+pub white_flushed : (result : Result (Unit {0}) Refusal) (old new : Sight) (text : List ℕ) → (length text == 0) ≡ false → list_all is_white text ≡ true → Carries result old new (put_plan false (child.Text text)) → Carries result old new (flush_text text)
+white_flushed result old new [] e w k = absurd (cc)
+white_flushed result old new (c ∷ cs) e w k = carries_as result old new (put_plan false (child.Text (c ∷ cs))) (flush_text (c ∷ cs)) (ap (flush_by (c ∷ cs) old.split) (sym w)) k

@@ -1,5 +1,5 @@
 //! The pending table characters go into the tree (13.2.6.4.10).
-ghost use Rattle.std.specs.Prelude.{◌≡◌, ◌==◌, length};
+ghost use Rattle.std.specs.Prelude.{◌≡◌};
 ghost use Rattle.std.specs.List.{list_all};
 ghost use Rattle.hp_control.specs.Composed.{is_white as spec_is_white};
 ghost use Rattle.hp_views.specs.View.{sight, Carries};
@@ -58,13 +58,6 @@ fn foster<'p, B: Below>(
     put_fostered(alloc, view, text)
 }
 
-/// Whether no character is pending. White characters are pending as well.
-fn is_nothing(text: &Text<'_>) -> bool
-    ensures { result ≡ (length text.now == 0) }
-{
-    text.is_empty()
-}
-
 /// Puts characters into the tree.
 fn put_text<'p, B: Below>(
     alloc: Global,
@@ -73,7 +66,7 @@ fn put_text<'p, B: Below>(
 ) -> Result<(), Refusal>
     ensures { Carries result (sight B.heard view.old) (sight B.heard view.new) (flush_text text.entry) }
 {
-    if is_nothing(&text) {
+    if text.is_empty() {
         Ok(())
     } else if are_white(&text) {
         view.put(alloc, false, Child::Text(text))

@@ -171,8 +171,9 @@ fn crosses(kind: EntryKind, stack: &OpenElements) -> bool
     ensures { result ≡ changes_older stack.now kind }
 {
     match kind {
-        EntryKind::Absent | EntryKind::Hidden => false,
+        EntryKind::Absent => false,
         EntryKind::Closed => true,
+        EntryKind::Hidden => false,
         EntryKind::InScope => !hides(stack, stack.len()),
     }
 }
