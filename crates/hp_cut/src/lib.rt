@@ -11,6 +11,3 @@ pub use cutters::{cuts_at_tags, cuts_by_size};
 pub use cutting::Cuts;
 pub use hp_text::NoMemory;
 pub use listed::{CutRefusal, cuts_listed};
-
-#[cfg(test)]
-mod tests;

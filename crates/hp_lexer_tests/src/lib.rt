@@ -8,6 +8,8 @@ mod lexer;
 #[cfg(test)]
 mod markup;
 #[cfg(test)]
+mod names;
+#[cfg(test)]
 mod raw;
 #[cfg(test)]
 mod tags;

@@ -5,9 +5,6 @@ ghost use Rattle.std.specs.Prelude.{◌≡◌, ◌<◌, ◌≤◌, IfOk, length}
 ghost use Rattle.hp_make.specs.Pages as pages;
 ghost use Rattle.hp_make.specs.Pages.{IsPage};
 
-#[cfg(test)]
-mod tests;
-
 pub use std::alloc::AllocError as NoMemory;
 use std::alloc::Global;
 

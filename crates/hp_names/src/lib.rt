@@ -4,8 +4,6 @@
 mod names;
 mod search;
 mod table;
-#[cfg(test)]
-mod tests;
 mod values;
 
 pub use names::{Found, Names};

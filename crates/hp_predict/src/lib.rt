@@ -7,8 +7,6 @@ mod pile;
 mod prescan;
 mod quiet;
 mod tags;
-#[cfg(test)]
-mod tests;
 
 pub use hp_elements::NoMemory;
 pub use prescan::Prescan;

@@ -3,8 +3,6 @@
 
 mod acts;
 mod numbers;
-#[cfg(test)]
-mod tests;
 
 ghost use Rattle.std.specs.Prelude.{◌≡◌, [], true, IfSome, is_some, unwrap_or};
 ghost use Rattle.hp_elements.specs.Rules.{acts_for, acts_numbered, nests_within};

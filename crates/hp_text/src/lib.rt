@@ -17,6 +17,3 @@ pub use reading::{PAGE_LIMIT, ReadRefusal, read_page};
 pub use std::alloc::AllocError as NoMemory;
 pub use streams::{StreamSink, StreamSource, TellingRead, TellingWrite};
 pub use writing::{WriteFault, write_whole};
-
-#[cfg(test)]
-mod tests;

@@ -1,5 +1,7 @@
 //! Every name and every replaced value against an independent reader's lists, and what the standard's own examples find.
-use crate::{Found, Names, numeric};
+use hp_names::{Found, Names, numeric};
+use std::alloc::{AllocError, Global};
+use std::process::Abort;
 use std::test::Fail;
 
 /// Each name with its code point in hexadecimal digits, in the order of bytes; the lists of tools/reference_names.py.
@@ -58,90 +60,131 @@ fn parts(row: &str) -> Result<(&str, u32), Fail> {
     Ok((left, u32::from_str_radix(digits, 16)?))
 }
 
-#[test]
-fn finds_each_name(rt: HostRuntime) -> Result<(), Fail> {
+/// Whether a name is found, alone and before other bytes.
+fn is_found(alloc: Global, names: &Names, name: &str, first: char) -> Result<bool, AllocError> {
+    let mut text = name.as_bytes().to_vec(alloc)?;
+    let alone = names.longest(&text) == found(name, first);
+    text.extend_from_slice(b"!x")?;
+    Ok(alone && names.longest(&text) == found(name, first))
+}
+
+/// Looks for the names of a list, and answers how many there were.
+fn find_all(rt: &impl Abort, alloc: Global, rows: &str) -> Result<u64, Fail> {
     let names = Names::built_in();
-    for row in NAMES.split(',') {
+    let mut count: u64 = 0;
+    for row in rows.split(',') {
         let (name, code) = parts(row)?;
         let first = char::from_u32(code).ok_or("no code point")?;
-        let mut text = name.as_bytes().to_vec(rt.alloc())?;
-        assert_eq!(rt; names.longest(&text), found(name, first), "{name}");
-        text.extend_from_slice(b"!x")?;
-        assert_eq!(rt; names.longest(&text), found(name, first), "{name}!x");
+        assert!(rt; is_found(alloc, &names, name, first)?, "{name}");
+        count = count.saturating_add(1);
     }
-    assert_eq!(rt; NAMES.split(',').count(), 365);
+    Ok(count)
+}
+
+#[test]
+fn finds_each_name(rt: HostRuntime) -> Result<(), Fail> {
+    assert!(rt; find_all(&rt, rt.alloc(), NAMES)? == 365);
     Ok(())
+}
+
+/// A text, the longest name that it begins with, and what that stands for.
+const LONGEST: &[(&str, &str, char)] = &[
+    ("notin;", "notin;", '\u{2209}'),
+    ("notit;", "not", '\u{ac}'),
+    ("not", "not", '\u{ac}'),
+    ("not;in", "not;", '\u{ac}'),
+    ("ampamp;", "amp", '&'),
+    ("copy=1", "copy", '\u{a9}'),
+    ("sup1x", "sup1", '\u{b9}'),
+    ("thetasym;", "thetasym;", '\u{3d1}'),
+];
+
+/// Texts that begin with no name.
+const WITHOUT: &[&str] = &["", "b=2", "foo;", "No;", "nosuch", "\u{e9}"];
+
+fn compare_longest(rt: &impl Abort, cases: &[(&str, &str, char)], without: &[&str]) {
+    let names = Names::built_in();
+    for (text, name, first) in cases {
+        let longest = names.longest(text.as_bytes());
+        assert!(rt; longest == found(name, *first), "{text}");
+    }
+    for text in without {
+        assert!(rt; names.longest(text.as_bytes()).is_none(), "{text}");
+    }
 }
 
 #[test]
 fn finds_the_longest_name(rt: HostRuntime) {
+    compare_longest(&rt, LONGEST, WITHOUT);
+}
+
+/// A text, whether its longest name may still change, and whether more text is needed to tell it.
+const GROWING: &[(&str, bool, bool)] = &[
+    ("", true, true),
+    ("n", true, true),
+    ("not", true, true),
+    ("noti", true, true),
+    ("notin", true, true),
+    ("notin;", false, false),
+    ("notit", false, false),
+    ("amp;", false, false),
+    ("b=", false, false),
+    ("zzz", false, false),
+];
+
+fn compare_growing(rt: &impl Abort, cases: &[(&str, bool, bool)]) {
     let names = Names::built_in();
-    for (text, name, first) in [
-        ("notin;", "notin;", '\u{2209}'),
-        ("notit;", "not", '\u{ac}'),
-        ("not", "not", '\u{ac}'),
-        ("not;in", "not;", '\u{ac}'),
-        ("ampamp;", "amp", '&'),
-        ("copy=1", "copy", '\u{a9}'),
-        ("sup1x", "sup1", '\u{b9}'),
-        ("thetasym;", "thetasym;", '\u{3d1}'),
-    ] {
-        assert_eq!(rt;
-            names.longest(text.as_bytes()),
-            found(name, first),
-            "{text}"
-        );
-    }
-    for text in ["", "b=2", "foo;", "No;", "nosuch", "\u{e9}"] {
-        assert_eq!(rt; names.longest(text.as_bytes()), None, "{text}");
+    for (text, grows, open) in cases {
+        let text = text.as_bytes();
+        assert!(rt; names.might_grow(text) == *grows);
+        assert!(rt; names.is_open(text) == *open);
     }
 }
 
 #[test]
 fn tells_which_texts_may_grow(rt: HostRuntime) {
-    let names = Names::built_in();
-    for (text, grows, open) in [
-        ("", true, true),
-        ("n", true, true),
-        ("not", true, true),
-        ("noti", true, true),
-        ("notin", true, true),
-        ("notin;", false, false),
-        ("notit", false, false),
-        ("amp;", false, false),
-        ("b=", false, false),
-        ("zzz", false, false),
-    ] {
-        assert_eq!(rt; names.might_grow(text.as_bytes()), grows, "{text}");
-        assert_eq!(rt; names.is_open(text.as_bytes()), open, "{text}");
+    compare_growing(&rt, GROWING);
+}
+
+/// Values and the code points that they stand for, at the ends of what is replaced.
+const VALUES: &[(u64, char)] = &[
+    (0, '\u{fffd}'),
+    (0x41, 'A'),
+    (0x7f, '\u{7f}'),
+    (0x81, '\u{81}'),
+    (0x8d, '\u{8d}'),
+    (0x9d, '\u{9d}'),
+    (0xa0, '\u{a0}'),
+    (0xd7ff, '\u{d7ff}'),
+    (0xd800, '\u{fffd}'),
+    (0xdfff, '\u{fffd}'),
+    (0xe000, '\u{e000}'),
+    (0x10ffff, '\u{10ffff}'),
+    (0x110000, '\u{fffd}'),
+    (u64::MAX, '\u{fffd}'),
+];
+
+/// Compares the values of a list, and answers how many there were.
+fn compare_rows(rt: &impl Abort, rows: &str) -> Result<u64, Fail> {
+    let mut count: u64 = 0;
+    for row in rows.split(',') {
+        let (digits, code) = parts(row)?;
+        let value = u64::from_str_radix(digits, 16)?;
+        assert!(rt; u32::from(numeric(value)) == code, "{digits}");
+        count = count.saturating_add(1);
+    }
+    Ok(count)
+}
+
+fn compare_values(rt: &impl Abort, values: &[(u64, char)]) {
+    for (value, code) in values {
+        assert!(rt; numeric(*value) == *code, "{value:x}");
     }
 }
 
 #[test]
 fn replaces_the_numeric_values(rt: HostRuntime) -> Result<(), Fail> {
-    for row in REPLACED.split(',') {
-        let (digits, code) = parts(row)?;
-        let value = u64::from_str_radix(digits, 16)?;
-        assert_eq!(rt; u32::from(numeric(value)), code, "{digits}");
-    }
-    assert_eq!(rt; REPLACED.split(',').count(), 27);
-    for (value, code) in [
-        (0, '\u{fffd}'),
-        (0x41, 'A'),
-        (0x7f, '\u{7f}'),
-        (0x81, '\u{81}'),
-        (0x8d, '\u{8d}'),
-        (0x9d, '\u{9d}'),
-        (0xa0, '\u{a0}'),
-        (0xd7ff, '\u{d7ff}'),
-        (0xd800, '\u{fffd}'),
-        (0xdfff, '\u{fffd}'),
-        (0xe000, '\u{e000}'),
-        (0x10ffff, '\u{10ffff}'),
-        (0x110000, '\u{fffd}'),
-        (u64::MAX, '\u{fffd}'),
-    ] {
-        assert_eq!(rt; numeric(value), code, "{value:x}");
-    }
+    assert!(rt; compare_rows(&rt, REPLACED)? == 27);
+    compare_values(&rt, VALUES);
     Ok(())
 }

@@ -1,21 +1,30 @@
 //! Pages against an independent maker's.
-use crate::make_page;
+use hp_make::{NoMemory, make_page};
+use std::alloc::Global;
+use std::process::Abort;
 use std::test::Fail;
+
+/// A seed, a length, and the page.
+const WORKED: &[(u64, u32, &str)] = &[
+    (0, 40, "<!DOCTYPE html>text text <!-- note -->xx"),
+    (5, 3, "xxx"),
+    (7, 0, ""),
+    (0, 14, "xxxxxxxxxxxxxx"),
+    (0, 15, "<!DOCTYPE html>"),
+    (0, 16, "<!DOCTYPE html>x"),
+];
+
+fn compare_pages(rt: &impl Abort, alloc: Global, pages: &[(u64, u32, &str)]) -> Result<(), Fail> {
+    for (seed, bytes, wanted) in pages {
+        let page = make_page(alloc, *seed, *bytes)?;
+        assert!(rt; page.as_slice() == wanted.as_bytes(), "{seed} {bytes}");
+    }
+    Ok(())
+}
 
 #[test]
 fn makes_the_worked_pages(rt: HostRuntime) -> Result<(), Fail> {
-    for (seed, bytes, want) in [
-        (0, 40, "<!DOCTYPE html>text text <!-- note -->xx"),
-        (5, 3, "xxx"),
-        (7, 0, ""),
-        (0, 14, "xxxxxxxxxxxxxx"),
-        (0, 15, "<!DOCTYPE html>"),
-        (0, 16, "<!DOCTYPE html>x"),
-    ] {
-        let page = make_page(rt.alloc(), seed, bytes)?;
-        assert_eq!(rt; page.as_slice(), want.as_bytes(), "{seed} {bytes}");
-    }
-    Ok(())
+    compare_pages(&rt, rt.alloc(), WORKED)
 }
 
 /// FNV-1a over the bytes.
@@ -27,24 +36,36 @@ fn checksum(page: &[u8]) -> u64 {
     value
 }
 
+/// The checksum of the page of that number, with the length that the checksums were made for; none where it has another.
+fn checksum_of(alloc: Global, number: u64) -> Result<Option<u64>, NoMemory> {
+    let number = number % 1000;
+    let bytes = if number < 100 {
+        number
+    } else {
+        number * number * 7 % 5000
+    };
+    let seed = number.wrapping_mul(0x9e37_79b9_7f4a_7c15);
+    let page = make_page(alloc, seed, bytes as u32)?;
+    Ok((page.len() as u64 == bytes).then_some(checksum(&page)))
+}
+
+/// Compares the checksums of pages, and answers how many there were.
+fn compare_checksums(rt: &impl Abort, alloc: Global, checksums: &str) -> Result<u64, Fail> {
+    let mut number: u64 = 0;
+    for digits in checksums.split(',') {
+        let wanted = u64::from_str_radix(digits, 16)?;
+        assert!(rt;
+            checksum_of(alloc, number)? == Some(wanted),
+            "page {number}"
+        );
+        number = number.saturating_add(1);
+    }
+    Ok(number)
+}
+
 #[test]
 fn makes_a_thousand_pages(rt: HostRuntime) -> Result<(), Fail> {
-    for (i, digits) in CHECKSUMS.split(',').enumerate() {
-        let i = i as u64 % 1000;
-        let bytes = if i < 100 { i } else { i * i * 7 % 5000 };
-        let page = make_page(
-            rt.alloc(),
-            i.wrapping_mul(0x9e37_79b9_7f4a_7c15),
-            bytes as u32,
-        )?;
-        assert_eq!(rt; page.len() as u64, bytes, "page {i}");
-        assert_eq!(rt;
-            checksum(&page),
-            u64::from_str_radix(digits, 16)?,
-            "page {i}"
-        );
-    }
-    assert_eq!(rt; CHECKSUMS.split(',').count(), 1000);
+    assert!(rt; compare_checksums(&rt, rt.alloc(), CHECKSUMS)? == 1000);
     Ok(())
 }
 

@@ -75,7 +75,7 @@ fn act_of(part: Part, row: u16, at: u32) -> Option<Act> {
         Part::Page => hp_rules_page::acts_numbered(row),
         Part::Body => hp_rules_body::acts_numbered(row),
         Part::Table => hp_rules_table::acts_numbered(row),
-        Part::Rest => crate::acts_numbered(row),
+        Part::Rest => hp_rules_rest::acts_numbered(row),
     };
     acts.get(at as usize).copied()
 }
@@ -87,8 +87,8 @@ fn row_of(part: Part, column: usize, token: &Token<'_>) -> Option<u16> {
         Part::Body => hp_rules_body::row(*BODY_MODES.get(column)?, token),
         Part::Table => hp_rules_table::row(*TABLE_MODES.get(column)?, token),
         Part::Rest => match REST_MODES.get(column) {
-            Some(mode) => crate::row(*mode, token),
-            None => Some(crate::foreign_row(token)),
+            Some(mode) => hp_rules_rest::row(*mode, token),
+            None => Some(hp_rules_rest::foreign_row(token)),
         },
     }
 }
@@ -325,11 +325,12 @@ fn each_crate_answers_for_its_own_modes_alone(rt: HostRuntime) {
                 && hp_rules_body::row(*mode, &token).is_none()
         );
         assert!(rt;
-            hp_rules_table::row(*mode, &token).is_none() && crate::row(*mode, &token).is_none()
+            hp_rules_table::row(*mode, &token).is_none()
+                && hp_rules_rest::row(*mode, &token).is_none()
         );
     }
     assert!(rt;
-        crate::row(Mode::InTemplate, &token).is_some()
+        hp_rules_rest::row(Mode::InTemplate, &token).is_some()
             && hp_rules_page::row(Mode::InTemplate, &token).is_none()
     );
 }

@@ -1,0 +1,241 @@
+//! Worked pages, and devices that fail.
+ghost use Rattle.std.specs.Prelude.{false, refl};
+
+use hp_text::{
+    Chunk, MemorySink, MemorySource, NoMemory, ReadRefusal, SteadySource, StreamSink, StreamSource,
+    TellingRead, TellingWrite, check_page, read_page, write_whole,
+};
+use std::alloc::Global;
+use std::io;
+use std::process::Abort;
+use std::test::Fail;
+
+/// How many bytes a page has, and whether so large a page is read.
+const LENGTHS: &[(usize, bool)] = &[
+    (0, true),
+    (70_000, true),
+    (16_777_216, true),
+    (16_777_217, false),
+];
+
+/// Whether a page of so many bytes `x` is read whole, or else refused as too large.
+fn reads_so(alloc: Global, len: usize, whole: bool) -> Result<bool, NoMemory> {
+    let bytes = vec![in alloc; b'x'; len]?;
+    let mut source = SteadySource::new(bytes.as_slice());
+    Ok(match read_page(alloc, &mut source) {
+        Ok(page) => whole && page.len() == len,
+        Err(refusal) => !whole && refusal == ReadRefusal::TooLarge,
+    })
+}
+
+fn compare_lengths(rt: &impl Abort, alloc: Global, lengths: &[(usize, bool)]) -> Result<(), Fail> {
+    for (len, whole) in lengths {
+        assert!(rt; reads_so(alloc, *len, *whole)?, "{len}");
+    }
+    Ok(())
+}
+
+#[test]
+fn reads_at_most_the_limit(rt: HostRuntime) -> Result<(), Fail> {
+    compare_lengths(&rt, rt.alloc(), LENGTHS)
+}
+
+/// Whether `abc`, a byte a call, is read where so many calls fail, or else refused as a fault.
+fn reads_abc(alloc: Global, failing: u64, faults: u64) -> Result<bool, NoMemory> {
+    let mut source = MemorySource::new(alloc, b"abc", 1, &[failing])?;
+    let well = match read_page(alloc, &mut source) {
+        Ok(page) => faults == 0 && page.as_slice() == b"abc".as_slice(),
+        Err(refusal) => faults == 1 && refusal == ReadRefusal::Fault,
+    };
+    Ok(well && source.faults() == faults)
+}
+
+// Call 3 is the one at the end, and there is no call 4.
+#[test]
+fn a_failing_read_is_a_fault(rt: HostRuntime) -> Result<(), Fail> {
+    for failing in 0..4 {
+        assert!(rt; reads_abc(rt.alloc(), failing, 1)?, "{failing}");
+    }
+    assert!(rt; reads_abc(rt.alloc(), 4, 0)?);
+    Ok(())
+}
+
+const PAGES: &[(&str, &str)] = &[
+    ("", ""),
+    ("hello", "hello"),
+    ("\u{e9}b", "\u{e9}b"),
+    ("\u{feff}a", "a"),
+    ("\u{feff}\u{feff}a", "\u{feff}a"),
+    ("a\u{feff}", "a\u{feff}"),
+];
+
+/// Bytes that are no page, and how many of them are UTF-8.
+const NO_PAGES: &[(&[u8], u64)] = &[
+    (b"a\xFF", 1),
+    (b"a\xC3", 1),
+    (b"\xC3\xA9\xFFb", 2),
+    (b"\xED\xA0\x80", 0),
+    (b"\xC0\x80", 0),
+    (b"\xEF\xBB\xBF\xFF", 3),
+    (b"\xF4\x90\x80\x80", 0),
+];
+
+fn compare_pages(rt: &impl Abort, pages: &[(&str, &str)]) -> Result<(), Fail> {
+    for (bytes, text) in pages {
+        assert!(rt; check_page(bytes.as_bytes())?.text() == text.as_bytes());
+    }
+    Ok(())
+}
+
+fn compare_refusals(rt: &impl Abort, refused: &[(&[u8], u64)]) {
+    for (bytes, at) in refused {
+        match check_page(bytes) {
+            Ok(_) => panic!(rt; "a page"),
+            Err(refusal) => assert!(rt; refusal.at == *at),
+        }
+    }
+}
+
+#[test]
+fn only_utf8_is_a_page(rt: HostRuntime) -> Result<(), Fail> {
+    compare_refusals(&rt, NO_PAGES);
+    compare_pages(&rt, PAGES)
+}
+
+#[test]
+fn a_chunk_is_a_part(rt: HostRuntime) -> Result<(), Fail> {
+    let page = check_page(b"\xEF\xBB\xBFa\xC3\xA9b")?;
+    let chunk = Chunk {
+        page,
+        number: 1,
+        from: 1,
+        to: 3,
+    };
+    assert!(rt; chunk.text() == b"\xC3\xA9".as_slice());
+    assert!(rt; chunk.before() == b"a".as_slice());
+    assert!(rt; page.as_str() == "a\u{e9}b");
+    Ok(())
+}
+
+/// A sink's room and which of its calls fails; what a fault counts as taken, and what the sink took.
+type Write = (usize, u64, Option<u64>, &'static str);
+
+const WRITES: &[Write] = &[
+    (20, 9, None, "| <html>\n|   <head>\n"),
+    (10, 9, Some(10), "| <html>\n|"),
+    (10, 1, Some(10), "| <html>\n|"),
+    (20, 0, Some(0), ""),
+    (0, 9, Some(0), ""),
+];
+
+/// Whether the beginning of a printed tree is so written into a sink with so much room, one of whose calls fails.
+fn writes_so(
+    alloc: Global,
+    room: usize,
+    failing: u64,
+    fault: Option<u64>,
+    taken: &str,
+) -> Result<bool, NoMemory> {
+    let mut sink = MemorySink::new(alloc, room, &[failing])?;
+    let found = match write_whole(&mut sink, b"| <html>\n|   <head>\n") {
+        Ok(()) => None,
+        Err(fault) => Some(fault.taken),
+    };
+    let faults = u64::from(fault.is_some());
+    Ok(found == fault && sink.faults() == faults && sink.taken() == taken.as_bytes())
+}
+
+fn compare_writes(rt: &impl Abort, alloc: Global, writes: &[Write]) -> Result<(), Fail> {
+    for (room, failing, fault, taken) in writes {
+        let well = writes_so(alloc, *room, *failing, *fault, taken)?;
+        assert!(rt; well, "{room} {failing}");
+    }
+    Ok(())
+}
+
+#[test]
+fn writes_all_or_a_stated_part(rt: HostRuntime) -> Result<(), Fail> {
+    compare_writes(&rt, rt.alloc(), WRITES)
+}
+
+/// Its first read gives one byte and its second fails.
+#[derive(Drop)]
+struct Breaks(u8);
+
+impl io::Read for Breaks {
+    fn read(&mut self, room: &mut [u8]) -> io::Result<usize> {
+        if self.0 == 1 || room.is_empty() {
+            return Err(io::Error::from(io::ErrorKind::Other));
+        }
+        self.0 = 1;
+        room[0] = b'a';
+        Ok(1)
+    }
+}
+
+impl TellingRead for Breaks {
+    ghost tells = { false };
+
+    ghost always = { λ r. refl };
+}
+
+#[test]
+fn a_reader_is_a_source(rt: HostRuntime) -> Result<(), Fail> {
+    let mut source = StreamSource::new(b"hello".as_slice());
+    assert!(rt; read_page(rt.alloc(), &mut source)?.as_slice() == b"hello".as_slice());
+    assert!(rt; source.faults() == 0);
+    let mut broken = StreamSource::new(Breaks(0));
+    match read_page(rt.alloc(), &mut broken) {
+        Ok(_) => panic!(rt; "a page"),
+        Err(refusal) => assert!(rt; refusal == ReadRefusal::Fault),
+    }
+    assert!(rt; broken.faults() == 1);
+    Ok(())
+}
+
+/// A writer whose flushes fail, where it says so.
+#[derive(Drop)]
+struct Flushes<'b> {
+    into: &'b mut [u8],
+    fails: bool,
+}
+
+impl io::Write for Flushes<'_> {
+    fn write(&mut self, piece: &[u8]) -> io::Result<usize> {
+        self.into.write(piece)
+    }
+
+    fn flush(&mut self) -> io::Result<()> {
+        if self.fails {
+            return Err(io::Error::from(io::ErrorKind::Other));
+        }
+        Ok(())
+    }
+}
+
+impl TellingWrite for Flushes<'_> {
+    ghost tells = { false };
+
+    ghost always = { λ w. refl };
+}
+
+/// Whether the write of `hello` into so much room is a fault, with so many bytes taken, or else none.
+fn writes_hello(into: &mut [u8], fails: bool, fault: Option<u64>) -> bool {
+    let mut sink = StreamSink::new(Flushes { into, fails });
+    let found = match write_whole(&mut sink, b"hello") {
+        Ok(()) => None,
+        Err(fault) => Some(fault.taken),
+    };
+    found == fault && sink.faults() == u64::from(fault.is_some())
+}
+
+#[test]
+fn a_writer_is_a_sink(rt: HostRuntime) {
+    let mut bytes = [b'.'; 5];
+    assert!(rt; writes_hello(&mut bytes, false, None));
+    assert!(rt; bytes == *b"hello");
+    let mut bytes = [b'.'; 4];
+    assert!(rt; writes_hello(&mut bytes, false, Some(4)));
+    assert!(rt; bytes == *b"hell");
+    assert!(rt; writes_hello(&mut bytes, true, Some(0)));
+}
