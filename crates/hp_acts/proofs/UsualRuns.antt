@@ -1,6 +1,8 @@
 -- The straight way of a usual row comes to the same as the table's.
 use Rattle.std.proofs.Common.{◌≡◌, ℕ, suc, ◌-◌, ◌<◌, true, false, List, [], ◌∷◌, Option, Some, None, Result, Ok, Err, refl, ap, sym, subst, ◌∙◌, arith}
 use Rattle.std.specs.Prelude.{Bool, IfSome, if◌then◌else◌, not, ◌||◌, ◌&&◌}
+use Rattle.std.specs.Result.{IsErrAnd}
+use Rattle.hp_elements.specs.Names as names
 use Rattle.hp_elements.specs.Names.{text_of}
 use Rattle.hp_elements.specs.Rules.{acts_for}
 use Rattle.hp_elements.specs.Tokens.{kind_of}
@@ -32,7 +34,7 @@ use Rattle.hp_views.specs.ClosingPlans.{close_item_plan, close_paragraph_plan, i
 use Rattle.hp_views.specs.FieldPlans.{frameset_plan}
 use Rattle.hp_views.specs.PlacePlans.{insert_plan}
 use Rattle.hp_views.specs.StackPlans.{in_scope_plan, through_plan}
-use Rattle.hp_views.specs.View.{Sight, Carries}
+use Rattle.hp_views.specs.View.{Sight, Carries, Finds}
 use Rattle.hp_model.specs.Texts.{has_html_top}
 use Rattle.hp_model.specs.Tokens.{bare, name_of}
 use Rattle.hp_acts.specs.HandlePlans.{all_turns_plan, most_turns, turns_plan, where_again}
@@ -52,23 +54,11 @@ ended r v = gives (left (changed r v))
 
 three : {X Y Z W : Type 0} (p : Plan X) (f : X → Plan Y) (h : Y → Plan Z) (g : Z → Plan W)
     → followed_by (followed_by p (λ x. followed_by (f x) h)) g ≡ followed_by p (λ x. followed_by (f x) (λ y. followed_by (h y) g))
-three p f h g = follow_assoc p (λ x. followed_by (f x) h) g ∙ ap (λ (next : X → Plan W). followed_by p next) (λ i. λ x. follow_assoc (f x) h g i)
+three {X} {Y} {Z} {W} p f h g = follow_assoc p (λ x. followed_by (f x) h) g ∙ ap (λ (next : X → Plan W). followed_by p next) (λ i. λ x. follow_assoc (f x) h g i)
 
 four : {X Y Z W V : Type 0} (p : Plan X) (f : X → Plan Y) (h : Y → Plan Z) (k : Z → Plan W) (g : W → Plan V)
     → followed_by (followed_by p (λ x. followed_by (f x) (λ y. followed_by (h y) k))) g ≡ followed_by p (λ x. followed_by (f x) (λ y. followed_by (h y) (λ z. followed_by (k z) g)))
-four p f h k g = follow_assoc p (λ x. followed_by (f x) (λ y. followed_by (h y) k)) g ∙ ap (λ (next : X → Plan V). followed_by p next) (λ i. λ x. three (f x) h k g i)
-
-block_ended : (name : List ℕ) (r : Reached) (b : Bool) → followed_by (block_end_by name r.split b) (ended r) ≡ (if b then followed_by (implied_plan r.split) (λ v. followed_by (through_plan (kinds.Html name) kinds.Nothing v) (ended r)) else gives (left r))
-block_ended name r true = follow_assoc (implied_plan r.split) (through_plan (kinds.Html name) kinds.Nothing) (ended r)
-block_ended name r false = refl
-
-item_ended : (r : Reached) (b : Bool) → followed_by (item_end_by r.split b) (ended r) ≡ (if b then followed_by (implied_except_plan known.Li r.split) (λ v. followed_by (through_plan (kinds.Html (text_of known.Li)) kinds.Nothing v) (ended r)) else gives (left r))
-item_ended r true = follow_assoc (implied_except_plan known.Li r.split) (through_plan (kinds.Html (text_of known.Li)) kinds.Nothing) (ended r)
-item_ended r false = refl
-
-paragraph_ended : (r : Reached) (b : Bool) → followed_by (paragraph_end_by r.split b) (ended r) ≡ (if b then followed_by (close_paragraph_plan r.split) (ended r) else followed_by (insert_plan false (bare (text_of known.P)) r.split) (λ v. followed_by (close_paragraph_plan v) (ended r)))
-paragraph_ended r true = refl
-paragraph_ended r false = follow_assoc (insert_plan false (bare (text_of known.P)) r.split) close_paragraph_plan (ended r)
+four {X} {Y} {Z} {W} {V} p f h k g = follow_assoc p (λ x. followed_by (f x) (λ y. followed_by (h y) k)) g ∙ ap (λ (next : X → Plan V). followed_by p next) (λ i. λ x. three (f x) h k g i)
 
 abbrev Same : ℕ → UsualRow → Token → Reached → Type 0
 Same depth row t r = followed_by (usual_plan row t r.split) (ended r) ≡ acts_plan (rules_plan depth t) nothing_more false t 0 0 (usual_acts row) r
@@ -89,7 +79,7 @@ ordinary_row : (depth : ℕ) (t : Token) (r : Reached) → Same depth (Opens ope
 ordinary_row depth t r = follow_assoc (reconstruct_plan false r.split) (insert_plan false (html_tag t)) (ended r)
 
 block_rest : (depth : ℕ) (t : Token) (r : Reached) (b : Bool) → followed_by (block_end_by (name_of t) r.split b) (ended r) ≡ acts_plan (rules_plan depth t) nothing_more false t 1 (if b then 1 else 3) (act.Implied ∷ act.Through Its ∷ []) r
-block_rest depth t r true = block_ended (name_of t) r true
+block_rest depth t r true = follow_assoc (implied_plan r.split) (through_plan (kinds.Html (name_of t)) kinds.Nothing) (ended r)
 block_rest depth t r false = refl
 
 block_end_row : (depth : ℕ) (t : Token) (r : Reached) → Same depth (Closes closing.Block) t r
@@ -98,7 +88,8 @@ block_end_row depth t r =
     ∙ ap (λ (next : Bool → Plan Came). followed_by (in_scope_plan scope.Default (kinds.Html (name_of t)) r.split) next) (λ i. λ b. block_rest depth t r b i)
 
 item_rest : (depth : ℕ) (t : Token) (r : Reached) (b : Bool) → followed_by (item_end_by r.split b) (ended r) ≡ acts_plan (rules_plan depth t) nothing_more false t 1 (if b then 1 else 3) (act.ImpliedExcept (Named known.Li) ∷ act.Through (Named known.Li) ∷ []) r
-item_rest depth t r true = item_ended r true
+unfolding names.known_of
+item_rest depth t r true = follow_assoc (implied_except_plan known.Li r.split) (through_plan (kinds.Html (text_of known.Li)) kinds.Nothing) (ended r)
 item_rest depth t r false = refl
 
 item_end_row : (depth : ℕ) (t : Token) (r : Reached) → Same depth (Closes closing.Item) t r
@@ -108,7 +99,7 @@ item_end_row depth t r =
 
 paragraph_rest : (depth : ℕ) (t : Token) (r : Reached) (b : Bool) → followed_by (paragraph_end_by r.split b) (ended r) ≡ acts_plan (rules_plan depth t) nothing_more false t 1 (if b then 2 else 1) (act.InsertBare known.P ∷ act.CloseParagraph ∷ []) r
 paragraph_rest depth t r true = refl
-paragraph_rest depth t r false = paragraph_ended r false
+paragraph_rest depth t r false = follow_assoc (insert_plan false (bare (text_of known.P)) r.split) close_paragraph_plan (ended r)
 
 paragraph_end_row : (depth : ℕ) (t : Token) (r : Reached) → Same depth (Closes closing.Paragraph) t r
 paragraph_end_row depth t r =
@@ -167,6 +158,32 @@ some_turns n row t r u few =
 
 usual_alike : (row : UsualRow) (t : Token) (v : Split) → IsUsual v t row → all_turns_plan t v ≡ followed_by (usual_plan row t v) done_with
 usual_alike row t v u = some_turns (most_turns v) row t (record { split = v; handled = nothing_asked }) u (omega arith)
+
+-- one call, and then another
+pub carries_next : (result : Result (Unit {0}) Refusal) (old mid new : Sight) (p q : Split → Plan Split) → Runs old.heard mid.heard (p old.split) (Ok mid.split) → Carries result mid new q → Carries result old new (λ v. followed_by (p v) q)
+carries_next (Ok u) old mid new p q run k = runs_then q run k
+carries_next (Err (Crossed crossing)) old mid new p q run k = runs_then q run k
+carries_next (Err NoMemory) old mid new p q run k = tt
+
+carries_refused : (refusal : Refusal) (old new : Sight) (p q : Split → Plan Split) → Carries (Err refusal) old new p → Carries (Err refusal) old new (λ v. followed_by (p v) q)
+carries_refused (Crossed crossing) old new p q k = runs_crosses q k
+carries_refused NoMemory old new p q k = tt
+
+-- the first was refused
+pub carries_failed : (result : Result (Unit {0}) Refusal) (refusal : Refusal) (old new : Sight) (p q : Split → Plan Split) → IsErrAnd result (λ e. e ≡ refusal) → Carries (Err refusal) old new p → Carries result old new (λ v. followed_by (p v) q)
+carries_failed (Ok u) refusal old new p q is k = absurd is
+carries_failed (Err e) refusal old new p q is k = let P : Refusal → Type 0 = λ x. Carries (Err x) old new (λ v. followed_by (p v) q) in subst P (sym is) (carries_refused refusal old new p q k)
+
+-- what was found out, and then a call
+pub carries_then : {X : Type 0} (result : Result (Unit {0}) Refusal) (old mid new : Sight) (plan : Split → Plan X) (next : Split → X → Plan Split) (x : X)
+    → Finds old mid plan x → Carries result mid new (λ v. next v x) → Carries result old new (λ v. followed_by (plan v) (next v))
+carries_then (Ok u) old mid new plan next x f k =
+    let P : Split → Type 0 = λ v. Runs mid.heard new.heard (next v x) (Ok new.split) in
+    runs_then (next old.split) f.runs (subst P f.same k)
+carries_then (Err (Crossed crossing)) old mid new plan next x f k =
+    let P : Split → Type 0 = λ v. Runs mid.heard new.heard (next v x) (Err crossing) in
+    runs_then (next old.split) f.runs (subst P f.same k)
+carries_then (Err NoMemory) old mid new plan next x f k = tt
 
 pub usual_acts_of : (acts other : List Act) (o : Option UsualRow) → acts ≡ other → IfSome o (λ row. acts ≡ usual_acts row) → IfSome o (λ row. other ≡ usual_acts row)
 usual_acts_of acts other o e h = subst (λ xs. IfSome o (λ row. xs ≡ usual_acts row)) e h

@@ -149,7 +149,7 @@ pub(crate) fn into_tag(alloc: Global, token: Token<'_>) -> Result<Tag, NoMemory>
 
 #[inline(always)]
 fn into_html(tag: Tag) -> Tag
-    ensures { result ≡ record tag.entry { namespace = Html } }
+    ensures { result ≡ record tag { namespace = Html } }
 {
     let Tag {
         name,

@@ -1,5 +1,5 @@
 //! The usual rows of the body, carried out without the table: a short way to what it says (13.2.6.4.7).
-ghost use Rattle.std.specs.Prelude.{◌≡◌, true, IfSome};
+ghost use Rattle.std.specs.Prelude.{◌≡◌, false, true, IfSome};
 ghost use Rattle.hp_elements.specs.Rules.{acts_for, acts_numbered};
 ghost use Rattle.hp_elements.specs.Tokens.{kind_of};
 ghost use Rattle.hp_elements.specs.declared.token.Mode.TheVariants.{InBody};
