@@ -17,3 +17,4 @@ pub mod TurnRuns
 pub mod PlainRuns
 pub mod StepRuns
 pub mod LineFeeds
+pub mod UsualRuns

@@ -14,3 +14,4 @@ pub mod Suiting
 pub mod Known
 pub mod Told
 pub mod Older
+pub mod Usual

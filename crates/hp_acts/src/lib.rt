@@ -11,6 +11,7 @@ mod rows;
 mod stack_acts;
 mod token_parts;
 mod turns;
+mod usual;
 
 pub use acts::carry;
 pub use laws::{acts_mean, known_handled, older_handled, tests_tell};

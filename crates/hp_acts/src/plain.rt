@@ -17,7 +17,7 @@ use hp_views::View;
 use std::alloc::Global;
 
 /// Whether the current node is an own HTML element.
-fn is_in_html(stack: &OpenElements) -> bool
+pub(crate) fn is_in_html(stack: &OpenElements) -> bool
     ensures { result ≡ has_html_top stack.now }
 {
     !stack.is_empty() && is_html(stack.at(0))

@@ -2,6 +2,7 @@
 ghost use Rattle.std.specs.Prelude.{◌≡◌, [], ◌∷◌, IfOk, OnOk};
 ghost use Rattle.hp_elements.specs.Names.{text_of};
 ghost use Rattle.hp_elements.specs.declared.kinds.Kinds.TheVariants as kinds;
+ghost use Rattle.hp_elements.specs.declared.sets.Namespace.TheVariants.{Html};
 ghost use Rattle.hp_model.specs.Tokens.{as_start, bare, characters, comment, is_self_closing, name_for, name_of, tag_of};
 ghost use Rattle.hp_acts.specs.Spending.{html_tag, IsLeftOf};
 ghost use Rattle.hp_acts.specs.declared.token_parts.Spending.TheVariants.{Copies};
@@ -126,6 +127,51 @@ pub(crate) fn take_tag(
         name,
         attributes,
     })
+}
+
+/// The HTML tag of a start tag, whole. Of another token it has its name and no attributes.
+#[inline(always)]
+pub(crate) fn into_tag(alloc: Global, token: Token<'_>) -> Result<Tag, NoMemory>
+    ensures { IfOk result (λ tag. tag ≡ html_tag token.entry) }
+{
+    match token {
+        Token::Start { tag, .. } => Ok(into_html(tag)),
+        token => {
+            let name = own_name(alloc, &token)?;
+            Ok(Tag {
+                namespace: Namespace::Html,
+                name,
+                attributes: Chain::new(),
+            })
+        }
+    }
+}
+
+#[inline(always)]
+fn into_html(tag: Tag) -> Tag
+    ensures { result ≡ record tag { namespace = Html } }
+{
+    let Tag {
+        name,
+        attributes,
+        ..
+    } = tag;
+    Tag {
+        namespace: Namespace::Html,
+        name,
+        attributes,
+    }
+}
+
+/// The token's own name; the empty one where it has none.
+#[inline(always)]
+pub(crate) fn into_name(alloc: Global, token: Token<'_>) -> Result<Name, NoMemory>
+    ensures { IfOk result (λ name. name ≡ name_of token.entry) }
+{
+    match token {
+        Token::EndTag { name } => Ok(name),
+        token => own_name(alloc, &token),
+    }
 }
 
 /// A text that is moved out of its place, or copied.

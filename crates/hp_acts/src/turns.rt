@@ -19,6 +19,7 @@ use crate::plain::{is_plain, put_plain};
 use crate::questions::holds;
 use crate::rows::{Row, foreign_row, row_in};
 use crate::token_parts::{Spending, after_line_feed, rename};
+use crate::usual::{handle_usual, usual_row};
 use hp_control::{Below, Crossing, Refusal};
 use hp_elements::{Act, Mode, Rest, Test, Token};
 use hp_foreign::goes_to_foreign;
@@ -324,13 +325,27 @@ pub fn handle<'p, B: Below>(
     ensures plan { Handles result (sight B.heard view.old) (sight B.heard view.new) (handle_plan token.entry) }
 {
     if !view.change.skip_lf {
-        return if is_plain(view, &token) {
-            put_plain(alloc, view, token)
-        } else {
-            take_turns(alloc, view, token)
-        };
+        return handle_whole(alloc, view, token);
     }
     handle_skipping(alloc, view, token)
+}
+
+/// The same where none is to be dropped: text and usual rows straight, and others by the table.
+#[inline(always)]
+fn handle_whole<'p, B: Below>(
+    alloc: Global,
+    view: &mut View<'p, B>,
+    token: Token<'p>,
+) -> Result<Handled, Refusal>
+    ensures { Handles result (sight B.heard view.old) (sight B.heard view.new) (all_turns_plan token.entry) }
+{
+    if is_plain(view, &token) {
+        return put_plain(alloc, view, token);
+    }
+    match usual_row(view, &token) {
+        Some(row) => handle_usual(alloc, view, token, row),
+        None => take_turns(alloc, view, token),
+    }
 }
 
 /// From now on no line feed is dropped.

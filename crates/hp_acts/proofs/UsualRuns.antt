@@ -1,0 +1,206 @@
+-- The straight way of a usual row comes to the same as the table's.
+use Rattle.std.proofs.Common.{◌≡◌, ℕ, suc, ◌-◌, ◌<◌, true, false, List, [], ◌∷◌, Option, Some, None, Result, Ok, Err, refl, ap, sym, subst, ◌∙◌, arith}
+use Rattle.std.specs.Prelude.{Bool, IfSome, if◌then◌else◌, not, ◌||◌, ◌&&◌}
+use Rattle.std.specs.Result.{IsErrAnd}
+use Rattle.hp_elements.specs.Names as names
+use Rattle.hp_elements.specs.Names.{text_of}
+use Rattle.hp_elements.specs.Rules.{acts_for}
+use Rattle.hp_elements.specs.Tokens.{kind_of}
+use Rattle.hp_elements.specs.declared.act.Act.{Act}
+use Rattle.hp_elements.specs.declared.act.Act.TheVariants as act
+use Rattle.hp_elements.specs.declared.act.Scope.TheVariants as scope
+use Rattle.hp_elements.specs.declared.act.Which.TheVariants.{Its, Named}
+use Rattle.hp_elements.specs.declared.kinds.Kinds.TheVariants as kinds
+use Rattle.hp_elements.specs.declared.known.Known.TheVariants as known
+use Rattle.hp_elements.specs.declared.tag.Tag.{Tag}
+use Rattle.hp_elements.specs.declared.token.Kind.{Kind}
+use Rattle.hp_elements.specs.declared.token.Mode.TheVariants as mode
+use Rattle.hp_elements.specs.declared.token.Token.{Token}
+use Rattle.hp_control.specs.declared.change.Refusal.{Refusal}
+use Rattle.hp_control.specs.declared.change.Refusal.TheVariants.{Crossed, NoMemory}
+use Rattle.hp_control.specs.declared.element.OpenElement.{OpenElement}
+use Rattle.hp_control.specs.Faithful.{Page, Split}
+use Rattle.hp_control.specs.Foreign.{enters, is_annotation, is_end_of_input, is_svg_start}
+use Rattle.hp_control.specs.Plan.{Plan, gives, followed_by, Heard, Runs}
+use Rattle.hp_control.specs.Running.{runs_crosses, runs_gives, runs_then}
+use Rattle.hp_control.specs.States.{is_html}
+use Rattle.hp_adoption.specs.ArkPlans.{append_to_list_plan}
+use Rattle.hp_adoption.specs.LinkPlans.{close_link_plan}
+use Rattle.hp_adoption.specs.ReconPlans.{reconstruct_plan}
+use Rattle.hp_foreign.specs.Plans.{goes_on}
+use Rattle.hp_rules_body.specs.Body.{in_body}
+use Rattle.hp_rules_rest.specs.Whole.{every_mode_rows}
+use Rattle.hp_views.specs.ClosingPlans.{close_item_plan, close_paragraph_plan, implied_except_plan, implied_plan}
+use Rattle.hp_views.specs.FieldPlans.{frameset_plan}
+use Rattle.hp_views.specs.PlacePlans.{insert_plan}
+use Rattle.hp_views.specs.StackPlans.{in_scope_plan, through_plan}
+use Rattle.hp_views.specs.View.{Sight, Carries, Finds}
+use Rattle.hp_model.specs.Texts.{has_html_top}
+use Rattle.hp_model.specs.Tokens.{bare, name_of}
+use Rattle.hp_acts.specs.HandlePlans.{all_turns_plan, most_turns, turns_plan, where_again}
+use Rattle.hp_acts.specs.Handling.{Handles, nothing_asked}
+use Rattle.hp_acts.specs.RowPlans.{Reached, Came, left, acts_plan, changed, dispatched, is_early, mode_plan, nothing_more, rules_plan, turn_plan}
+use Rattle.hp_acts.specs.Spending.{html_tag}
+use Rattle.hp_acts.specs.Usual.{IsUsual, block_end_by, block_plan, item_after_plan, item_end_by, formatting_plan, listed_plan, paragraph_end_by, usual_acts, usual_plan}
+use Rattle.hp_acts.specs.declared.usual.Closing.TheVariants as closing
+use Rattle.hp_acts.specs.declared.usual.Opening.TheVariants as opening
+use Rattle.hp_acts.specs.declared.usual.UsualRow.{UsualRow}
+use Rattle.hp_acts.specs.declared.usual.UsualRow.TheVariants.{Closes, Opens}
+use Rattle.hp_acts.proofs.PlainRuns.{follow_assoc}
+use Rattle.hp_acts.proofs.TurnRuns.{turn_on, turns_next}
+
+abbrev ended : Reached → Split → Plan Came
+ended r v = gives (left (changed r v))
+
+three : {X Y Z W : Type 0} (p : Plan X) (f : X → Plan Y) (h : Y → Plan Z) (g : Z → Plan W)
+    → followed_by (followed_by p (λ x. followed_by (f x) h)) g ≡ followed_by p (λ x. followed_by (f x) (λ y. followed_by (h y) g))
+three {X} {Y} {Z} {W} p f h g = follow_assoc p (λ x. followed_by (f x) h) g ∙ ap (λ (next : X → Plan W). followed_by p next) (λ i. λ x. follow_assoc (f x) h g i)
+
+four : {X Y Z W V : Type 0} (p : Plan X) (f : X → Plan Y) (h : Y → Plan Z) (k : Z → Plan W) (g : W → Plan V)
+    → followed_by (followed_by p (λ x. followed_by (f x) (λ y. followed_by (h y) k))) g ≡ followed_by p (λ x. followed_by (f x) (λ y. followed_by (h y) (λ z. followed_by (k z) g)))
+four {X} {Y} {Z} {W} {V} p f h k g = follow_assoc p (λ x. followed_by (f x) (λ y. followed_by (h y) k)) g ∙ ap (λ (next : X → Plan V). followed_by p next) (λ i. λ x. three (f x) h k g i)
+
+abbrev Same : ℕ → UsualRow → Token → Reached → Type 0
+Same depth row t r = followed_by (usual_plan row t r.split) (ended r) ≡ acts_plan (rules_plan depth t) nothing_more false t 0 0 (usual_acts row) r
+
+block_row : (depth : ℕ) (t : Token) (r : Reached) → Same depth (Opens opening.Block) t r
+block_row depth t r = follow_assoc (close_paragraph_plan r.split) (insert_plan false (html_tag t)) (ended r)
+
+item_row : (depth : ℕ) (t : Token) (r : Reached) → Same depth (Opens opening.Item) t r
+item_row depth t r = four (frameset_plan r.split) close_item_plan close_paragraph_plan (insert_plan false (html_tag t)) (ended r)
+
+link_row : (depth : ℕ) (t : Token) (r : Reached) → Same depth (Opens opening.Link) t r
+link_row depth t r = four (close_link_plan false r.split) (reconstruct_plan false) (insert_plan false (html_tag t)) (append_to_list_plan (html_tag t)) (ended r)
+
+formatting_row : (depth : ℕ) (t : Token) (r : Reached) → Same depth (Opens opening.Formatting) t r
+formatting_row depth t r = three (reconstruct_plan false r.split) (insert_plan false (html_tag t)) (append_to_list_plan (html_tag t)) (ended r)
+
+ordinary_row : (depth : ℕ) (t : Token) (r : Reached) → Same depth (Opens opening.Ordinary) t r
+ordinary_row depth t r = follow_assoc (reconstruct_plan false r.split) (insert_plan false (html_tag t)) (ended r)
+
+block_rest : (depth : ℕ) (t : Token) (r : Reached) (b : Bool) → followed_by (block_end_by (name_of t) r.split b) (ended r) ≡ acts_plan (rules_plan depth t) nothing_more false t 1 (if b then 1 else 3) (act.Implied ∷ act.Through Its ∷ []) r
+block_rest depth t r true = follow_assoc (implied_plan r.split) (through_plan (kinds.Html (name_of t)) kinds.Nothing) (ended r)
+block_rest depth t r false = refl
+
+block_end_row : (depth : ℕ) (t : Token) (r : Reached) → Same depth (Closes closing.Block) t r
+block_end_row depth t r =
+    follow_assoc (in_scope_plan scope.Default (kinds.Html (name_of t)) r.split) (block_end_by (name_of t) r.split) (ended r)
+    ∙ ap (λ (next : Bool → Plan Came). followed_by (in_scope_plan scope.Default (kinds.Html (name_of t)) r.split) next) (λ i. λ b. block_rest depth t r b i)
+
+item_rest : (depth : ℕ) (t : Token) (r : Reached) (b : Bool) → followed_by (item_end_by r.split b) (ended r) ≡ acts_plan (rules_plan depth t) nothing_more false t 1 (if b then 1 else 3) (act.ImpliedExcept (Named known.Li) ∷ act.Through (Named known.Li) ∷ []) r
+unfolding names.known_of
+item_rest depth t r true = follow_assoc (implied_except_plan known.Li r.split) (through_plan (kinds.Html (text_of known.Li)) kinds.Nothing) (ended r)
+item_rest depth t r false = refl
+
+item_end_row : (depth : ℕ) (t : Token) (r : Reached) → Same depth (Closes closing.Item) t r
+item_end_row depth t r =
+    follow_assoc (in_scope_plan scope.ListItem (kinds.Html (text_of known.Li)) r.split) (item_end_by r.split) (ended r)
+    ∙ ap (λ (next : Bool → Plan Came). followed_by (in_scope_plan scope.ListItem (kinds.Html (text_of known.Li)) r.split) next) (λ i. λ b. item_rest depth t r b i)
+
+paragraph_rest : (depth : ℕ) (t : Token) (r : Reached) (b : Bool) → followed_by (paragraph_end_by r.split b) (ended r) ≡ acts_plan (rules_plan depth t) nothing_more false t 1 (if b then 2 else 1) (act.InsertBare known.P ∷ act.CloseParagraph ∷ []) r
+paragraph_rest depth t r true = refl
+paragraph_rest depth t r false = follow_assoc (insert_plan false (bare (text_of known.P)) r.split) close_paragraph_plan (ended r)
+
+paragraph_end_row : (depth : ℕ) (t : Token) (r : Reached) → Same depth (Closes closing.Paragraph) t r
+paragraph_end_row depth t r =
+    follow_assoc (in_scope_plan scope.Button (kinds.Html (text_of known.P)) r.split) (paragraph_end_by r.split) (ended r)
+    ∙ ap (λ (next : Bool → Plan Came). followed_by (in_scope_plan scope.Button (kinds.Html (text_of known.P)) r.split) next) (λ i. λ b. paragraph_rest depth t r b i)
+
+row_runs : (depth : ℕ) (row : UsualRow) (t : Token) (r : Reached) → Same depth row t r
+row_runs depth (Opens opening.Block) t r = block_row depth t r
+row_runs depth (Opens opening.Item) t r = item_row depth t r
+row_runs depth (Opens opening.Link) t r = link_row depth t r
+row_runs depth (Opens opening.Formatting) t r = formatting_row depth t r
+row_runs depth (Opens opening.Ordinary) t r = ordinary_row depth t r
+row_runs depth (Closes closing.Block) t r = block_end_row depth t r
+row_runs depth (Closes closing.Item) t r = item_end_row depth t r
+row_runs depth (Closes closing.Paragraph) t r = paragraph_end_row depth t r
+row_runs depth (Closes closing.Formatting) t r = refl
+row_runs depth (Closes closing.Ordinary) t r = refl
+
+in_body_acts : (t : Token) (r : Reached) → mode_plan t mode.InBody r ≡ acts_plan (rules_plan 3 t) nothing_more false t 0 0 (acts_for in_body (kind_of t)) r
+unfolding rules_plan every_mode_rows
+in_body_acts t r = refl
+
+not_early : (page : Option Page) → is_early page mode.InBody ≡ false
+not_early (Some page) = refl
+not_early None = refl
+
+or_true : (a : Bool) → (a || true) ≡ true
+or_true true = refl
+or_true false = refl
+
+-- nothing is foreign content where the current node is an own HTML element
+not_foreign : (k : Kind) (v : Split) (stack : List OpenElement) → has_html_top stack ≡ true → goes_on k v stack ≡ gives false
+not_foreign k v [] h = absurd (cc)
+not_foreign k v (e ∷ es) h =
+    ap gives (ap (λ b. not (b || enters e.point k || (is_annotation e && is_svg_start k))) (ap (λ b. is_end_of_input k || b) h ∙ or_true (is_end_of_input k)))
+
+usual_turn : (row : UsualRow) (t : Token) (r : Reached) → IsUsual r.split t row → turn_plan t r ≡ followed_by (usual_plan row t r.split) (ended r)
+usual_turn row t r u =
+    turn_on t r (ap (is_early r.split.page) u.place ∙ not_early r.split.page)
+    ∙ (ap (λ p. followed_by p (dispatched t r.split.change.mode r)) (not_foreign (kind_of t) r.split r.split.change.stack u.top)
+    ∙ (ap (λ m. mode_plan t m r) u.place
+    ∙ (in_body_acts t r
+    ∙ (ap (λ acts. acts_plan (rules_plan 3 t) nothing_more false t 0 0 acts r) u.acts
+    ∙ sym (row_runs 3 row t r)))))
+
+abbrev done_with : Split → Plan Reached
+done_with v = gives (record { split = v; handled = nothing_asked })
+
+some_turns : (n : ℕ) (row : UsualRow) (t : Token) (r : Reached) → IsUsual r.split t row → 0 < n → turns_plan n t r ≡ followed_by (usual_plan row t r.split) (λ v. gives (changed r v))
+some_turns n row t r u few =
+    let all : n ≡ n - 0 = omega arith in
+    ap (λ k. turns_plan k t r) all
+    ∙ (turns_next n 0 t r few
+    ∙ (ap (λ p. followed_by p (where_again (turns_plan (n - 1)))) (usual_turn row t r u)
+    ∙ follow_assoc (usual_plan row t r.split) (ended r) (where_again (turns_plan (n - 1)))))
+
+usual_alike : (row : UsualRow) (t : Token) (v : Split) → IsUsual v t row → all_turns_plan t v ≡ followed_by (usual_plan row t v) done_with
+usual_alike row t v u = some_turns (most_turns v) row t (record { split = v; handled = nothing_asked }) u (omega arith)
+
+-- one call, and then another
+pub carries_next : (result : Result (Unit {0}) Refusal) (old mid new : Sight) (p q : Split → Plan Split) → Runs old.heard mid.heard (p old.split) (Ok mid.split) → Carries result mid new q → Carries result old new (λ v. followed_by (p v) q)
+carries_next (Ok u) old mid new p q run k = runs_then q run k
+carries_next (Err (Crossed crossing)) old mid new p q run k = runs_then q run k
+carries_next (Err NoMemory) old mid new p q run k = tt
+
+carries_refused : (refusal : Refusal) (old new : Sight) (p q : Split → Plan Split) → Carries (Err refusal) old new p → Carries (Err refusal) old new (λ v. followed_by (p v) q)
+carries_refused (Crossed crossing) old new p q k = runs_crosses q k
+carries_refused NoMemory old new p q k = tt
+
+-- the first was refused
+pub carries_failed : (result : Result (Unit {0}) Refusal) (refusal : Refusal) (old new : Sight) (p q : Split → Plan Split) → IsErrAnd result (λ e. e ≡ refusal) → Carries (Err refusal) old new p → Carries result old new (λ v. followed_by (p v) q)
+carries_failed (Ok u) refusal old new p q is k = absurd is
+carries_failed (Err e) refusal old new p q is k = let P : Refusal → Type 0 = λ x. Carries (Err x) old new (λ v. followed_by (p v) q) in subst P (sym is) (carries_refused refusal old new p q k)
+
+-- what was found out, and then a call
+pub carries_then : {X : Type 0} (result : Result (Unit {0}) Refusal) (old mid new : Sight) (plan : Split → Plan X) (next : Split → X → Plan Split) (x : X)
+    → Finds old mid plan x → Carries result mid new (λ v. next v x) → Carries result old new (λ v. followed_by (plan v) (next v))
+carries_then (Ok u) old mid new plan next x f k =
+    let P : Split → Type 0 = λ v. Runs mid.heard new.heard (next v x) (Ok new.split) in
+    runs_then (next old.split) f.runs (subst P f.same k)
+carries_then (Err (Crossed crossing)) old mid new plan next x f k =
+    let P : Split → Type 0 = λ v. Runs mid.heard new.heard (next v x) (Err crossing) in
+    runs_then (next old.split) f.runs (subst P f.same k)
+carries_then (Err NoMemory) old mid new plan next x f k = tt
+
+pub usual_acts_of : (acts other : List Act) (o : Option UsualRow) → acts ≡ other → IfSome o (λ row. acts ≡ usual_acts row) → IfSome o (λ row. other ≡ usual_acts row)
+usual_acts_of acts other o e h = subst (λ xs. IfSome o (λ row. xs ≡ usual_acts row)) e h
+
+pub usual_there : (v : Split) (t : Token) (o : Option UsualRow) → v.change.mode ≡ mode.InBody → has_html_top v.change.stack ≡ true → IfSome o (λ row. acts_for in_body (kind_of t) ≡ usual_acts row) → IfSome o (λ row. IsUsual v t row)
+usual_there v t None place top h = tt
+usual_there v t (Some row) place top h = record { place = place; top = top; acts = h }
+
+-- it was carried out, and nothing is asked
+pub usual_done : (old new : Sight) (row : UsualRow) (t : Token) → IsUsual old.split t row → Carries (Ok tt) old new (usual_plan row t) → Handles (Ok nothing_asked) old new (all_turns_plan t)
+usual_done old new row t u run =
+    let P : Plan Reached → Type 0 = λ plan. Runs old.heard new.heard plan (Ok (record { split = new.split; handled = nothing_asked })) in
+    subst P (sym (usual_alike row t old.split u)) (runs_then done_with run (runs_gives new.heard (record { split = new.split; handled = nothing_asked })))
+
+-- it crosses there, or memory is wanting
+pub usual_refused : (refused : Refusal) (old new : Sight) (row : UsualRow) (t : Token) → IsUsual old.split t row → Carries (Err refused) old new (usual_plan row t) → Handles (Err refused) old new (all_turns_plan t)
+usual_refused (Crossed crossing) old new row t u run =
+    let P : Plan Reached → Type 0 = λ plan. Runs old.heard new.heard plan (Err crossing) in
+    subst P (sym (usual_alike row t old.split u)) (runs_crosses done_with run)
+usual_refused NoMemory old new row t u run = tt

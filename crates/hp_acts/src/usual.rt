@@ -1,0 +1,347 @@
+//! The usual rows of the body, carried out without the table: a short way to what it says (13.2.6.4.7).
+ghost use Rattle.std.specs.Prelude.{◌≡◌, false, true, IfSome};
+ghost use Rattle.hp_elements.specs.Rules.{acts_for, acts_numbered};
+ghost use Rattle.hp_elements.specs.Tokens.{kind_of};
+ghost use Rattle.hp_elements.specs.declared.token.Mode.TheVariants.{InBody};
+ghost use Rattle.hp_elements.specs.declared.sets.Namespace.TheVariants.{Html};
+ghost use Rattle.hp_rules_body.specs.Body.{in_body};
+ghost use Rattle.hp_rules_body.specs.Table.{all_rows};
+ghost use Rattle.hp_views.specs.View.{sight, split_of, Carries};
+ghost use Rattle.hp_views.specs.PlacePlans.{insert_plan};
+ghost use Rattle.hp_acts.specs.HandlePlans.{all_turns_plan};
+ghost use Rattle.hp_acts.specs.Handling.{Handles};
+ghost use Rattle.hp_acts.specs.Usual.{IsUsual, block_end_by, block_end_plan, block_plan, closing_plan, formatting_plan, item_after_plan, item_end_by, item_end_plan, item_plan, link_plan, listed_plan, opening_plan, ordinary_plan, paragraph_end_by, paragraph_end_plan, usual_acts, usual_plan};
+
+use crate::plain::is_in_html;
+use crate::token_parts::{bare, into_name, into_tag};
+use crate::turns::{Handled, NOTHING};
+use hp_adoption::{adopt, append_to_list, close_link, reconstruct};
+use hp_control::{Below, Refusal};
+use hp_elements::{Kinds, Known, Mode, Name, Point, Scope, Tag, Token};
+use hp_views::View;
+use std::alloc::Global;
+
+/// What a start tag opens.
+#[derive(Clone, Copy)]
+pub(crate) enum Opening {
+    /// An element before which a paragraph ends.
+    Block,
+    /// A list item.
+    Item,
+    /// A link.
+    Link,
+    /// A formatting element.
+    Formatting,
+    Ordinary,
+}
+
+/// What an end tag closes.
+#[derive(Clone, Copy)]
+pub(crate) enum Closing {
+    Block,
+    Item,
+    Paragraph,
+    Formatting,
+    Ordinary,
+}
+
+/// A row of the body that many tags have.
+#[derive(Clone, Copy)]
+pub(crate) enum UsualRow {
+    Opens(Opening),
+    Closes(Closing),
+}
+
+/// The row of that number, where it is a usual one.
+fn usual_numbered(number: u16) -> Option<UsualRow>
+    ensures { IfSome result (λ row. acts_numbered all_rows number ≡ usual_acts row) }
+{
+    match number {
+        12 => Some(UsualRow::Opens(Opening::Block)),
+        16 => Some(UsualRow::Opens(Opening::Item)),
+        20 => Some(UsualRow::Closes(Closing::Block)),
+        22 => Some(UsualRow::Closes(Closing::Paragraph)),
+        23 => Some(UsualRow::Closes(Closing::Item)),
+        26 => Some(UsualRow::Opens(Opening::Link)),
+        28 => Some(UsualRow::Opens(Opening::Formatting)),
+        29 => Some(UsualRow::Closes(Closing::Formatting)),
+        49 => Some(UsualRow::Opens(Opening::Ordinary)),
+        50 => Some(UsualRow::Closes(Closing::Ordinary)),
+        _ => None,
+    }
+}
+
+/// The usual row that the token has in the body.
+#[tactic(auto, using(crate::proofs::UsualRuns::usual_acts_of))]
+fn usual_in_body(token: &Token<'_>) -> Option<UsualRow>
+    ensures { IfSome result (λ row. acts_for in_body (kind_of token.now) ≡ usual_acts row) }
+{
+    match hp_rules_body::row(Mode::InBody, token) {
+        Some(number) => usual_numbered(number),
+        None => None,
+    }
+}
+
+/// Whether the rules of the body are used.
+fn is_body(mode: Mode) -> bool
+    ensures { result ≡ true → mode ≡ InBody }
+{
+    match mode {
+        Mode::InBody => true,
+        _ => false,
+    }
+}
+
+/// The usual row that the token has in this state; none where another row is to be carried out.
+#[tactic(auto, using(crate::proofs::UsualRuns::usual_there))]
+#[inline(always)]
+pub(crate) fn usual_row<'p, B: Below>(view: &View<'p, B>, token: &Token<'p>) -> Option<UsualRow>
+    ensures { IfSome result (λ row. IsUsual (split_of view.now) token.now row) }
+{
+    if is_body(view.change.mode) && is_in_html(&view.change.stack) {
+        usual_in_body(token)
+    } else {
+        None
+    }
+}
+
+/// Handles a token that has that row.
+#[inline(never)]
+pub(crate) fn handle_usual<'p, B: Below>(
+    alloc: Global,
+    view: &mut View<'p, B>,
+    token: Token<'p>,
+    row: UsualRow,
+) -> Result<Handled, Refusal>
+    requires { IsUsual (split_of view.old) token row }
+    ensures { Handles result (sight B.heard view.old) (sight B.heard view.new) (all_turns_plan token.entry) }
+{
+    match carry_usual(alloc, view, token, row) {
+        Ok(()) => Ok(NOTHING),
+        Err(refused) => Err(refused),
+    }
+}
+
+#[inline(always)]
+fn carry_usual<'p, B: Below>(
+    alloc: Global,
+    view: &mut View<'p, B>,
+    token: Token<'p>,
+    row: UsualRow,
+) -> Result<(), Refusal>
+    ensures { Carries result (sight B.heard view.old) (sight B.heard view.new) (usual_plan row token.entry) }
+{
+    match row {
+        UsualRow::Opens(row) => {
+            let tag = into_tag(alloc, token)?;
+            open(alloc, view, tag, row)
+        }
+        UsualRow::Closes(row) => {
+            let name = into_name(alloc, token)?;
+            close(alloc, view, name, row)
+        }
+    }
+}
+
+#[inline(always)]
+fn open<'p, B: Below>(
+    alloc: Global,
+    view: &mut View<'p, B>,
+    tag: Tag,
+    row: Opening,
+) -> Result<(), Refusal>
+    requires html { tag.namespace ≡ Html }
+    ensures { Carries result (sight B.heard view.old) (sight B.heard view.new) (opening_plan row tag) }
+{
+    match row {
+        Opening::Block => open_block(alloc, view, tag),
+        Opening::Item => open_item(alloc, view, tag),
+        Opening::Link => open_link(alloc, view, tag),
+        Opening::Formatting => open_formatting(alloc, view, tag),
+        Opening::Ordinary => open_ordinary(alloc, view, tag),
+    }
+}
+
+#[inline(always)]
+fn close<'p, B: Below>(
+    alloc: Global,
+    view: &mut View<'p, B>,
+    name: Name,
+    row: Closing,
+) -> Result<(), Refusal>
+    ensures { Carries result (sight B.heard view.old) (sight B.heard view.new) (closing_plan row name) }
+{
+    match row {
+        Closing::Block => close_block(alloc, view, name),
+        Closing::Item => close_item(alloc, view),
+        Closing::Paragraph => close_paragraph(alloc, view),
+        Closing::Formatting => adopt(alloc, view, false, name),
+        Closing::Ordinary => view.walk(alloc, name),
+    }
+}
+
+/// Inserts an HTML element.
+#[inline(always)]
+fn insert<'p, B: Below>(alloc: Global, view: &mut View<'p, B>, tag: Tag) -> Result<(), Refusal>
+    requires html { tag.namespace ≡ Html }
+    ensures { Carries result (sight B.heard view.old) (sight B.heard view.new) (insert_plan false tag) }
+{
+    view.insert(alloc, false, tag, Point::No)
+}
+
+fn open_block<'p, B: Below>(alloc: Global, view: &mut View<'p, B>, tag: Tag) -> Result<(), Refusal>
+    requires html { tag.namespace ≡ Html }
+    ensures { Carries result (sight B.heard view.old) (sight B.heard view.new) (block_plan tag) }
+{
+    view.close_paragraph(alloc)?;
+    insert(alloc, view, tag)
+}
+
+fn open_item<'p, B: Below>(alloc: Global, view: &mut View<'p, B>, tag: Tag) -> Result<(), Refusal>
+    requires html { tag.namespace ≡ Html }
+    ensures { Carries result (sight B.heard view.old) (sight B.heard view.new) (item_plan tag) }
+{
+    view.frameset_not_ok(alloc)?;
+    open_item_after(alloc, view, tag)
+}
+
+/// Closes the item before, and opens this one.
+#[inline(always)]
+fn open_item_after<'p, B: Below>(
+    alloc: Global,
+    view: &mut View<'p, B>,
+    tag: Tag,
+) -> Result<(), Refusal>
+    requires html { tag.namespace ≡ Html }
+    ensures { Carries result (sight B.heard view.old) (sight B.heard view.new) (item_after_plan tag) }
+{
+    view.close_item(alloc)?;
+    open_block(alloc, view, tag)
+}
+
+fn open_link<'p, B: Below>(alloc: Global, view: &mut View<'p, B>, tag: Tag) -> Result<(), Refusal>
+    requires html { tag.namespace ≡ Html }
+    ensures { Carries result (sight B.heard view.old) (sight B.heard view.new) (link_plan tag) }
+{
+    close_link(alloc, view, false)?;
+    open_formatting(alloc, view, tag)
+}
+
+fn open_formatting<'p, B: Below>(
+    alloc: Global,
+    view: &mut View<'p, B>,
+    tag: Tag,
+) -> Result<(), Refusal>
+    requires html { tag.namespace ≡ Html }
+    ensures { Carries result (sight B.heard view.old) (sight B.heard view.new) (formatting_plan tag) }
+{
+    reconstruct(alloc, view, false)?;
+    insert_listed(alloc, view, tag)
+}
+
+/// Inserts an HTML element, which stands in the list of formatting elements as well.
+#[inline(always)]
+fn insert_listed<'p, B: Below>(
+    alloc: Global,
+    view: &mut View<'p, B>,
+    tag: Tag,
+) -> Result<(), Refusal>
+    requires html { tag.namespace ≡ Html }
+    ensures { Carries result (sight B.heard view.old) (sight B.heard view.new) (listed_plan tag) }
+{
+    let listed = tag.copy(alloc)?;
+    insert(alloc, view, tag)?;
+    append_to_list(alloc, view, listed)
+}
+
+fn open_ordinary<'p, B: Below>(
+    alloc: Global,
+    view: &mut View<'p, B>,
+    tag: Tag,
+) -> Result<(), Refusal>
+    requires html { tag.namespace ≡ Html }
+    ensures { Carries result (sight B.heard view.old) (sight B.heard view.new) (ordinary_plan tag) }
+{
+    reconstruct(alloc, view, false)?;
+    insert(alloc, view, tag)
+}
+
+fn close_block<'p, B: Below>(
+    alloc: Global,
+    view: &mut View<'p, B>,
+    name: Name,
+) -> Result<(), Refusal>
+    ensures { Carries result (sight B.heard view.old) (sight B.heard view.new) (block_end_plan name) }
+{
+    let goals = Kinds::Html(name.copy(alloc)?);
+    let is_open = view.in_scope(alloc, Scope::Default, goals)?;
+    end_block(alloc, view, name, is_open)
+}
+
+/// Closes the block of the name with what its end implies, where it is in scope.
+#[inline(always)]
+fn end_block<'p, B: Below>(
+    alloc: Global,
+    view: &mut View<'p, B>,
+    name: Name,
+    is_open: bool,
+) -> Result<(), Refusal>
+    ensures { Carries result (sight B.heard view.old) (sight B.heard view.new) (λ v. block_end_by name v is_open) }
+{
+    if is_open {
+        view.implied(alloc)?;
+        view.through(alloc, Kinds::Html(name), Kinds::Nothing)
+    } else {
+        Ok(())
+    }
+}
+
+fn close_item<'p, B: Below>(alloc: Global, view: &mut View<'p, B>) -> Result<(), Refusal>
+    ensures { Carries result (sight B.heard view.old) (sight B.heard view.new) item_end_plan }
+{
+    let goals = Kinds::Html(Name::of_known(Known::Li));
+    let is_open = view.in_scope(alloc, Scope::ListItem, goals)?;
+    end_item(alloc, view, is_open)
+}
+
+/// Closes the list item with what its end implies, where one is in scope.
+#[inline(always)]
+fn end_item<'p, B: Below>(
+    alloc: Global,
+    view: &mut View<'p, B>,
+    is_open: bool,
+) -> Result<(), Refusal>
+    ensures { Carries result (sight B.heard view.old) (sight B.heard view.new) (λ v. item_end_by v is_open) }
+{
+    if is_open {
+        view.implied_except(alloc, Known::Li)?;
+        view.through_named(alloc, Name::of_known(Known::Li))
+    } else {
+        Ok(())
+    }
+}
+
+fn close_paragraph<'p, B: Below>(alloc: Global, view: &mut View<'p, B>) -> Result<(), Refusal>
+    ensures { Carries result (sight B.heard view.old) (sight B.heard view.new) paragraph_end_plan }
+{
+    let goals = Kinds::Html(Name::of_known(Known::P));
+    let is_open = view.in_scope(alloc, Scope::Button, goals)?;
+    end_paragraph(alloc, view, is_open)
+}
+
+/// Closes the paragraph; where none is in scope, an empty one stands there.
+#[inline(always)]
+fn end_paragraph<'p, B: Below>(
+    alloc: Global,
+    view: &mut View<'p, B>,
+    is_open: bool,
+) -> Result<(), Refusal>
+    ensures { Carries result (sight B.heard view.old) (sight B.heard view.new) (λ v. paragraph_end_by v is_open) }
+{
+    if is_open {
+        view.close_paragraph(alloc)
+    } else {
+        insert(alloc, view, bare(Known::P))?;
+        view.close_paragraph(alloc)
+    }
+}
