@@ -1,5 +1,5 @@
 -- The straight way of a usual row comes to the same as the table's.
-use Rattle.std.proofs.Common.{◌≡◌, ℕ, suc, ◌-◌, ◌<◌, true, false, List, [], ◌∷◌, Option, Some, None, Result, Ok, Err, refl, ap, sym, subst, ◌∙◌, arith}
+use Rattle.std.proofs.Common.{◌≡◌, ℕ, ◌-◌, ◌<◌, true, false, List, [], ◌∷◌, Option, Some, None, Result, Ok, Err, refl, ap, sym, subst, ◌∙◌, arith}
 use Rattle.std.specs.Prelude.{Bool, IfSome, if◌then◌else◌, not, ◌||◌, ◌&&◌}
 use Rattle.std.specs.Result.{IsErrAnd}
 use Rattle.hp_elements.specs.Names as names
@@ -12,7 +12,6 @@ use Rattle.hp_elements.specs.declared.act.Scope.TheVariants as scope
 use Rattle.hp_elements.specs.declared.act.Which.TheVariants.{Its, Named}
 use Rattle.hp_elements.specs.declared.kinds.Kinds.TheVariants as kinds
 use Rattle.hp_elements.specs.declared.known.Known.TheVariants as known
-use Rattle.hp_elements.specs.declared.tag.Tag.{Tag}
 use Rattle.hp_elements.specs.declared.token.Kind.{Kind}
 use Rattle.hp_elements.specs.declared.token.Mode.TheVariants as mode
 use Rattle.hp_elements.specs.declared.token.Token.{Token}
@@ -21,9 +20,8 @@ use Rattle.hp_control.specs.declared.change.Refusal.TheVariants.{Crossed, NoMemo
 use Rattle.hp_control.specs.declared.element.OpenElement.{OpenElement}
 use Rattle.hp_control.specs.Faithful.{Page, Split}
 use Rattle.hp_control.specs.Foreign.{enters, is_annotation, is_end_of_input, is_svg_start}
-use Rattle.hp_control.specs.Plan.{Plan, gives, followed_by, Heard, Runs}
+use Rattle.hp_control.specs.Plan.{Plan, gives, followed_by, Runs}
 use Rattle.hp_control.specs.Running.{runs_crosses, runs_gives, runs_then}
-use Rattle.hp_control.specs.States.{is_html}
 use Rattle.hp_adoption.specs.ArkPlans.{append_to_list_plan}
 use Rattle.hp_adoption.specs.LinkPlans.{close_link_plan}
 use Rattle.hp_adoption.specs.ReconPlans.{reconstruct_plan}
@@ -41,7 +39,7 @@ use Rattle.hp_acts.specs.HandlePlans.{all_turns_plan, most_turns, turns_plan, wh
 use Rattle.hp_acts.specs.Handling.{Handles, nothing_asked}
 use Rattle.hp_acts.specs.RowPlans.{Reached, Came, left, acts_plan, changed, dispatched, is_early, mode_plan, nothing_more, rules_plan, turn_plan}
 use Rattle.hp_acts.specs.Spending.{html_tag}
-use Rattle.hp_acts.specs.Usual.{IsUsual, block_end_by, block_plan, item_after_plan, item_end_by, formatting_plan, listed_plan, paragraph_end_by, usual_acts, usual_plan}
+use Rattle.hp_acts.specs.Usual.{IsUsual, block_end_by, item_end_by, paragraph_end_by, usual_acts, usual_plan}
 use Rattle.hp_acts.specs.declared.usual.Closing.TheVariants as closing
 use Rattle.hp_acts.specs.declared.usual.Opening.TheVariants as opening
 use Rattle.hp_acts.specs.declared.usual.UsualRow.{UsualRow}
