@@ -1,9 +1,11 @@
-//! Steps over the guess of a prescan: each comes out, and what was asked is true of the guessed state.
+//! Steps over a guess that says what one stored state says: each comes out, and what was asked is true of that state.
+ghost use Rattle.hp_control.specs.Truth.{answer_of};
+
 use crate::carrying::Step::{
     self, Crosses, Does, Fails, Fosters, Handles, Holds, IsHtml, LastTag, Notes, Puts, Reads,
 };
 use crate::carrying::count_of;
-use hp_control::{Assumptions, Control, Guess, truth};
+use hp_control::{Answer, Assumptions, Control, Guess, Predictor, Question, answer, truth};
 use hp_elements::{Act, Known, Mode, NoMemory, Scope, SetName, Test, Which};
 use hp_predict::Prescan;
 use hp_text::{Chunk, Page, check_page};
@@ -16,7 +18,7 @@ const PARAGRAPH: Test = Test::InScope(Scope::Button, Which::Its);
 
 const CELL: Test = Test::OneInScope(Scope::Table, SetName::Cells);
 
-/// A text, steps over the guess behind it, and how many own elements are open then and how many older ones are gone.
+/// A text, steps over the state that a prescan reads off it, and how many own elements are open then and how many older ones are gone.
 struct Case {
     before: &'static str,
     steps: &'static [Step],
@@ -199,6 +201,20 @@ static CASES: &[Case] = &[
     },
 ];
 
+/// Says what one stored state says.
+#[derive(Drop)]
+struct Stored {
+    control: Control,
+}
+
+impl Predictor for Stored {
+    ghost says = { λ stored. answer_of stored.control };
+
+    fn say(&self, alloc: Global, question: &Question) -> Result<Answer, NoMemory> {
+        answer(alloc, &self.control, question)
+    }
+}
+
 /// The part of the page behind its last byte.
 fn end_of<'p>(rt: &impl Abort, page: Page<'p>) -> Chunk<'p> {
     let text = page.as_str();
@@ -212,10 +228,12 @@ fn end_of<'p>(rt: &impl Abort, page: Page<'p>) -> Chunk<'p> {
     }
 }
 
-/// What is guessed behind that text.
-fn guess(rt: &impl Abort, alloc: Global, before: &'static str) -> Result<Prescan, NoMemory> {
+/// What a prescan reads off that text.
+fn stored(rt: &impl Abort, alloc: Global, before: &'static str) -> Result<Stored, NoMemory> {
     let page = check_page(before.as_bytes()).expect(rt, "the page is UTF-8");
-    Ok(Prescan::new(alloc, &end_of(rt, page))?)
+    let prescan = Prescan::new(alloc, &end_of(rt, page))?;
+    let control = prescan.state().copy(alloc)?;
+    Ok(Stored { control })
 }
 
 /// Whether each answer that was kept is true of the state.
@@ -230,7 +248,7 @@ fn are_true(state: &Control, kept: &Assumptions) -> bool {
 
 /// Carries the steps of a case out.
 fn passes(rt: &impl Abort, alloc: Global, case: &Case) -> Result<(), Fail> {
-    let guess = Guess::new(guess(rt, alloc, case.before)?);
+    let guess = Guess::new(stored(rt, alloc, case.before)?);
     let (mut view, _) = View::guessed(alloc, guess)?;
     let count = count_of(alloc, &mut view, case.steps);
     assert_eq!(rt; count, case.steps.len(), "behind {}", case.before);
@@ -241,7 +259,7 @@ fn passes(rt: &impl Abort, alloc: Global, case: &Case) -> Result<(), Fail> {
         case.before
     );
     assert_eq!(rt; view.change.popped, case.gone, "behind {}", case.before);
-    assert!(rt; are_true(view.below.predictor.state(), &view.below.kept));
+    assert!(rt; are_true(&view.below.predictor.control, &view.below.kept));
     Ok(())
 }
 
