@@ -229,7 +229,7 @@ fn end_of<'p>(rt: &impl Abort, page: Page<'p>) -> Chunk<'p> {
 }
 
 /// What a prescan reads off that text.
-fn stored(rt: &impl Abort, alloc: Global, before: &'static str) -> Result<Stored, NoMemory> {
+fn read_off(rt: &impl Abort, alloc: Global, before: &'static str) -> Result<Stored, NoMemory> {
     let page = check_page(before.as_bytes()).expect(rt, "the page is UTF-8");
     let prescan = Prescan::new(alloc, &end_of(rt, page))?;
     let control = prescan.state().copy(alloc)?;
@@ -248,7 +248,7 @@ fn are_true(state: &Control, kept: &Assumptions) -> bool {
 
 /// Carries the steps of a case out.
 fn passes(rt: &impl Abort, alloc: Global, case: &Case) -> Result<(), Fail> {
-    let guess = Guess::new(stored(rt, alloc, case.before)?);
+    let guess = Guess::new(read_off(rt, alloc, case.before)?);
     let (mut view, _) = View::guessed(alloc, guess)?;
     let count = count_of(alloc, &mut view, case.steps);
     assert_eq!(rt; count, case.steps.len(), "behind {}", case.before);
