@@ -34,7 +34,7 @@ pub(crate) enum Step {
     EmptiesForm,
 }
 
-fn start(known: Known) -> Token<'static> {
+fn start<'p>(known: Known) -> Token<'p> {
     let tag = Tag {
         namespace: Namespace::Html,
         name: Name::of_known(known),
@@ -46,14 +46,14 @@ fn start(known: Known) -> Token<'static> {
     }
 }
 
-fn letter() -> Token<'static> {
+fn letter<'p>() -> Token<'p> {
     Token::Characters {
         class: CharClass::Other,
         text: Text::of_char('a'),
     }
 }
 
-fn comment() -> Token<'static> {
+fn comment<'p>() -> Token<'p> {
     Token::Comment { text: Text::new() }
 }
 
@@ -62,11 +62,11 @@ fn of_test(test: Test) -> Act {
 }
 
 /// Whether the act is carried out, and is no test that fails.
-fn carries<B: Below>(
+fn carries<'p, B: Below>(
     alloc: Global,
-    view: &mut View<'static, B>,
+    view: &mut View<'p, B>,
     act: Act,
-    token: Token<'static>,
+    token: Token<'p>,
     fostering: bool,
 ) -> Option<bool> {
     let mut token = token;
@@ -75,7 +75,7 @@ fn carries<B: Below>(
 }
 
 /// Whether the act crosses.
-fn crosses<B: Below>(alloc: Global, view: &mut View<'static, B>, act: Act, known: Known) -> bool {
+fn crosses<'p, B: Below>(alloc: Global, view: &mut View<'p, B>, act: Act, known: Known) -> bool {
     let mut token = start(known);
     let spending = Spending::Copies;
     match carry(alloc, view, act, &mut token, spending, false) {
@@ -84,31 +84,31 @@ fn crosses<B: Below>(alloc: Global, view: &mut View<'static, B>, act: Act, known
     }
 }
 
-fn handles<B: Below>(alloc: Global, view: &mut View<'static, B>, known: Known) -> bool {
+fn handles<'p, B: Below>(alloc: Global, view: &mut View<'p, B>, known: Known) -> bool {
     handle(alloc, view, start(known)).is_ok()
 }
 
-fn reads<B: Below>(alloc: Global, view: &mut View<'static, B>) -> bool {
+fn reads<'p, B: Below>(alloc: Global, view: &mut View<'p, B>) -> bool {
     takes_text(view) && handle_text(alloc, view, Text::of_char('a')).is_ok()
 }
 
-fn is_html<B: Below>(alloc: Global, view: &mut View<'static, B>) -> bool {
+fn is_html<'p, B: Below>(alloc: Global, view: &mut View<'p, B>) -> bool {
     match view.foreign_now(alloc) {
         Ok(foreign) => !foreign,
         Err(_) => false,
     }
 }
 
-fn tells_last_tag<B: Below>(alloc: Global, view: &mut View<'static, B>) -> bool {
+fn tells_last_tag<'p, B: Below>(alloc: Global, view: &mut View<'p, B>) -> bool {
     view.last_tag(alloc).is_ok()
 }
 
-fn empties_form<B: Below>(alloc: Global, view: &mut View<'static, B>) -> bool {
+fn empties_form<'p, B: Below>(alloc: Global, view: &mut View<'p, B>) -> bool {
     view.empty_form(alloc).is_ok()
 }
 
 /// Whether the step comes out so.
-fn comes_out<B: Below>(alloc: Global, view: &mut View<'static, B>, step: Step) -> bool {
+fn comes_out<'p, B: Below>(alloc: Global, view: &mut View<'p, B>, step: Step) -> bool {
     let yes = Some(true);
     match step {
         Step::Does(known, act) => carries(alloc, view, act, start(known), false) == yes,
@@ -131,9 +131,9 @@ fn comes_out<B: Below>(alloc: Global, view: &mut View<'static, B>, step: Step) -
 }
 
 /// How many of the steps come out so, up to one that doesn't.
-pub(crate) fn count_of<B: Below>(
+pub(crate) fn count_of<'p, B: Below>(
     alloc: Global,
-    view: &mut View<'static, B>,
+    view: &mut View<'p, B>,
     steps: &[Step],
 ) -> usize {
     for (count, step) in steps.iter().enumerate() {
