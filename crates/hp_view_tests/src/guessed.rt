@@ -246,26 +246,35 @@ fn are_true(state: &Control, kept: &Assumptions) -> bool {
     true
 }
 
-/// Carries the steps of a case out.
-fn passes(rt: &impl Abort, alloc: Global, case: &Case) -> Result<(), Fail> {
-    let guess = Guess::new(read_off(rt, alloc, case.before)?);
-    let (mut view, _) = View::guessed(alloc, guess)?;
+/// A view over what a prescan reads off that text.
+fn over<'p>(
+    rt: &impl Abort,
+    alloc: Global,
+    before: &'static str,
+) -> Result<View<'p, Guess<Stored>>, NoMemory> {
+    let stored = read_off(rt, alloc, before)?;
+    let (view, _) = View::guessed(alloc, Guess::new(stored))?;
+    Ok(view)
+}
+
+/// Whether so many own elements are open, so many older ones are gone, and what was asked is true.
+fn ends_as(view: &View<'_, Guess<Stored>>, open: usize, gone: u64) -> bool {
+    view.change.stack.len() == open
+        && view.change.popped == gone
+        && are_true(&view.below.predictor.control, &view.below.kept)
+}
+
+/// Whether each step of the case comes out, and the view ends as it says.
+fn passes(rt: &impl Abort, alloc: Global, case: &Case) -> Result<bool, NoMemory> {
+    let mut view = over(rt, alloc, case.before)?;
     let count = count_of(alloc, &mut view, case.steps);
-    assert_eq!(rt; count, case.steps.len(), "behind {}", case.before);
-    assert_eq!(rt;
-        view.change.stack.len(),
-        case.open,
-        "behind {}",
-        case.before
-    );
-    assert_eq!(rt; view.change.popped, case.gone, "behind {}", case.before);
-    assert!(rt; are_true(&view.below.predictor.control, &view.below.kept));
-    Ok(())
+    Ok(count == case.steps.len() && ends_as(&view, case.open, case.gone))
 }
 
 fn all_pass(rt: &impl Abort, alloc: Global, cases: &[Case]) -> Result<(), Fail> {
     for case in cases {
-        passes(rt, alloc, case)?;
+        let passes = passes(rt, alloc, case)?;
+        assert!(rt; passes, "behind {}", case.before);
     }
     Ok(())
 }

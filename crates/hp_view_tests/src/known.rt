@@ -1,7 +1,7 @@
 //! Steps over a known state: those that a guess would have to cross, among others.
 use crate::carrying::Step::{self, Does, EmptiesForm, Fails, Holds, Notes};
 use crate::carrying::count_of;
-use hp_control::Control;
+use hp_control::{Control, Nothing};
 use hp_elements::{Act, Known, Test, Which};
 use hp_views::View;
 use std::alloc::Global;
@@ -70,18 +70,27 @@ static CASES: &[Case] = &[
     },
 ];
 
-fn passes(rt: &impl Abort, alloc: Global, case: &Case) {
-    let mut view = View::whole(Control::start());
-    assert_eq!(rt; count_of(alloc, &mut view, OPENING), OPENING.len());
+/// A view of the state before the first token.
+fn begun<'p>() -> View<'p, Nothing> {
+    View::whole(Control::start())
+}
+
+/// Whether so many elements are open, and so many edits made.
+fn ends_as(view: &View<'_, Nothing>, open: usize, edits: usize) -> bool {
+    view.change.stack.len() == open && view.edits.len() == edits
+}
+
+/// Whether each step comes out, and the view ends as the case says.
+fn passes(alloc: Global, case: &Case) -> bool {
+    let mut view = begun();
+    let opened = count_of(alloc, &mut view, OPENING);
     let count = count_of(alloc, &mut view, case.steps);
-    assert_eq!(rt; count, case.steps.len());
-    assert_eq!(rt; view.change.stack.len(), case.open);
-    assert_eq!(rt; view.edits.len(), case.edits);
+    opened == OPENING.len() && count == case.steps.len() && ends_as(&view, case.open, case.edits)
 }
 
 fn all_pass(rt: &impl Abort, alloc: Global, cases: &[Case]) {
-    for case in cases {
-        passes(rt, alloc, case);
+    for (number, case) in cases.iter().enumerate() {
+        assert!(rt; passes(alloc, case), "case {number}");
     }
 }
 
