@@ -4,6 +4,7 @@ use hp_control::{Below, Refusal};
 use hp_elements::{Act, Chain, CharClass, Known, Name, Namespace, Tag, Test, Text, Token};
 use hp_views::View;
 use std::alloc::Global;
+use std::mem;
 
 /// A step on a view. Start tags have no attributes, and what is put is one letter.
 #[derive(Clone, Copy)]
@@ -71,17 +72,18 @@ fn carries<'p, B: Below>(
 ) -> Option<bool> {
     let mut token = token;
     let spending = Spending::Copies;
-    carry(alloc, view, act, &mut token, spending, fostering).ok()
+    let done = carry(alloc, view, act, &mut token, spending, fostering).ok();
+    mem::forget(token);
+    done
 }
 
 /// Whether the act crosses.
 fn crosses<'p, B: Below>(alloc: Global, view: &mut View<'p, B>, act: Act, known: Known) -> bool {
     let mut token = start(known);
     let spending = Spending::Copies;
-    match carry(alloc, view, act, &mut token, spending, false) {
-        Err(Refusal::Crossed(_)) => true,
-        _ => false,
-    }
+    let done = carry(alloc, view, act, &mut token, spending, false);
+    mem::forget(token);
+    matches!(done, Err(Refusal::Crossed(_)))
 }
 
 fn handles<'p, B: Below>(alloc: Global, view: &mut View<'p, B>, known: Known) -> bool {
@@ -100,7 +102,13 @@ fn is_html<'p, B: Below>(alloc: Global, view: &mut View<'p, B>) -> bool {
 }
 
 fn tells_last_tag<'p, B: Below>(alloc: Global, view: &mut View<'p, B>) -> bool {
-    view.last_tag(alloc).is_ok()
+    match view.last_tag(alloc) {
+        Ok(name) => {
+            mem::forget(name);
+            true
+        }
+        Err(_) => false,
+    }
 }
 
 fn empties_form<'p, B: Below>(alloc: Global, view: &mut View<'p, B>) -> bool {

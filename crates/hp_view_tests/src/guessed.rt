@@ -1,16 +1,15 @@
-//! Steps over a guess that says what one stored state says: each comes out, and what was asked is true of that state.
-ghost use Rattle.hp_control.specs.Truth.{answer_of};
-
+//! Steps over the guess of a prescan: each comes out, and what was asked is true of the guessed state.
 use crate::carrying::Step::{
     self, Crosses, Does, Fails, Fosters, Handles, Holds, IsHtml, LastTag, Notes, Puts, Reads,
 };
 use crate::carrying::count_of;
-use hp_control::{Answer, Assumptions, Control, Guess, Predictor, Question, answer, truth};
+use hp_control::{Assumptions, Control, Guess, truth};
 use hp_elements::{Act, Known, Mode, NoMemory, Scope, SetName, Test, Which};
 use hp_predict::Prescan;
 use hp_text::{Chunk, Page, check_page};
 use hp_views::View;
 use std::alloc::Global;
+use std::mem;
 use std::process::Abort;
 use std::test::Fail;
 
@@ -201,20 +200,6 @@ static CASES: &[Case] = &[
     },
 ];
 
-/// Says what one stored state says.
-#[derive(Drop)]
-struct Stored {
-    control: Control,
-}
-
-impl Predictor for Stored {
-    ghost says = { λ stored. answer_of stored.control };
-
-    fn say(&self, alloc: Global, question: &Question) -> Result<Answer, NoMemory> {
-        answer(alloc, &self.control, question)
-    }
-}
-
 /// The part of the page behind its last byte.
 fn end_of<'p>(rt: &impl Abort, page: Page<'p>) -> Chunk<'p> {
     let text = page.as_str();
@@ -228,12 +213,10 @@ fn end_of<'p>(rt: &impl Abort, page: Page<'p>) -> Chunk<'p> {
     }
 }
 
-/// What a prescan reads off that text.
-fn read_off(rt: &impl Abort, alloc: Global, before: &'static str) -> Result<Stored, NoMemory> {
+/// What is guessed behind that text.
+fn guess(rt: &impl Abort, alloc: Global, before: &'static str) -> Result<Prescan, NoMemory> {
     let page = check_page(before.as_bytes()).expect(rt, "the page is UTF-8");
-    let prescan = Prescan::new(alloc, &end_of(rt, page))?;
-    let control = prescan.state().copy(alloc)?;
-    Ok(Stored { control })
+    Ok(Prescan::new(alloc, &end_of(rt, page))?)
 }
 
 /// Whether each answer that was kept is true of the state.
@@ -246,29 +229,32 @@ fn are_true(state: &Control, kept: &Assumptions) -> bool {
     true
 }
 
-/// A view over what a prescan reads off that text.
+/// A view over what is guessed behind that text.
 fn over<'p>(
     rt: &impl Abort,
     alloc: Global,
     before: &'static str,
-) -> Result<View<'p, Guess<Stored>>, NoMemory> {
-    let stored = read_off(rt, alloc, before)?;
-    let (view, _) = View::guessed(alloc, Guess::new(stored))?;
+) -> Result<View<'p, Guess<Prescan>>, NoMemory> {
+    let guess = guess(rt, alloc, before)?;
+    let (view, answer) = View::guessed(alloc, Guess::new(guess))?;
+    mem::forget(answer);
     Ok(view)
 }
 
 /// Whether so many own elements are open, so many older ones are gone, and what was asked is true.
-fn ends_as(view: &View<'_, Guess<Stored>>, open: usize, gone: u64) -> bool {
+fn ends_as(view: &View<'_, Guess<Prescan>>, open: usize, gone: u64) -> bool {
     view.change.stack.len() == open
         && view.change.popped == gone
-        && are_true(&view.below.predictor.control, &view.below.kept)
+        && are_true(view.below.predictor.state(), &view.below.kept)
 }
 
 /// Whether each step of the case comes out, and the view ends as it says.
 fn passes(rt: &impl Abort, alloc: Global, case: &Case) -> Result<bool, NoMemory> {
     let mut view = over(rt, alloc, case.before)?;
     let count = count_of(alloc, &mut view, case.steps);
-    Ok(count == case.steps.len() && ends_as(&view, case.open, case.gone))
+    let ends = ends_as(&view, case.open, case.gone);
+    mem::forget(view);
+    Ok(count == case.steps.len() && ends)
 }
 
 fn all_pass(rt: &impl Abort, alloc: Global, cases: &[Case]) -> Result<(), Fail> {

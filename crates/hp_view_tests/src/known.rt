@@ -5,6 +5,7 @@ use hp_control::{Control, Nothing};
 use hp_elements::{Act, Known, Test, Which};
 use hp_views::View;
 use std::alloc::Global;
+use std::mem;
 use std::process::Abort;
 
 /// How the head and the body of a page are opened.
@@ -85,7 +86,9 @@ fn passes(alloc: Global, case: &Case) -> bool {
     let mut view = begun();
     let opened = count_of(alloc, &mut view, OPENING);
     let count = count_of(alloc, &mut view, case.steps);
-    opened == OPENING.len() && count == case.steps.len() && ends_as(&view, case.open, case.edits)
+    let ends = ends_as(&view, case.open, case.edits);
+    mem::forget(view);
+    opened == OPENING.len() && count == case.steps.len() && ends
 }
 
 fn all_pass(rt: &impl Abort, alloc: Global, cases: &[Case]) {
