@@ -1,0 +1,153 @@
+//! What tests of views share: steps on a view, one after the other.
+use hp_acts::{Spending, carry, handle, handle_text, takes_text};
+use hp_control::{Below, Refusal};
+use hp_elements::{Act, Chain, CharClass, Known, Name, Namespace, Tag, Test, Text, Token};
+use hp_views::View;
+use std::alloc::Global;
+use std::mem;
+
+/// A step on a view. Start tags have no attributes, and what is put is one letter.
+#[derive(Clone, Copy)]
+pub(crate) enum Step {
+    /// The act for a start tag of that name is carried out.
+    Does(Known, Act),
+    /// With fostering on, the same.
+    Fosters(Known, Act),
+    /// The test holds for a start tag of that name.
+    Holds(Known, Test),
+    /// The test fails for a start tag of that name.
+    Fails(Known, Test),
+    /// The act for a start tag of that name crosses.
+    Crosses(Known, Act),
+    /// The act for a text is carried out.
+    Puts(Act),
+    /// The act for a comment is carried out.
+    Notes(Act),
+    /// A start tag of that name is handled.
+    Handles(Known),
+    /// A text is handled as it comes.
+    Reads,
+    /// The adjusted current node, where there is one, is an HTML element.
+    IsHtml,
+    /// The last start tag's name is told.
+    LastTag,
+    /// The form pointer is emptied.
+    EmptiesForm,
+}
+
+fn start<'p>(known: Known) -> Token<'p> {
+    let tag = Tag {
+        namespace: Namespace::Html,
+        name: Name::of_known(known),
+        attributes: Chain::new(),
+    };
+    Token::Start {
+        self_closing: false,
+        tag,
+    }
+}
+
+fn letter<'p>() -> Token<'p> {
+    Token::Characters {
+        class: CharClass::Other,
+        text: Text::of_char('a'),
+    }
+}
+
+fn comment<'p>() -> Token<'p> {
+    Token::Comment { text: Text::new() }
+}
+
+fn of_test(test: Test) -> Act {
+    Act::If { test, otherwise: 0 }
+}
+
+/// Whether the act is carried out, and is no test that fails.
+fn carries<'p, B: Below>(
+    alloc: Global,
+    view: &mut View<'p, B>,
+    act: Act,
+    token: Token<'p>,
+    fostering: bool,
+) -> Option<bool> {
+    let mut token = token;
+    let spending = Spending::Copies;
+    let done = carry(alloc, view, act, &mut token, spending, fostering).ok();
+    mem::forget(token);
+    done
+}
+
+/// Whether the act crosses.
+fn crosses<'p, B: Below>(alloc: Global, view: &mut View<'p, B>, act: Act, known: Known) -> bool {
+    let mut token = start(known);
+    let spending = Spending::Copies;
+    let done = carry(alloc, view, act, &mut token, spending, false);
+    mem::forget(token);
+    matches!(done, Err(Refusal::Crossed(_)))
+}
+
+fn handles<'p, B: Below>(alloc: Global, view: &mut View<'p, B>, known: Known) -> bool {
+    handle(alloc, view, start(known)).is_ok()
+}
+
+fn reads<'p, B: Below>(alloc: Global, view: &mut View<'p, B>) -> bool {
+    takes_text(view) && handle_text(alloc, view, Text::of_char('a')).is_ok()
+}
+
+fn is_html<'p, B: Below>(alloc: Global, view: &mut View<'p, B>) -> bool {
+    match view.foreign_now(alloc) {
+        Ok(foreign) => !foreign,
+        Err(_) => false,
+    }
+}
+
+fn tells_last_tag<'p, B: Below>(alloc: Global, view: &mut View<'p, B>) -> bool {
+    match view.last_tag(alloc) {
+        Ok(name) => {
+            mem::forget(name);
+            true
+        }
+        Err(_) => false,
+    }
+}
+
+fn empties_form<'p, B: Below>(alloc: Global, view: &mut View<'p, B>) -> bool {
+    view.empty_form(alloc).is_ok()
+}
+
+/// Whether the step comes out so.
+fn comes_out<'p, B: Below>(alloc: Global, view: &mut View<'p, B>, step: Step) -> bool {
+    let yes = Some(true);
+    match step {
+        Step::Does(known, act) => carries(alloc, view, act, start(known), false) == yes,
+        Step::Fosters(known, act) => carries(alloc, view, act, start(known), true) == yes,
+        Step::Holds(known, test) => {
+            carries(alloc, view, of_test(test), start(known), false) == yes
+        }
+        Step::Fails(known, test) => {
+            carries(alloc, view, of_test(test), start(known), false) == Some(false)
+        }
+        Step::Crosses(known, act) => crosses(alloc, view, act, known),
+        Step::Puts(act) => carries(alloc, view, act, letter(), false) == yes,
+        Step::Notes(act) => carries(alloc, view, act, comment(), false) == yes,
+        Step::Handles(known) => handles(alloc, view, known),
+        Step::Reads => reads(alloc, view),
+        Step::IsHtml => is_html(alloc, view),
+        Step::LastTag => tells_last_tag(alloc, view),
+        Step::EmptiesForm => empties_form(alloc, view),
+    }
+}
+
+/// How many of the steps come out so, up to one that doesn't.
+pub(crate) fn count_of<'p, B: Below>(
+    alloc: Global,
+    view: &mut View<'p, B>,
+    steps: &[Step],
+) -> usize {
+    for (count, step) in steps.iter().enumerate() {
+        if !comes_out(alloc, view, *step) {
+            return count;
+        }
+    }
+    steps.len()
+}

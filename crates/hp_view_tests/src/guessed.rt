@@ -1,0 +1,271 @@
+//! Steps over the guess of a prescan: each comes out, and what was asked is true of the guessed state.
+use crate::carrying::Step::{
+    self, Crosses, Does, Fails, Fosters, Handles, Holds, IsHtml, LastTag, Notes, Puts, Reads,
+};
+use crate::carrying::count_of;
+use hp_control::{Assumptions, Control, Guess, truth};
+use hp_elements::{Act, Known, Mode, NoMemory, Scope, SetName, Test, Which};
+use hp_predict::Prescan;
+use hp_text::{Chunk, Page, check_page};
+use hp_views::View;
+use std::alloc::Global;
+use std::mem;
+use std::process::Abort;
+use std::test::Fail;
+
+const PARAGRAPH: Test = Test::InScope(Scope::Button, Which::Its);
+
+const CELL: Test = Test::OneInScope(Scope::Table, SetName::Cells);
+
+/// A text, steps over the state that a prescan reads off it, and how many own elements are open then and how many older ones are gone.
+struct Case {
+    before: &'static str,
+    steps: &'static [Step],
+    open: usize,
+    gone: u64,
+}
+
+static CASES: &[Case] = &[
+    Case {
+        before: "<ul><li><dl><dt><p>",
+        steps: &[
+            Holds(Known::P, PARAGRAPH),
+            Does(Known::P, Act::CloseParagraph),
+            Fails(Known::P, PARAGRAPH),
+            Does(Known::P, Act::Insert),
+            Holds(Known::P, PARAGRAPH),
+            Does(Known::Dd, Act::CloseDescription),
+            Does(Known::Dl, Act::Through(Which::Its)),
+            Does(Known::Li, Act::CloseItem),
+            Does(Known::Ul, Act::Walk),
+        ],
+        open: 0,
+        gone: 5,
+    },
+    Case {
+        before: "<form>",
+        steps: &[
+            Fails(Known::Form, Test::TemplateInStack),
+            Holds(Known::Form, Test::HasForm),
+            Does(Known::Form, Act::EndForm),
+            Does(Known::Form, Act::InsertBare(Known::Form)),
+            Does(Known::Form, Act::FormPointer),
+            Does(Known::Div, Act::Insert),
+            Does(Known::Form, Act::EndForm),
+        ],
+        open: 1,
+        gone: 1,
+    },
+    Case {
+        before: "<form><div>",
+        steps: &[Crosses(Known::Form, Act::EndForm)],
+        open: 0,
+        gone: 0,
+    },
+    Case {
+        before: "<template><form>",
+        steps: &[Does(Known::Form, Act::EndForm)],
+        open: 0,
+        gone: 1,
+    },
+    Case {
+        before: "<table><tr><td><p>",
+        steps: &[
+            Holds(Known::Td, CELL),
+            Holds(Known::Td, Test::InTableModes),
+            Does(Known::Td, Act::Implied),
+            Holds(Known::Td, Test::CurrentIsIn(SetName::Cells)),
+            Does(Known::Td, Act::ThroughFirstOf(SetName::Cells)),
+            Does(Known::Td, Act::PopTo(SetName::TableContext)),
+            Does(Known::Td, Act::Pop),
+            Does(Known::Td, Act::Reset),
+            Does(Known::Td, Act::Pop),
+            Does(Known::Td, Act::Pop),
+            IsHtml,
+        ],
+        open: 0,
+        gone: 7,
+    },
+    Case {
+        before: "<table><tbody>",
+        steps: &[
+            Fosters(Known::B, Act::Insert),
+            Does(Known::B, Act::KeepOriginal),
+            Does(Known::B, Act::Switch(Mode::InTableText)),
+            Puts(Act::EmptyPending),
+            Puts(Act::AppendPending),
+            Puts(Act::Flush),
+            Does(Known::B, Act::ToOriginal),
+        ],
+        open: 1,
+        gone: 0,
+    },
+    Case {
+        before: "<b><i>",
+        steps: &[
+            Does(Known::A, Act::Reconstruct),
+            Holds(Known::A, Test::Listed(Known::B)),
+            Does(Known::A, Act::CloseLink),
+            Does(Known::A, Act::Insert),
+            Does(Known::A, Act::AppendToList),
+            Does(Known::A, Act::CloseLink),
+            Does(Known::U, Act::Insert),
+            Does(Known::U, Act::AppendToList),
+            Does(Known::P, Act::Insert),
+            Does(Known::U, Act::Adopt(Which::Its)),
+            Does(Known::A, Act::Marker),
+            Does(Known::A, Act::ClearToMarker),
+            Crosses(Known::B, Act::Adopt(Which::Its)),
+        ],
+        open: 1,
+        gone: 0,
+    },
+    Case {
+        before: "<a><b><b><b>",
+        steps: &[
+            Does(Known::B, Act::Insert),
+            Crosses(Known::B, Act::AppendToList),
+            Crosses(Known::A, Act::CloseLink),
+            Does(Known::B, Act::Pop),
+            Does(Known::B, Act::Pop),
+            Crosses(Known::P, Act::Reconstruct),
+        ],
+        open: 0,
+        gone: 1,
+    },
+    Case {
+        before: "<div>",
+        steps: &[
+            Fails(Known::Svg, Test::NamesForeign),
+            Does(Known::Svg, Act::InsertForeign),
+            Does(Known::A, Act::InsertAsCurrent),
+            Holds(Known::A, Test::NamesForeign),
+            Does(Known::A, Act::ThroughForeign),
+            Does(Known::A, Act::PopToPoint),
+            Puts(Act::Characters),
+            Puts(Act::Replacement),
+            Notes(Act::Comment),
+            Notes(Act::CommentIntoFirst),
+            IsHtml,
+            LastTag,
+            Handles(Known::P),
+            Reads,
+            Does(Known::P, Act::FramesetNotOk),
+            Does(Known::P, Act::SkipLineFeed),
+        ],
+        open: 1,
+        gone: 0,
+    },
+    Case {
+        before: "<template>",
+        steps: &[
+            Holds(Known::Body, Test::SecondIsBody),
+            Fails(Known::Body, Test::IsQuirks),
+            Fails(Known::Body, Test::FramesetOk),
+            Fails(Known::Input, Test::TypeIsHidden),
+            Fails(Known::Font, Test::HasFontAttribute),
+            Holds(Known::Body, Test::CurrentIs(Known::Template)),
+            Holds(Known::Body, Test::BelowIs(Known::Body)),
+            Holds(Known::Template, Test::TemplateInStack),
+            Does(Known::Template, Act::PushTemplateMode(Mode::InTable)),
+            Does(Known::Template, Act::ReplaceTemplateMode(Mode::InRow)),
+            Holds(Known::Template, Test::HasTemplateModes),
+            Does(Known::Template, Act::PopTemplateMode),
+            Does(Known::Template, Act::ImpliedThoroughly),
+            Does(Known::Template, Act::ImpliedExcept(Which::Its)),
+            Does(Known::Template, Act::ClearToMarker),
+            Crosses(Known::Template, Act::PopTemplateMode),
+            Crosses(Known::Template, Act::ReplaceTemplateMode(Mode::InRow)),
+            Does(Known::Body, Act::Insert),
+            Holds(Known::Body, Test::SecondIsBody),
+        ],
+        open: 1,
+        gone: 0,
+    },
+    Case {
+        before: "",
+        steps: &[
+            Crosses(Known::Html, Act::AddMissingToFirst),
+            Crosses(Known::Body, Act::AddMissingToBody),
+            Crosses(Known::Html, Act::Quirks),
+            Crosses(Known::Html, Act::QuirksOfDoctype),
+            Crosses(Known::Head, Act::HeadPointer),
+            Crosses(Known::Title, Act::PushHead),
+            Crosses(Known::Title, Act::TakeHeadOff),
+            Crosses(Known::Frameset, Act::DetachBody),
+            Crosses(Known::Frameset, Act::PopToFirst),
+        ],
+        open: 0,
+        gone: 0,
+    },
+];
+
+/// The part of the page behind its last byte.
+fn end_of<'p>(rt: &impl Abort, page: Page<'p>) -> Chunk<'p> {
+    let text = page.as_str();
+    let end = text.len();
+    assert!(rt; text.is_char_boundary(end));
+    Chunk {
+        page,
+        number: 1,
+        from: end as u64,
+        to: end as u64,
+    }
+}
+
+/// What is guessed behind that text.
+fn guess(rt: &impl Abort, alloc: Global, before: &'static str) -> Result<Prescan, NoMemory> {
+    let page = check_page(before.as_bytes()).expect(rt, "the page is UTF-8");
+    Ok(Prescan::new(alloc, &end_of(rt, page))?)
+}
+
+/// Whether each answer that was kept is true of the state.
+fn are_true(state: &Control, kept: &Assumptions) -> bool {
+    for pair in kept.iter() {
+        if !truth(state, &pair.question, &pair.answer) {
+            return false;
+        }
+    }
+    true
+}
+
+/// A view over what is guessed behind that text.
+fn over<'p>(
+    rt: &impl Abort,
+    alloc: Global,
+    before: &'static str,
+) -> Result<View<'p, Guess<Prescan>>, NoMemory> {
+    let guess = guess(rt, alloc, before)?;
+    let (view, answer) = View::guessed(alloc, Guess::new(guess))?;
+    mem::forget(answer);
+    Ok(view)
+}
+
+/// Whether so many own elements are open, so many older ones are gone, and what was asked is true.
+fn ends_as(view: &View<'_, Guess<Prescan>>, open: usize, gone: u64) -> bool {
+    view.change.stack.len() == open
+        && view.change.popped == gone
+        && are_true(view.below.predictor.state(), &view.below.kept)
+}
+
+/// Whether each step of the case comes out, and the view ends as it says.
+fn passes(rt: &impl Abort, alloc: Global, case: &Case) -> Result<bool, NoMemory> {
+    let mut view = over(rt, alloc, case.before)?;
+    let count = count_of(alloc, &mut view, case.steps);
+    let ends = ends_as(&view, case.open, case.gone);
+    mem::forget(view);
+    Ok(count == case.steps.len() && ends)
+}
+
+fn all_pass(rt: &impl Abort, alloc: Global, cases: &[Case]) -> Result<(), Fail> {
+    for case in cases {
+        let passes = passes(rt, alloc, case)?;
+        assert!(rt; passes, "behind {}", case.before);
+    }
+    Ok(())
+}
+
+#[test]
+fn acts_are_carried_out_over_a_guess(rt: HostRuntime) -> Result<(), Fail> {
+    all_pass(&rt, rt.alloc(), CASES)
+}

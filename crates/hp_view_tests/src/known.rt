@@ -1,0 +1,103 @@
+//! Steps over a known state: those that a guess would have to cross, among others.
+use crate::carrying::Step::{self, Does, EmptiesForm, Fails, Holds, Notes};
+use crate::carrying::count_of;
+use hp_control::{Control, Nothing};
+use hp_elements::{Act, Known, Test, Which};
+use hp_views::View;
+use std::alloc::Global;
+use std::mem;
+use std::process::Abort;
+
+/// How the head and the body of a page are opened.
+static OPENING: &[Step] = &[
+    Does(Known::Html, Act::PutDoctype),
+    Does(Known::Html, Act::QuirksOfDoctype),
+    Does(Known::Html, Act::InsertBareHtml),
+    Does(Known::Head, Act::Insert),
+    Does(Known::Head, Act::HeadPointer),
+    Does(Known::Head, Act::Pop),
+    Does(Known::Body, Act::Insert),
+];
+
+/// Steps after that, and how many elements are open then and how many edits there are.
+struct Case {
+    steps: &'static [Step],
+    open: usize,
+    edits: usize,
+}
+
+static CASES: &[Case] = &[
+    Case {
+        steps: &[
+            Holds(Known::Body, Test::SecondIsBody),
+            Does(Known::Body, Act::AddMissingToBody),
+            Does(Known::Html, Act::AddMissingToFirst),
+            Does(Known::Html, Act::Quirks),
+            Holds(Known::Html, Test::IsQuirks),
+            Does(Known::Frameset, Act::DetachBody),
+            Does(Known::Frameset, Act::PopToFirst),
+            Does(Known::Title, Act::PushHead),
+            Does(Known::Title, Act::InsertHtml),
+            Does(Known::Title, Act::TakeHeadOff),
+        ],
+        open: 2,
+        edits: 12,
+    },
+    Case {
+        steps: &[
+            Notes(Act::Comment),
+            Notes(Act::CommentIntoDocument),
+            Notes(Act::CommentIntoFirst),
+        ],
+        open: 2,
+        edits: 10,
+    },
+    Case {
+        steps: &[
+            Does(Known::B, Act::Insert),
+            Does(Known::B, Act::AppendToList),
+            Does(Known::P, Act::Insert),
+            Does(Known::B, Act::Adopt(Which::Its)),
+            Does(Known::I, Act::Insert),
+            Does(Known::I, Act::AppendToList),
+            Does(Known::I, Act::Pop),
+            Does(Known::I, Act::Reconstruct),
+            Does(Known::Form, Act::FormPointer),
+            EmptiesForm,
+            Fails(Known::Form, Test::HasForm),
+        ],
+        open: 4,
+        edits: 19,
+    },
+];
+
+/// A view of the state before the first token.
+fn begun<'p>() -> View<'p, Nothing> {
+    View::whole(Control::start())
+}
+
+/// Whether so many elements are open, and so many edits made.
+fn ends_as(view: &View<'_, Nothing>, open: usize, edits: usize) -> bool {
+    view.change.stack.len() == open && view.edits.len() == edits
+}
+
+/// Whether each step comes out, and the view ends as the case says.
+fn passes(alloc: Global, case: &Case) -> bool {
+    let mut view = begun();
+    let opened = count_of(alloc, &mut view, OPENING);
+    let count = count_of(alloc, &mut view, case.steps);
+    let ends = ends_as(&view, case.open, case.edits);
+    mem::forget(view);
+    opened == OPENING.len() && count == case.steps.len() && ends
+}
+
+fn all_pass(rt: &impl Abort, alloc: Global, cases: &[Case]) {
+    for (number, case) in cases.iter().enumerate() {
+        assert!(rt; passes(alloc, case), "case {number}");
+    }
+}
+
+#[test]
+fn acts_are_carried_out_over_a_known_state(rt: HostRuntime) {
+    all_pass(&rt, rt.alloc(), CASES);
+}
