@@ -98,7 +98,7 @@ impl<'p> Cursor<'p> {
 
     /// The unread bytes.
     #[inline(always)]
-    fn rest(&self) -> &'p [u8]
+    pub fn rest(&self) -> &'p [u8]
         ensures chars { chars result.now ≡ self.now.text }
         ensures utf8 { IsUtf8 result.now }
     {
