@@ -7,7 +7,7 @@ use hp_elements::{Attribute, AttributeSpace, Chain, Name};
 use std::alloc::Global;
 
 /// A part of the token under construction, to which text is appended.
-#[derive(Clone, Copy, Debug, PartialEq, Eq)]
+#[derive(Clone, Copy)]
 pub enum Part {
     /// The name of a tag.
     Name,

@@ -1,7 +1,7 @@
 // What becomes of the code point that a row read.
 
 /// What becomes of the code point that a row read: it is consumed, it is read again, or it was the end of input.
-#[derive(Clone, Copy, Debug, PartialEq, Eq)]
+#[derive(Clone, Copy)]
 pub enum Reads {
     Consume,
     Again,
@@ -9,7 +9,7 @@ pub enum Reads {
 }
 
 /// What `advance` answers.
-#[derive(Clone, Copy, Debug, PartialEq, Eq)]
+#[derive(Clone, Copy)]
 pub enum Turn {
     /// Tokens were appended.
     Emitted,
@@ -24,7 +24,7 @@ pub enum Turn {
 }
 
 /// What one step of `advance` did.
-#[derive(Clone, Copy, Debug, PartialEq, Eq)]
+#[derive(Clone, Copy)]
 pub enum Step {
     Made { emitted: bool },
     NeedsMore,
@@ -33,7 +33,7 @@ pub enum Step {
 }
 
 /// What one step of `at_end` did: some moves, or the end of input was appended.
-#[derive(Clone, Copy, Debug, PartialEq, Eq)]
+#[derive(Clone, Copy)]
 pub enum EndStep {
     Made,
     Ended,

@@ -4,7 +4,7 @@ ghost use Rattle.std.specs.Prelude.{◌≡◌};
 use hp_elements::Rest;
 
 /// A state of the lexer, by the standard's name. The order is that of the standard's sections 13.2.5.1 to 13.2.5.80.
-#[derive(Clone, Copy, Debug, PartialEq, Eq)]
+#[derive(Clone, Copy, PartialEq, Eq)]
 pub enum State {
     Data,
     Rcdata,
@@ -89,7 +89,7 @@ pub enum State {
 }
 
 /// Where a character reference goes back to.
-#[derive(Clone, Copy, Debug, PartialEq, Eq)]
+#[derive(Clone, Copy, PartialEq, Eq)]
 pub enum Return {
     Data,
     Rcdata,
