@@ -1,5 +1,5 @@
 //! Tags and their attributes.
-ghost use Rattle.std.specs.Prelude.{◌≡◌, ◌↔◌, [], ◌∷◌, ◌++◌, IfOk, OnOk, IsTrue};
+ghost use Rattle.std.specs.Prelude.{◌≡◌, ◌↔◌, IfOk, IsTrue};
 
 use crate::chain::Chain;
 use crate::name::Name;
@@ -86,25 +86,9 @@ fn copied(alloc: Global, attributes: &Chain<Attribute>) -> Result<Chain<Attribut
 {
     let mut copy = Chain::new();
     for attribute in attributes.iter() {
-        push_copy(alloc, &mut copy, attribute)?;
+        copy.push(alloc, attribute.copy(alloc)?)?;
     }
     Ok(copy)
-}
-
-/// Appends an attribute that equals this one.
-#[inline(always)]
-fn push_copy(
-    alloc: Global,
-    attributes: &mut Chain<Attribute>,
-    attribute: &Attribute,
-) -> Result<(), AllocError>
-    ensures { OnOk result (attributes.new ≡ attributes.old ++ attribute.now ∷ []) }
-{
-    let copy = attribute.copy(alloc)?;
-    match attributes.push(alloc, copy) {
-        Ok(()) => Ok(()),
-        Err(_) => Err(AllocError),
-    }
 }
 
 /// Whether the attributes are the same, in the same order.
