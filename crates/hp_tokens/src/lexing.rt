@@ -35,10 +35,9 @@ impl LexState {
     pub fn copy(&self, alloc: Global) -> Result<LexState, NoMemory>
         ensures { IfOk result (λ copy. copy ≡ self.now) }
     {
-        Ok(LexState {
-            machine: self.machine.copy(alloc)?,
-            ahead: self.ahead.copy(alloc)?,
-        })
+        let machine = self.machine.copy(alloc)?;
+        let ahead = self.ahead.copy(alloc)?;
+        Ok(LexState { machine, ahead })
     }
 
     /// The next code point.
