@@ -1,7 +1,7 @@
 //! The control state: all that the tree builder knows (13.2.4).
 ghost use Rattle.std.specs.Prelude.{◌≡◌, IsTrue, ◌↔◌, IfOk};
 
-use crate::copies::{copy_list, copy_modes, copy_stack};
+use crate::copies::{Lists, copy_lists};
 use crate::element::FormattingEntry;
 use crate::open_elements::OpenElements;
 use crate::sameness::{same_elements, same_entries, same_original, same_templates};
@@ -77,18 +77,26 @@ impl Control {
     pub fn copy(&self, alloc: Global) -> Result<Control, NoMemory>
         ensures { IfOk result (λ copy. copy ≡ self.now) }
     {
+        let pending = self.pending.copy(alloc)?;
+        let lists = copy_lists(alloc, self)?;
+        let lex = self.lex.copy(alloc)?;
+        let Lists {
+            templates,
+            stack,
+            formatting,
+        } = lists;
         Ok(Control {
-            lex: self.lex.copy(alloc)?,
+            lex,
             mode: self.mode,
             original: self.original,
-            templates: copy_modes(alloc, &self.templates)?,
-            stack: copy_stack(alloc, &self.stack)?,
-            formatting: copy_list(alloc, &self.formatting)?,
+            templates,
+            stack,
+            formatting,
             head: self.head,
             form: self.form,
             frameset_ok: self.frameset_ok,
             quirks: self.quirks,
-            pending: self.pending.copy(alloc)?,
+            pending,
             skip_lf: self.skip_lf,
             next: self.next,
         })

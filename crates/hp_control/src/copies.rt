@@ -1,6 +1,7 @@
 //! Copies of control states.
-ghost use Rattle.std.specs.Prelude.{◌≡◌, IfOk};
+ghost use Rattle.std.specs.Prelude.{◌≡◌, [], IfOk};
 
+use crate::control::Control;
 use crate::element::{FormattingEntry, OpenElement};
 use crate::open_elements::OpenElements;
 use crate::stack::Stack;
@@ -32,43 +33,85 @@ fn copy_entry(alloc: Global, entry: &FormattingEntry) -> Result<FormattingEntry,
     }
 }
 
-/// The same stack once more.
-pub(crate) fn copy_stack(alloc: Global, stack: &OpenElements) -> Result<OpenElements, NoMemory>
-    ensures { IfOk result (λ copy. copy ≡ stack.now) }
+/// Copies a stack onto one without elements. At an `Err` that one is spent.
+fn copy_stack(
+    alloc: Global,
+    stack: &OpenElements,
+    copies: &mut OpenElements,
+) -> Result<(), NoMemory>
+    requires { copies.old ≡ [] }
+    ensures { IfOk result (λ _. copies.new ≡ stack.now) }
 {
     let count = stack.len();
-    let mut copies = OpenElements::new();
     for turn in 0..count {
         let copy = copy_element(alloc, stack.at(count - 1 - turn))?;
         copies.push(alloc, copy)?;
     }
-    Ok(copies)
+    Ok(())
 }
 
-/// The same list once more.
-pub(crate) fn copy_list(
+/// Copies a list onto one without entries. At an `Err` that one is spent.
+fn copy_list(
     alloc: Global,
     list: &Stack<FormattingEntry>,
-) -> Result<Stack<FormattingEntry>, NoMemory>
-    ensures { IfOk result (λ copy. copy ≡ list.now) }
+    copies: &mut Stack<FormattingEntry>,
+) -> Result<(), NoMemory>
+    requires { copies.old ≡ [] }
+    ensures { IfOk result (λ _. copies.new ≡ list.now) }
 {
     let count = list.len();
-    let mut copies = Stack::new();
     for turn in 0..count {
         let copy = copy_entry(alloc, list.at(count - 1 - turn))?;
         copies.push(alloc, copy)?;
     }
-    Ok(copies)
+    Ok(())
 }
 
-/// The same template modes once more.
-pub(crate) fn copy_modes(alloc: Global, modes: &Stack<Mode>) -> Result<Stack<Mode>, NoMemory>
-    ensures { IfOk result (λ copy. copy ≡ modes.now) }
+/// Copies template modes onto none. At an `Err` what they were copied onto is spent.
+fn copy_modes(alloc: Global, modes: &Stack<Mode>, copies: &mut Stack<Mode>) -> Result<(), NoMemory>
+    requires { copies.old ≡ [] }
+    ensures { IfOk result (λ _. copies.new ≡ modes.now) }
 {
     let count = modes.len();
-    let mut copies = Stack::new();
     for turn in 0..count {
         copies.push(alloc, *modes.at(count - 1 - turn))?;
     }
-    Ok(copies)
+    Ok(())
+}
+
+/// The lists of a control state.
+#[derive(Drop)]
+pub(crate) struct Lists {
+    pub(crate) templates: Stack<Mode>,
+    pub(crate) stack: OpenElements,
+    pub(crate) formatting: Stack<FormattingEntry>,
+}
+
+/// Copies the lists of a state onto lists without items. At an `Err` those are spent.
+fn copy_onto(alloc: Global, control: &Control, lists: &mut Lists) -> Result<(), NoMemory>
+    requires templates { lists.old.templates ≡ [] }
+    requires stack { lists.old.stack ≡ [] }
+    requires formatting { lists.old.formatting ≡ [] }
+    ensures templates { IfOk result (λ _. lists.new.templates ≡ control.now.templates) }
+    ensures stack { IfOk result (λ _. lists.new.stack ≡ control.now.stack) }
+    ensures formatting { IfOk result (λ _. lists.new.formatting ≡ control.now.formatting) }
+{
+    copy_modes(alloc, &control.templates, &mut lists.templates)?;
+    copy_stack(alloc, &control.stack, &mut lists.stack)?;
+    copy_list(alloc, &control.formatting, &mut lists.formatting)
+}
+
+/// The lists of a state once more.
+pub(crate) fn copy_lists(alloc: Global, control: &Control) -> Result<Lists, NoMemory>
+    ensures templates { IfOk result (λ lists. lists.templates ≡ control.now.templates) }
+    ensures stack { IfOk result (λ lists. lists.stack ≡ control.now.stack) }
+    ensures formatting { IfOk result (λ lists. lists.formatting ≡ control.now.formatting) }
+{
+    let mut lists = Lists {
+        templates: Stack::new(),
+        stack: OpenElements::new(),
+        formatting: Stack::new(),
+    };
+    copy_onto(alloc, control, &mut lists)?;
+    Ok(lists)
 }
