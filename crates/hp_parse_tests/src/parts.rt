@@ -48,9 +48,9 @@ fn run_part<'p>(
     from: Control,
 ) -> Result<(Control, u64), NoMemory> {
     let Fragment::Exact(exact) = replay(alloc, chunk, from)?;
-    let (exit, edits) = exact.into_parts();
+    let (entry, exit, edits) = exact.into_parts();
     let count = made(&edits);
-    mem::forget(edits);
+    mem::forget((entry, edits));
     Ok((exit, count))
 }
 
