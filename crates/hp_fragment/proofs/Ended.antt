@@ -1,7 +1,6 @@
 -- The tree at the end of a page.
-use Rattle.std.proofs.Common.{◌≡◌, ℕ, List, [], ◌++◌, true, refl, ap, ◌∙◌, sym, subst, append-nil}
+use Rattle.std.proofs.Common.{◌≡◌, ℕ, List, [], ◌++◌, true, refl, ap, ◌∙◌, sym, subst, append-nil, map}
 use Rattle.hp_elements.specs.declared.token.Token.{Token}
-use Rattle.hp_names.specs.References.{Reference}
 use Rattle.hp_names.specs.BuiltIn.{built_in}
 use Rattle.hp_tokens.specs.Advancing.{AreRuns, Ends, end_of_text, lexing, singles}
 use Rattle.hp_tokens.specs.Moves.{Lexing, Move, needs_more, move}
@@ -10,7 +9,9 @@ use Rattle.hp_tokens.specs.declared.machine.Machine.{Machine}
 use Rattle.hp_control.proofs.StartLemmas.{start_valid}
 use Rattle.hp_control.specs.declared.edit.Edit.{Edit}
 use Rattle.hp_control.specs.States.{ControlState, may_be_ahead, start}
-use Rattle.hp_control.specs.Tree.{Tree}
+use Rattle.hp_control.specs.Apply.{named_edit}
+use Rattle.hp_control.specs.Nothing.{nothing}
+use Rattle.hp_control.specs.Tree.{Tree, applied_all}
 use Rattle.hp_lexer.specs.declared.lexer.Asked.{Asked}
 use Rattle.hp_lexer.specs.Standing.{opened, stands}
 use Rattle.hp_lexer.specs.Table.{table}
@@ -26,20 +27,24 @@ use Rattle.hp_steps.proofs.Turning.{Does, all-together}
 use Rattle.hp_pieces.proofs.SameRuns.{end-same}
 use Rattle.hp_pieces.specs.Laws.{EndsHandled, RestsAhead}
 use Rattle.hp_fragment.proofs.Steps.{makes-tree}
-use Rattle.hp_fragment.specs.Building.{control_of, grown, HandledAll}
+use Rattle.hp_fragment.specs.Building.{control_of, grown, HandledAll, HasGrown}
 use Rattle.hp_fragment.specs.Reading.{IsAtEnd, Reads, HasReadAll}
 use Rattle.hp_fragment.specs.declared.builder.Builder.{Builder}
 use Rattle.hp_fragment.specs.declared.parsing.Parsing.{Parsing}
 
+-- once all edits are applied
+pub all-grown : (mid new : Builder) → HasGrown mid new → new.view.edits ≡ [] → new.tree.branches ≡ grown mid
+all-grown mid new grows all = sym (ap (λ (es : List Edit). applied_all new.tree.branches (map (named_edit nothing) es)) all) ∙ grows.grown
+
 -- the tree at the end of the page
 pub tree-of : RunsAtOnce → RestsAhead → EndsHandled → (page : List ℕ) (p : Parsing) (tokens : List Token) (after : Builder) (tree : Tree) → HasReadAll page p → IsAtEnd p → AllRead tokens → AreRuns tokens
-    → ((rested : ℕ) → Ends (table p.lexer.names) (lexing p.lexer.lex end_of_text rested) [] tokens) → HandledAll p.builder after tokens → tree ≡ grown after → IsTreeOf built_in page tree
+    → ((rested : ℕ) → Ends (table built_in) (lexing p.lexer.lex end_of_text rested) [] tokens) → HandledAll p.builder after tokens → tree ≡ grown after → IsTreeOf built_in page tree
 tree-of law ahead ends page p tokens after tree all at_end read runs left handled is = record {
   read = record { lexing = h.at; control = c };
   edits = r.edits;
   at_end = made_after handle c (singles tokens);
   runs = record { goes = h.goes; rests = record { no_step = λ q fs e. none q fs (sym (ap (step_by (record { lexing = h.at; control = c })) no_move) ∙ e) } };
-  ends = end-same built_in (record { lexing = h.at; control = c }) (ends built_in there c tokens may end)
+  ends = end-same built_in (record { lexing = h.at; control = c }) (ends built_in there c tokens may (left 0))
       (record { lexing = record { machine = sym machine ∙ h.alike.machine; unread = sym unread ∙ (sym (append-nil here.unread) ∙ h.alike.unread) }; control = refl });
   builds = makes-tree (grown p.builder) r.edits (made_after handle c (singles tokens)) (made_after handle_at_once c tokens) tree r.grown (is ∙ handled.grown) (does.made (grown p.builder));
 }
@@ -70,9 +75,6 @@ tree-of law ahead ends page p tokens after tree all at_end read runs left handle
         subst (λ (m : Machine). may_be_ahead m.state there.unread ≡ true) machine
         (subst (λ (u : List ℕ). may_be_ahead here.machine.state u ≡ true) unread
         (ahead page start (record { lexing = r.read.at; control = c }) r.edits here start_valid r.read.goes r.read.alike.machine all.ended.needs))
-
-    end : Ends (table built_in) there [] tokens
-    end = subst (λ (n : List Reference). Ends (table n) there [] tokens) r.names (left 0)
 
     does : Does c tokens there
     does = all-together law tokens c there read runs at_end.builder.valid

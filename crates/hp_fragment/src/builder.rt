@@ -33,16 +33,16 @@ pub(crate) struct Builder<'p> {
 
 impl<'p> Builder<'p> {
     /// Before the first token: the document alone.
-    pub fn of_page(alloc: Global, control: Control) -> Result<Builder<'p>, NoMemory>
+    pub fn of_page(alloc: Global) -> Result<Builder<'p>, NoMemory>
         ensures builder { IfOk result IsBuilder }
-        ensures control { IfOk result (λ builder. control_of builder ≡ control) }
+        ensures control { IfOk result (λ builder. control_of builder ≡ start) }
         ensures tree { IfOk result (λ builder. grown builder ≡ document) }
     {
+        let tree = Tree::start(alloc)?;
+        let control = Control::start();
         control.is_kept();
-        Ok(Builder {
-            view: View::whole(control),
-            tree: Tree::start(alloc)?,
-        })
+        let view = View::whole(control);
+        Ok(Builder { view, tree })
     }
 
     /// Whether there is an adjusted current node outside the HTML namespace.
@@ -104,19 +104,19 @@ impl<'p> Builder<'p> {
 
     /// Applies the edits made so far to the tree.
     #[inline(never)]
-    fn grow(&mut self, alloc: Global) -> Result<(), NoMemory>
+    pub fn grow(&mut self, alloc: Global) -> Result<(), NoMemory>
         ensures grown { OnOk result (HasGrown self.old self.new) }
         ensures all { OnOk result (self.new.view.edits ≡ []) }
     {
         apply_all(alloc, &mut self.tree, &mut self.view.edits)
     }
 
-    /// The tree, with all edits.
-    pub fn into_tree(mut self, alloc: Global) -> Result<Tree<'p>, NoMemory>
-        ensures { IfOk result (λ tree. tree.branches ≡ grown self.entry) }
+    /// The tree, without the edits that weren't applied.
+    pub fn into_tree(self) -> Tree<'p>
+        ensures { result.branches ≡ self.entry.tree.branches }
     {
-        self.grow(alloc)?;
-        Ok(self.tree)
+        let Builder { tree, .. } = self;
+        tree
     }
 }
 

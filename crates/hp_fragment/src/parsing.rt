@@ -15,14 +15,13 @@ ghost use Rattle.hp_lexer.specs.declared.lexer.Asked.TheVariants as asked;
 ghost use Rattle.hp_model.specs.Whole.{IsRead};
 ghost use Rattle.hp_run.specs.Pages.{IsTreeOf};
 ghost use Rattle.hp_steps.specs.Handling.{AllRead};
-ghost use Rattle.hp_fragment.specs.Building.{IsBuilder, HandledAll};
+ghost use Rattle.hp_fragment.specs.Building.{IsBuilder, HandledAll, HandledOne};
 ghost use Rattle.hp_fragment.specs.Reading.{IsReady, IsAtEnd, IsWithin, Reads, HasEnded, HasReadAll, StepsOn, ReadsOn, TakesPiece, ReadsPiece, Took, TookText, Tried};
 
 use crate::NoMemory;
 use crate::builder::Builder;
 use crate::laws::{never_asked, rests_ahead};
 use hp_arena::Tree;
-use hp_control::Control;
 use hp_elements::{Rest, Text, Token, Tokens};
 use hp_lexer::{Cursor, Lexer, Step};
 use hp_pieces::{cut, of_page};
@@ -48,7 +47,7 @@ impl<'p> Parsing<'p> {
         ensures ready { IfOk result IsReady }
         ensures reads { IfOk result (Reads (chars (text_of page.entry))) }
     {
-        let builder = Builder::of_page(alloc, Control::start())?;
+        let builder = Builder::of_page(alloc)?;
         Ok(Parsing {
             lexer: page_lexer(),
             input: Cursor::of_str(""),
@@ -58,7 +57,7 @@ impl<'p> Parsing<'p> {
     }
 
     /// Reads the page to its end.
-    pub fn run(&mut self, alloc: Global) -> Result<(), NoMemory>
+    fn run(&mut self, alloc: Global) -> Result<(), NoMemory>
         requires ready { IsReady self.old }
         requires within { IsWithin self.old }
         ensures at_end { OnOk result (IsAtEnd self.new) }
@@ -288,22 +287,36 @@ impl<'p> Parsing<'p> {
     }
 
     /// The end of input, and the whole tree.
-    pub fn end(self, alloc: Global) -> Result<Tree<'p>, NoMemory>
-        requires at_end { IsAtEnd self }
-        ensures { IfOk result (λ tree. (page : List ℕ) → HasReadAll page self.entry → IsTreeOf built_in page tree.branches) }
+    fn end(&mut self, alloc: Global) -> Result<(), NoMemory>
+        requires at_end { IsAtEnd self.old }
+        ensures { OnOk result ((page : List ℕ) → HasReadAll page self.old → IsTreeOf built_in page self.new.builder.tree.branches) }
     {
         hp_model::at_once();
         hp_pieces::ends_of_text();
         rests_ahead();
-        let Parsing {
-            lexer,
-            mut builder,
-            ..
-        } = self;
-        let tokens = lexer.finish(alloc)?;
-        handle_last(alloc, &mut builder, tokens)?;
-        let tree = builder.into_tree(alloc)?;
-        Ok(tree)
+        let tokens = Lexer::from_state(alloc, &self.lexer.lex)?.finish(alloc)?;
+        handle_last(alloc, &mut self.builder, tokens)?;
+        self.builder.grow(alloc)?;
+        Ok(())
+    }
+
+    /// Reads the page and the end of input.
+    pub fn read_all(&mut self, alloc: Global) -> Result<(), NoMemory>
+        requires ready { IsReady self.old }
+        requires within { IsWithin self.old }
+        ensures { OnOk result ((page : List ℕ) → Reads page self.old → IsTreeOf built_in page self.new.builder.tree.branches) }
+    {
+        self.run(alloc)?;
+        self.end(alloc)?;
+        Ok(())
+    }
+
+    /// The tree, once all is read.
+    pub fn into_tree(self) -> Tree<'p>
+        ensures { result.branches ≡ self.entry.builder.tree.branches }
+    {
+        let Parsing { builder, .. } = self;
+        builder.into_tree()
     }
 }
 
@@ -343,8 +356,22 @@ fn handle_last<'p>(
 {
     hp_model::at_once();
     for token in tokens {
-        let token = of_page(alloc, token)?;
-        let _ = builder.handle_one(alloc, token)?;
+        let _ = handle_own(alloc, builder, token)?;
     }
     Ok(())
+}
+
+/// Handles a token of the end of input. Answers what it calls for.
+fn handle_own<'p>(
+    alloc: Global,
+    builder: &mut Builder<'p>,
+    token: Token<'static>,
+) -> Result<Option<Rest>, NoMemory>
+    requires builder { IsBuilder builder.old }
+    requires read { IsRead token }
+    ensures { IfOk result (λ switch. HandledOne builder.old builder.new token.entry switch) }
+{
+    let own = of_page(alloc, token)?;
+    let switch = builder.handle_one(alloc, own)?;
+    Ok(switch)
 }

@@ -16,6 +16,8 @@ pub fn parse_whole<'p>(alloc: Global, page: Page<'p>) -> Result<Tree<'p>, NoMemo
     ensures { IfOk result (λ tree. IsTreeOf built_in (chars (text_of page.entry)) tree.branches) }
 {
     let mut parsing = Parsing::of_page(alloc, page)?;
-    parsing.run(alloc)?;
-    parsing.end(alloc)
+    let done = parsing.read_all(alloc);
+    let tree = parsing.into_tree();
+    done?;
+    Ok(tree)
 }

@@ -5,6 +5,7 @@ use hp_fragment::{ending, replay};
 use hp_pieces::Fragment;
 use hp_text::{Chunk, NoMemory, Page, check_page};
 use std::alloc::Global;
+use std::mem;
 use std::process::Abort;
 use std::test::Fail;
 
@@ -47,43 +48,54 @@ fn run_part<'p>(
     from: Control,
 ) -> Result<(Control, u64), NoMemory> {
     let Fragment::Exact(exact) = replay(alloc, chunk, from)?;
-    let (exit, edits) = exact.into_parts();
+    let (entry, exit, edits) = exact.into_parts();
     let count = made(&edits);
+    mem::forget((entry, edits));
     Ok((exit, count))
 }
 
 /// How many elements the end of input makes.
-fn run_end(alloc: Global, from: &Control) -> Result<u64, NoMemory> {
-    let end = ending(alloc, from)?;
-    Ok(made(end.edits()))
+fn run_end(alloc: Global, from: Control) -> Result<u64, NoMemory> {
+    let end = ending(alloc, &from);
+    mem::forget(from);
+    let end = end?;
+    let count = made(end.edits());
+    mem::forget(end);
+    Ok(count)
 }
 
 /// How many elements the page makes in two parts.
-fn elements(rt: &impl Abort, alloc: Global, bytes: &[u8], cut: usize) -> Result<u64, Fail> {
-    let page = check_page(bytes)?;
+fn elements(rt: &impl Abort, alloc: Global, page: Page<'_>, cut: usize) -> Result<u64, NoMemory> {
     let (first, second) = parts(rt, page, cut);
     let (mid, front) = run_part(alloc, first, Control::start())?;
     let (end, back) = run_part(alloc, second, mid)?;
-    let last = run_end(alloc, &end)?;
+    let last = run_end(alloc, end)?;
     Ok(front.saturating_add(back).saturating_add(last))
+}
+
+/// A page, a cut, and how many elements it makes. The cuts stand before the page, in a name, a value, a reference, raw text,
+/// a section's opening, and behind the page.
+const PARTED: &[(&str, usize, u64)] = &[
+    ("", 0, 3),
+    ("<p>one<p>two", 0, 5),
+    ("<table>x<td>y", 3, 7),
+    ("<b id='a b'><p>x</b>y", 10, 6),
+    ("x&notit;<p>y", 5, 4),
+    ("<script>a<b></script>z", 10, 4),
+    ("<svg><![CDATA[x]]><p>y", 9, 5),
+    ("<title>x", 8, 4),
+];
+
+fn compare(rt: &impl Abort, alloc: Global, pages: &[(&str, usize, u64)]) -> Result<(), Fail> {
+    for (text, cut, count) in pages {
+        let page = check_page(text.as_bytes())?;
+        let made = elements(rt, alloc, page, *cut)?;
+        assert!(rt; made == *count, "over {text}");
+    }
+    Ok(())
 }
 
 #[test]
 fn parts_make_the_elements_of_the_page(rt: HostRuntime) -> Result<(), Fail> {
-    // The cuts stand before the page, in a name, a value, a reference, raw text, a section's opening, and behind the page.
-    let cases: [(&[u8], usize, u64); 8] = [
-        (b"", 0, 3),
-        (b"<p>one<p>two", 0, 5),
-        (b"<table>x<td>y", 3, 7),
-        (b"<b id='a b'><p>x</b>y", 10, 6),
-        (b"x&notit;<p>y", 5, 4),
-        (b"<script>a<b></script>z", 10, 4),
-        (b"<svg><![CDATA[x]]><p>y", 9, 5),
-        (b"<title>x", 8, 4),
-    ];
-    for (bytes, cut, count) in cases {
-        let made = elements(&rt, rt.alloc(), bytes, cut)?;
-        assert_eq!(rt; made, count, "over {bytes:?}");
-    }
-    Ok(())
+    compare(&rt, rt.alloc(), PARTED)
 }

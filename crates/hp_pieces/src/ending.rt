@@ -48,12 +48,13 @@ impl<'p> Ending<'p> {
         &self.edits
     }
 
-    /// The edits.
-    pub fn into_edits(self) -> Edits<'p>
-        ensures edits { result ≡ self.entry.edits }
+    /// The state where the input ends, and the edits.
+    pub fn into_parts(self) -> (Control, Edits<'p>)
+        ensures entry { result.0 ≡ self.entry.entry }
+        ensures edits { result.1 ≡ self.entry.edits }
         ensures end { IsEnd self.entry }
     {
-        let Ending { edits, .. } = self;
-        edits
+        let Ending { entry, edits } = self;
+        (entry, edits)
     }
 }

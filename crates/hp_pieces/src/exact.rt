@@ -69,13 +69,19 @@ impl<'p> Exact<'p> {
         &self.edits
     }
 
-    /// The state behind the text, and the edits.
-    pub fn into_parts(self) -> (Control, Edits<'p>)
-        ensures exit { result.0 ≡ self.entry.exit }
-        ensures edits { result.1 ≡ self.entry.edits }
+    /// The states before and behind the text, and the edits.
+    pub fn into_parts(self) -> (Control, Control, Edits<'p>)
+        ensures entry { result.0 ≡ self.entry.entry }
+        ensures exit { result.1 ≡ self.entry.exit }
+        ensures edits { result.2 ≡ self.entry.edits }
         ensures run { IsRun self.entry }
     {
-        let Exact { exit, edits, .. } = self;
-        (exit, edits)
+        let Exact {
+            entry,
+            exit,
+            edits,
+            ..
+        } = self;
+        (entry, exit, edits)
     }
 }

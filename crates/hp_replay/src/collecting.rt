@@ -1,5 +1,5 @@
 // Tree construction over a known state, whose edits are kept.
-ghost use Rattle.std.specs.Prelude.{◌≡◌, IfOk, OnOk};
+ghost use Rattle.std.specs.Prelude.{◌≡◌, [], IfOk, OnOk};
 ghost use Rattle.hp_tokens.specs.Advancing.{AreRuns};
 ghost use Rattle.hp_control.specs.Composed.{is_foreign_now};
 ghost use Rattle.hp_control.specs.States.{lex_start};
@@ -13,14 +13,12 @@ use hp_acts::handle;
 use hp_control::{Control, Nothing};
 use hp_elements::{Rest, Token, Tokens};
 use hp_pieces::of_page;
-use hp_tokens::LexState;
 use hp_views::View;
 use std::alloc::Global;
 
-/// The state with the lexer's part apart, in whose place that of a page's start stands.
-pub(crate) fn apart(control: Control) -> (Control, LexState)
-    ensures control { result.0 ≡ record control { lex = lex_start } }
-    ensures lex { result.1 ≡ control.lex }
+/// The state with that of a page's start in the place of the lexer's part.
+fn without_lexer(control: Control) -> Control
+    ensures { result ≡ record control { lex = lex_start } }
 {
     let Control { lex, .. } = Control::start();
     let Control {
@@ -38,7 +36,8 @@ pub(crate) fn apart(control: Control) -> (Control, LexState)
         skip_lf,
         next,
     } = control;
-    let control = Control {
+    let _ = own;
+    Control {
         lex,
         mode,
         original,
@@ -52,8 +51,20 @@ pub(crate) fn apart(control: Control) -> (Control, LexState)
         pending,
         skip_lf,
         next,
-    };
-    (control, own)
+    }
+}
+
+/// A view of a copy of the state, whose lexer's part is told elsewhere.
+pub(crate) fn view_of<'p>(alloc: Global, from: &Control) -> Result<View<'p, Nothing>, NoMemory>
+    ensures known { IfOk result (λ view. IsKnown (split_of view)) }
+    ensures control { IfOk result (λ view. control_of (split_of view) ≡ record from.now { lex = lex_start }) }
+    ensures edits { IfOk result (λ view. view.edits ≡ []) }
+{
+    let own = from.copy(alloc)?;
+    let control = without_lexer(own);
+    control.is_kept();
+    let view = View::whole(control);
+    Ok(view)
 }
 
 /// Handles a token. Answers the state in which the lexer goes on, where the token calls for another than its own.
@@ -81,6 +92,21 @@ pub(crate) fn is_foreign<'p>(alloc: Global, view: &mut View<'p, Nothing>) -> Res
     view.foreign_now(alloc)
 }
 
+/// Handles a token of the end of input. Answers what it calls for.
+fn collect_own<'p>(
+    alloc: Global,
+    view: &mut View<'p, Nothing>,
+    token: Token<'static>,
+) -> Result<Option<Rest>, NoMemory>
+    requires known { IsKnown (split_of view.old) }
+    requires read { IsRead token }
+    ensures { IfOk result (λ switch. Collects (split_of view.old) (split_of view.new) token.entry switch) }
+{
+    let own = of_page(alloc, token)?;
+    let switch = collect(alloc, view, own)?;
+    Ok(switch)
+}
+
 /// Handles the tokens of the end of input. What they call for has no effect, since nothing is read behind them.
 pub(crate) fn collect_last<'p>(
     alloc: Global,
@@ -94,8 +120,7 @@ pub(crate) fn collect_last<'p>(
 {
     hp_model::at_once();
     for token in tokens {
-        let token = of_page(alloc, token)?;
-        let _ = collect(alloc, view, token)?;
+        let _ = collect_own(alloc, view, token)?;
     }
     Ok(())
 }

@@ -41,8 +41,7 @@ fn run_from<'p>(
     requires { IsValid from.now }
     ensures { IfOk result (λ parts. IsRun (record { text = text.now; entry = from.now; exit = parts.0; edits = parts.1 })) }
 {
-    let start = from.copy(alloc)?;
-    let mut running = Running::of_state(alloc, start)?;
+    let mut running = Running::of_state(alloc, from)?;
     running.run(alloc, text)?;
     let parts = running.into_parts(alloc)?;
     Ok(parts)

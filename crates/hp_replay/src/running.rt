@@ -14,7 +14,7 @@ ghost use Rattle.hp_replay.specs.Collecting.{control_of, edits_of, IsKnown};
 ghost use Rattle.hp_replay.specs.Reading.{edits_in, state_of, HasEnded, IsAtEnd, IsBetween, IsReady, IsWithin, RanOver, Reads, ReadsOn, StepsOn, Took, TookOne};
 
 use crate::NoMemory;
-use crate::collecting::{apart, collect, is_foreign};
+use crate::collecting::{collect, is_foreign, view_of};
 use crate::laws::{never_asked, runs_join, runs_stay_valid};
 use crate::told::told_all;
 use hp_control::{Control, Edits, Nothing};
@@ -36,16 +36,14 @@ pub(crate) struct Running<'p> {
 
 impl<'p> Running<'p> {
     /// The parser in this state, without edits.
-    pub fn of_state(alloc: Global, from: Control) -> Result<Running<'p>, NoMemory>
+    pub fn of_state(alloc: Global, from: &Control) -> Result<Running<'p>, NoMemory>
         ensures between { IfOk result IsBetween }
-        ensures state { IfOk result (λ running. state_of running ≡ from) }
+        ensures state { IfOk result (λ running. state_of running ≡ from.now) }
         ensures edits { IfOk result (λ running. running.view.edits ≡ []) }
     {
+        let lexer = Lexer::from_state(alloc, &from.lex)?;
+        let view = view_of(alloc, from)?;
         let input = Cursor::of_str("");
-        let (control, lex) = apart(from);
-        control.is_kept();
-        let view = View::whole(control);
-        let lexer = Lexer::from_state(alloc, &lex)?;
         Ok(Running { lexer, input, view })
     }
 

@@ -9,4 +9,4 @@ use Rattle.hp_fragment.proofs.parsing.Parsing.of_page.Goals as goal
 pub returns-clause-reads : goal.returns-clause-reads
 returns-clause-reads c =
     started (chars (text_of c.args.page)) _ c.page_lexer.ensures (ap (λ (u : Unread). u.text) c.of_str.ensures ∙ chars-nil) (ap chars c.as_str.ensures.value)
-    (c.in_ok-builder.ensures.control ∙ c.start.ensures) c.in_ok-builder.ensures.tree
+    c.in_ok-builder.ensures.control c.in_ok-builder.ensures.tree

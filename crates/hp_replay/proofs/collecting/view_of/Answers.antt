@@ -1,0 +1,13 @@
+use Rattle.std.proofs.Common.{ap, sym, subst, ◌∙◌}
+use Rattle.hp_control.specs.Faithful.{Split}
+use Rattle.hp_control.specs.States.{ControlState, IsValid, lex_start}
+use Rattle.hp_replay.proofs.collecting.view_of.Goals as goal
+
+pub returns-clause-known : goal.returns-clause-known
+returns-clause-known c = record { stands = c.whole-view.ensures.stands; valid = subst IsValid (sym c.whole-view.ensures.state) c.is_kept.ensures }
+
+pub returns-clause-control : goal.returns-clause-control
+returns-clause-control c = c.whole-view.ensures.state ∙ (c.without_lexer-control.ensures ∙ ap (λ (s : ControlState). record s { lex = lex_start }) c.in_ok-own.ensures)
+
+pub returns-clause-edits : goal.returns-clause-edits
+returns-clause-edits c = ap (λ (v : Split). v.edits) c.whole-view.ensures.whole
