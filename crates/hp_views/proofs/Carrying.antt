@@ -1,11 +1,12 @@
--- What was found out, and then a call on the view as it is.
-use Rattle.std.specs.Prelude.{Result, Ok, Err}
-use Rattle.std.proofs.Common.{subst}
+-- What was found out, and then a call on the view as it is; and one call after the other.
+use Rattle.std.specs.Prelude.{◌≡◌, Result, Ok, Err}
+use Rattle.std.specs.Result.{IsErrAnd}
+use Rattle.std.proofs.Common.{subst, sym}
 use Rattle.hp_control.specs.declared.change.Refusal.{Refusal}
 use Rattle.hp_control.specs.declared.change.Refusal.TheVariants.{Crossed, NoMemory}
 use Rattle.hp_control.specs.Faithful.{Split}
 use Rattle.hp_control.specs.Plan.{Plan, followed_by, Runs}
-use Rattle.hp_control.specs.Running.{runs_then}
+use Rattle.hp_control.specs.Running.{runs_then, runs_crosses}
 use Rattle.hp_views.specs.View.{Sight, Carries, Finds}
 
 pub carries_then : {X : Type 0} (result : Result (Unit {0}) Refusal) (old mid new : Sight) (plan : Split → Plan X) (next : Split → X → Plan Split) (x : X)
@@ -17,3 +18,22 @@ carries_then (Err (Crossed crossing)) old mid new plan next x f k =
     let P : Split → Type 0 = λ v. Runs mid.heard new.heard (next v x) (Err crossing) in
     runs_then (next old.split) f.runs (subst P f.same k)
 carries_then (Err NoMemory) old mid new plan next x f k = tt
+
+-- one call, and then another
+pub carries_next : (result : Result (Unit {0}) Refusal) (old mid new : Sight) (p q : Split → Plan Split)
+    → Runs old.heard mid.heard (p old.split) (Ok mid.split) → Carries result mid new q → Carries result old new (λ v. followed_by (p v) q)
+carries_next (Ok u) old mid new p q run k = runs_then q run k
+carries_next (Err (Crossed crossing)) old mid new p q run k = runs_then q run k
+carries_next (Err NoMemory) old mid new p q run k = tt
+
+carries_refused : (refusal : Refusal) (old new : Sight) (p q : Split → Plan Split) → Carries (Err refusal) old new p → Carries (Err refusal) old new (λ v. followed_by (p v) q)
+carries_refused (Crossed crossing) old new p q k = runs_crosses q k
+carries_refused NoMemory old new p q k = tt
+
+-- the first was refused
+pub carries_failed : (result : Result (Unit {0}) Refusal) (refusal : Refusal) (old new : Sight) (p q : Split → Plan Split)
+    → IsErrAnd result (λ e. e ≡ refusal) → Carries (Err refusal) old new p → Carries result old new (λ v. followed_by (p v) q)
+carries_failed (Ok u) refusal old new p q is k = absurd is
+carries_failed (Err e) refusal old new p q is k =
+    let P : Refusal → Type 0 = λ x. Carries (Err x) old new (λ v. followed_by (p v) q) in
+    subst P (sym is) (carries_refused refusal old new p q k)

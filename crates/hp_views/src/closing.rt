@@ -9,7 +9,7 @@ ghost use Rattle.hp_views.specs.View.{Answers, Carries};
 ghost use Rattle.hp_views.specs.StackPlans.{in_scope_plan};
 ghost use Rattle.hp_elements.specs.declared.act.Scope.TheVariants as scope;
 ghost use Rattle.hp_elements.specs.declared.known.Known.TheVariants as known;
-ghost use Rattle.hp_views.specs.ClosingPlans.{is_item_plan, close_term_plan, through_form_plan};
+ghost use Rattle.hp_views.specs.ClosingPlans.{close_plan, is_item_plan, close_term_plan, either, leaves_it, through_form_plan};
 
 use crate::asking::older_seen;
 use crate::view::View;
@@ -127,14 +127,35 @@ impl<'p, B: Below> View<'p, B> {
         }
     }
 
+    /// Closes the HTML element of the name, where it is said to be open.
+    #[inline(always)]
+    fn close_if(&mut self, alloc: Global, is_open: bool, name: Known) -> Result<(), Refusal>
+        ensures { Carries result (sight B.heard self.old) (sight B.heard self.new) (either (close_plan name) leaves_it is_open) }
+    {
+        if is_open {
+            self.close(alloc, name)
+        } else {
+            Ok(())
+        }
+    }
+
     /// Closes a term.
     fn close_term(&mut self, alloc: Global) -> Result<(), Refusal>
         ensures { Carries result (sight B.heard self.old) (sight B.heard self.new) close_term_plan }
     {
-        if self.is_item(alloc, Known::Dt)? {
-            self.close(alloc, Known::Dt)
+        let is_open = self.is_item(alloc, Known::Dt)?;
+        self.close_if(alloc, is_open, Known::Dt)
+    }
+
+    /// Closes a description, where one is said to be open, or else a term.
+    #[inline(always)]
+    fn close_either(&mut self, alloc: Global, is_open: bool) -> Result<(), Refusal>
+        ensures { Carries result (sight B.heard self.old) (sight B.heard self.new) (either (close_plan known.Dd) close_term_plan is_open) }
+    {
+        if is_open {
+            self.close(alloc, Known::Dd)
         } else {
-            Ok(())
+            self.close_term(alloc)
         }
     }
 
@@ -142,11 +163,8 @@ impl<'p, B: Below> View<'p, B> {
     pub fn close_description(&mut self, alloc: Global) -> Result<(), Refusal>
         ensures { Meets result (sight B.heard self.old) (sight B.heard self.new) close_description_step }
     {
-        if self.is_item(alloc, Known::Dd)? {
-            self.close(alloc, Known::Dd)
-        } else {
-            self.close_term(alloc)
-        }
+        let is_open = self.is_item(alloc, Known::Dd)?;
+        self.close_either(alloc, is_open)
     }
 
     /// The end of a form in a template.
