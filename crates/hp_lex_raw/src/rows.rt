@@ -3,6 +3,7 @@ ghost use Rattle.std.specs.Prelude.{◌≡◌, IfOk};
 ghost use Rattle.std.specs.Str.{bytes_eq, chars};
 ghost use Rattle.hp_tokens.specs.Rows.{Follows};
 ghost use Rattle.hp_tokens.specs.Rows as words;
+ghost use Rattle.hp_lex_raw.specs.Letters.{less_than, solidus};
 ghost use Rattle.hp_lex_raw.specs.Rows as rows;
 
 use hp_elements::Tokens;
@@ -121,6 +122,19 @@ pub fn less_than_sign(
     }
 }
 
+/// No name begins behind `</`: it is text.
+fn no_name(
+    alloc: Global,
+    text: State,
+    machine: &mut Machine,
+    tokens: &mut Tokens<'_>,
+) -> Result<Reads, NoMemory>
+    ensures { IfOk result (Follows (words.plus less_than (words.plus solidus (words.again text machine.old))) tokens.old machine.new tokens.new) }
+{
+    push_char(alloc, tokens, '<')?;
+    push_and_again(alloc, machine, tokens, '/', text)
+}
+
 /// Behind `</`.
 pub fn end_tag_open(
     alloc: Global,
@@ -137,10 +151,7 @@ pub fn end_tag_open(
             machine.begin_end_tag();
             Ok(again(machine, name))
         }
-        Some(_) | None => {
-            push_char(alloc, tokens, '<')?;
-            push_and_again(alloc, machine, tokens, '/', text)
-        }
+        Some(_) | None => no_name(alloc, text, machine, tokens),
     }
 }
 
