@@ -3,6 +3,9 @@ ghost use Rattle.std.specs.Prelude.{◌≡◌, IfOk, OnOk, IsTrue};
 ghost use Rattle.std.specs.List.{list_all};
 ghost use Rattle.std.specs.Char.{is_ascii};
 ghost use Rattle.hp_tokens.specs.Rows.{Follows, putting_text};
+ghost use Rattle.hp_tokens.specs.Rows as words;
+ghost use Rattle.hp_tokens.specs.declared.state.State.TheVariants as states;
+ghost use Rattle.hp_lex_markup.specs.Letters.{right_bracket};
 ghost use Rattle.hp_lex_markup.specs.Rows as rows;
 
 use hp_elements::Tokens;
@@ -55,6 +58,19 @@ pub fn cdata_section_bracket(
     }
 }
 
+/// The section goes on behind two brackets: they are text.
+fn no_section_end(
+    alloc: Global,
+    machine: &mut Machine,
+    tokens: &mut Tokens<'_>,
+) -> Result<Reads, NoMemory>
+    ensures { IfOk result (Follows (words.plus right_bracket (words.plus right_bracket (words.again states.CdataSection machine.old))) tokens.old machine.new tokens.new) }
+{
+    push_char(alloc, tokens, ']')?;
+    push_char(alloc, tokens, ']')?;
+    Ok(again(machine, State::CdataSection))
+}
+
 pub fn cdata_section_end(
     alloc: Global,
     machine: &mut Machine,
@@ -66,10 +82,6 @@ pub fn cdata_section_end(
     match symbol {
         Some(']') => emitted_char(alloc, machine, tokens, ']'),
         Some('>') => Ok(go(machine, State::Data)),
-        _ => {
-            push_char(alloc, tokens, ']')?;
-            push_char(alloc, tokens, ']')?;
-            Ok(again(machine, State::CdataSection))
-        }
+        _ => no_section_end(alloc, machine, tokens),
     }
 }

@@ -2,6 +2,8 @@
 ghost use Rattle.std.specs.Prelude.{◌≡◌, IfOk};
 ghost use Rattle.std.specs.Str.{bytes_eq, chars};
 ghost use Rattle.hp_tokens.specs.Rows.{Follows};
+ghost use Rattle.hp_tokens.specs.Rows as words;
+ghost use Rattle.hp_lex_raw.specs.Letters.{less_than, solidus};
 ghost use Rattle.hp_lex_raw.specs.Rows as rows;
 
 use hp_elements::Tokens;
@@ -16,6 +18,36 @@ pub fn ends_name(c: char) -> bool
     ensures { result ≡ rows.ends_name c }
 {
     is_blank(c) || c == '/' || c == '>'
+}
+
+/// A code point is emitted, and the next one is read in another state.
+#[inline]
+pub fn push_and_go(
+    alloc: Global,
+    machine: &mut Machine,
+    tokens: &mut Tokens<'_>,
+    c: char,
+    to: State,
+) -> Result<Reads, NoMemory>
+    ensures { IfOk result (Follows (words.plus c (words.go to machine.old)) tokens.old machine.new tokens.new) }
+{
+    push_char(alloc, tokens, c)?;
+    Ok(go(machine, to))
+}
+
+/// A code point is emitted, and the present one is read again in another state.
+#[inline]
+pub fn push_and_again(
+    alloc: Global,
+    machine: &mut Machine,
+    tokens: &mut Tokens<'_>,
+    c: char,
+    to: State,
+) -> Result<Reads, NoMemory>
+    ensures { IfOk result (Follows (words.plus c (words.again to machine.old)) tokens.old machine.new tokens.new) }
+{
+    push_char(alloc, tokens, c)?;
+    Ok(again(machine, to))
 }
 
 /// RCDATA.
@@ -86,11 +118,21 @@ pub fn less_than_sign(
             machine.buffer.clear();
             Ok(go(machine, behind_solidus))
         }
-        Some(_) | None => {
-            push_char(alloc, tokens, '<')?;
-            Ok(again(machine, text))
-        }
+        Some(_) | None => { push_and_again(alloc, machine, tokens, '<', text) }
     }
+}
+
+/// No name begins behind `</`: it is text.
+fn no_name(
+    alloc: Global,
+    text: State,
+    machine: &mut Machine,
+    tokens: &mut Tokens<'_>,
+) -> Result<Reads, NoMemory>
+    ensures { IfOk result (Follows (words.plus less_than (words.plus solidus (words.again text machine.old))) tokens.old machine.new tokens.new) }
+{
+    push_char(alloc, tokens, '<')?;
+    push_and_again(alloc, machine, tokens, '/', text)
 }
 
 /// Behind `</`.
@@ -109,11 +151,7 @@ pub fn end_tag_open(
             machine.begin_end_tag();
             Ok(again(machine, name))
         }
-        Some(_) | None => {
-            push_char(alloc, tokens, '<')?;
-            push_char(alloc, tokens, '/')?;
-            Ok(again(machine, text))
-        }
+        Some(_) | None => no_name(alloc, text, machine, tokens),
     }
 }
 

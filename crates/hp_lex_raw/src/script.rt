@@ -3,7 +3,7 @@ ghost use Rattle.std.specs.Prelude.{◌≡◌, IfOk};
 ghost use Rattle.hp_tokens.specs.Rows.{Follows};
 ghost use Rattle.hp_lex_raw.specs.Rows as rows;
 
-use crate::rows::{ends_name, spells};
+use crate::rows::{ends_name, push_and_again, push_and_go, spells};
 use hp_elements::Tokens;
 use hp_tokens::{
     Machine, NoMemory, OwnedText, Reads, State, again, emitted_char, ended, go, push_char, replaced,
@@ -26,12 +26,12 @@ pub fn script_less_than_sign(
         }
         Some('!') => {
             push_char(alloc, tokens, '<')?;
-            push_char(alloc, tokens, '!')?;
-            Ok(go(machine, State::ScriptDataEscapeStart))
+            let to = State::ScriptDataEscapeStart;
+            push_and_go(alloc, machine, tokens, '!', to)
         }
         Some(_) | None => {
-            push_char(alloc, tokens, '<')?;
-            Ok(again(machine, State::ScriptData))
+            let to = State::ScriptData;
+            push_and_again(alloc, machine, tokens, '<', to)
         }
     }
 }
@@ -47,10 +47,7 @@ pub fn escape_start(
     ensures { IfOk result (Follows (rows.escape_start dash machine.old symbol) tokens.old machine.new tokens.new) }
 {
     match symbol {
-        Some('-') => {
-            push_char(alloc, tokens, '-')?;
-            Ok(go(machine, dash))
-        }
+        Some('-') => { push_and_go(alloc, machine, tokens, '-', dash) }
         Some(_) | None => Ok(again(machine, State::ScriptData)),
     }
 }
@@ -67,8 +64,8 @@ pub fn escaped(
     match symbol {
         None => ended(alloc, machine, tokens),
         Some('-') => {
-            push_char(alloc, tokens, '-')?;
-            Ok(go(machine, State::ScriptDataEscapedDash))
+            let to = State::ScriptDataEscapedDash;
+            push_and_go(alloc, machine, tokens, '-', to)
         }
         Some('<') => Ok(go(machine, State::ScriptDataEscapedLessThanSign)),
         Some(c) => emitted_char(alloc, machine, tokens, replaced(c)),
@@ -87,13 +84,13 @@ pub fn escaped_dash(
     match symbol {
         None => ended(alloc, machine, tokens),
         Some('-') => {
-            push_char(alloc, tokens, '-')?;
-            Ok(go(machine, State::ScriptDataEscapedDashDash))
+            let to = State::ScriptDataEscapedDashDash;
+            push_and_go(alloc, machine, tokens, '-', to)
         }
         Some('<') => Ok(go(machine, State::ScriptDataEscapedLessThanSign)),
         Some(c) => {
-            push_char(alloc, tokens, replaced(c))?;
-            Ok(go(machine, State::ScriptDataEscaped))
+            let to = State::ScriptDataEscaped;
+            push_and_go(alloc, machine, tokens, replaced(c), to)
         }
     }
 }
@@ -109,18 +106,15 @@ pub fn escaped_dash_dash(
 {
     match symbol {
         None => ended(alloc, machine, tokens),
-        Some('-') => {
-            push_char(alloc, tokens, '-')?;
-            Ok(Reads::Consume)
-        }
+        Some('-') => { emitted_char(alloc, machine, tokens, '-') }
         Some('<') => Ok(go(machine, State::ScriptDataEscapedLessThanSign)),
         Some('>') => {
-            push_char(alloc, tokens, '>')?;
-            Ok(go(machine, State::ScriptData))
+            let to = State::ScriptData;
+            push_and_go(alloc, machine, tokens, '>', to)
         }
         Some(c) => {
-            push_char(alloc, tokens, replaced(c))?;
-            Ok(go(machine, State::ScriptDataEscaped))
+            let to = State::ScriptDataEscaped;
+            push_and_go(alloc, machine, tokens, replaced(c), to)
         }
     }
 }
@@ -140,13 +134,13 @@ pub fn escaped_less_than_sign(
             Ok(go(machine, State::ScriptDataEscapedEndTagOpen))
         }
         Some(c) if c.is_ascii_alphabetic() => {
-            push_char(alloc, tokens, '<')?;
             machine.buffer.clear();
-            Ok(again(machine, State::ScriptDataDoubleEscapeStart))
+            let to = State::ScriptDataDoubleEscapeStart;
+            push_and_again(alloc, machine, tokens, '<', to)
         }
         Some(_) | None => {
-            push_char(alloc, tokens, '<')?;
-            Ok(again(machine, State::ScriptDataEscaped))
+            let to = State::ScriptDataEscaped;
+            push_and_again(alloc, machine, tokens, '<', to)
         }
     }
 }
@@ -171,18 +165,16 @@ pub fn double_escape(
 {
     match symbol {
         Some(c) if ends_name(c) => {
-            push_char(alloc, tokens, c)?;
             let next = if is_script(&machine.buffer) {
                 script
             } else {
                 other
             };
-            Ok(go(machine, next))
+            push_and_go(alloc, machine, tokens, c, next)
         }
         Some(c) if c.is_ascii_alphabetic() => {
-            push_char(alloc, tokens, c)?;
             machine.buffer.push(alloc, c.to_ascii_lowercase())?;
-            Ok(Reads::Consume)
+            emitted_char(alloc, machine, tokens, c)
         }
         Some(_) | None => Ok(again(machine, other)),
     }
@@ -200,12 +192,12 @@ pub fn double_escaped(
     match symbol {
         None => ended(alloc, machine, tokens),
         Some('-') => {
-            push_char(alloc, tokens, '-')?;
-            Ok(go(machine, State::ScriptDataDoubleEscapedDash))
+            let to = State::ScriptDataDoubleEscapedDash;
+            push_and_go(alloc, machine, tokens, '-', to)
         }
         Some('<') => {
-            push_char(alloc, tokens, '<')?;
-            Ok(go(machine, State::ScriptDataDoubleEscapedLessThanSign))
+            let to = State::ScriptDataDoubleEscapedLessThanSign;
+            push_and_go(alloc, machine, tokens, '<', to)
         }
         Some(c) => emitted_char(alloc, machine, tokens, replaced(c)),
     }
@@ -223,16 +215,16 @@ pub fn double_escaped_dash(
     match symbol {
         None => ended(alloc, machine, tokens),
         Some('-') => {
-            push_char(alloc, tokens, '-')?;
-            Ok(go(machine, State::ScriptDataDoubleEscapedDashDash))
+            let to = State::ScriptDataDoubleEscapedDashDash;
+            push_and_go(alloc, machine, tokens, '-', to)
         }
         Some('<') => {
-            push_char(alloc, tokens, '<')?;
-            Ok(go(machine, State::ScriptDataDoubleEscapedLessThanSign))
+            let to = State::ScriptDataDoubleEscapedLessThanSign;
+            push_and_go(alloc, machine, tokens, '<', to)
         }
         Some(c) => {
-            push_char(alloc, tokens, replaced(c))?;
-            Ok(go(machine, State::ScriptDataDoubleEscaped))
+            let to = State::ScriptDataDoubleEscaped;
+            push_and_go(alloc, machine, tokens, replaced(c), to)
         }
     }
 }
@@ -248,21 +240,18 @@ pub fn double_escaped_dash_dash(
 {
     match symbol {
         None => ended(alloc, machine, tokens),
-        Some('-') => {
-            push_char(alloc, tokens, '-')?;
-            Ok(Reads::Consume)
-        }
+        Some('-') => { emitted_char(alloc, machine, tokens, '-') }
         Some('<') => {
-            push_char(alloc, tokens, '<')?;
-            Ok(go(machine, State::ScriptDataDoubleEscapedLessThanSign))
+            let to = State::ScriptDataDoubleEscapedLessThanSign;
+            push_and_go(alloc, machine, tokens, '<', to)
         }
         Some('>') => {
-            push_char(alloc, tokens, '>')?;
-            Ok(go(machine, State::ScriptData))
+            let to = State::ScriptData;
+            push_and_go(alloc, machine, tokens, '>', to)
         }
         Some(c) => {
-            push_char(alloc, tokens, replaced(c))?;
-            Ok(go(machine, State::ScriptDataDoubleEscaped))
+            let to = State::ScriptDataDoubleEscaped;
+            push_and_go(alloc, machine, tokens, replaced(c), to)
         }
     }
 }
@@ -278,9 +267,9 @@ pub fn double_escaped_less_than_sign(
 {
     match symbol {
         Some('/') => {
-            push_char(alloc, tokens, '/')?;
             machine.buffer.clear();
-            Ok(go(machine, State::ScriptDataDoubleEscapeEnd))
+            let to = State::ScriptDataDoubleEscapeEnd;
+            push_and_go(alloc, machine, tokens, '/', to)
         }
         Some(_) | None => Ok(again(machine, State::ScriptDataDoubleEscaped)),
     }

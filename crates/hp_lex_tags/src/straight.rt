@@ -1,6 +1,7 @@
 // The usual tag, read straight from the page: what the rows do code point by code point, at once.
 ghost use Rattle.std.specs.Prelude.{◌≡◌, ◌≤◌, ◌<◌, ℕ, List, [], Some, None, OnOk, IfOk, IfSome, IfNone, true, false, refl};
 ghost use Rattle.hp_elements.specs.declared.token.Token.TheVariants as tokens;
+ghost use Rattle.hp_elements.specs.declared.sets.Namespace.TheVariants as namespaces;
 ghost use Rattle.std.specs.Str.{chars};
 ghost use Rattle.hp_names.specs.References.{Reference};
 ghost use Rattle.hp_tokens.specs.declared.state.State.TheVariants as states;
@@ -432,6 +433,46 @@ fn read_rest(
     }
 }
 
+/// The name is the last start tag's.
+#[inline]
+fn tell_last(alloc: Global, machine: &mut Machine, name: &Name) -> Result<(), NoMemory>
+    ensures { OnOk result (machine.new ≡ record machine.old { last_tag = Some name.now }) }
+{
+    match &mut machine.last_tag {
+        Some(last) => {
+            last.clear();
+            last.push_str(alloc, name.as_str())
+        }
+        None => {
+            machine.last_tag = Some(owned(alloc, name.as_str())?);
+            Ok(())
+        }
+    }
+}
+
+/// The tag with this name and these attributes is whole.
+#[inline]
+fn finish<'p>(
+    alloc: Global,
+    machine: &mut Machine,
+    name: Name,
+    attributes: Chain<Attribute>,
+    self_closing: bool,
+) -> Result<Token<'p>, NoMemory>
+    requires clear { machine.old.after_cr ≡ false }
+    ensures token { IfOk result (λ token. token ≡ tokens.Start self_closing (record { namespace = namespaces.Html; name = name; attributes = attributes })) }
+    ensures machine { OnOk result (machine.new ≡ tagging (Some name) states.Data building.Nothing) }
+{
+    tell_last(alloc, machine, &name)?;
+    machine.enter(State::Data);
+    let tag = Tag {
+        namespace: Namespace::Html,
+        name,
+        attributes,
+    };
+    Ok(Token::Start { self_closing, tag })
+}
+
 /// The tag is whole.
 #[inline]
 fn whole<'p>(
@@ -445,14 +486,14 @@ fn whole<'p>(
     ensures machine { OnOk result (machine.new ≡ tagging (Some reading.name) states.Data building.Nothing) }
 {
     fold(alloc, &mut reading)?;
-    machine.last_tag = Some(owned(alloc, reading.name.as_str())?);
-    machine.enter(State::Data);
-    let tag = Tag {
-        namespace: Namespace::Html,
-        name: reading.name,
-        attributes: reading.attributes,
-    };
-    Ok(Token::Start { self_closing, tag })
+    let token = finish(
+        alloc,
+        machine,
+        reading.name,
+        reading.attributes,
+        self_closing,
+    )?;
+    Ok(token)
 }
 
 /// The attribute as one under construction.
@@ -517,6 +558,10 @@ fn read_start_tag<'p>(
 {
     let _ = input.take_byte(b'<');
     let name = read_name(alloc, input)?;
+    if input.take_byte(b'>') {
+        let bare = finish(alloc, machine, name, Chain::new(), false)?;
+        return Ok(Some(bare));
+    }
     let mut reading = Reading {
         name,
         attributes: Chain::new(),
