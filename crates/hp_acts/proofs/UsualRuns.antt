@@ -1,5 +1,5 @@
 -- The straight way of a usual row comes to the same as the table's.
-use Rattle.std.proofs.Common.{◌≡◌, ℕ, ◌-◌, ◌<◌, true, false, List, [], ◌∷◌, Option, Some, None, Result, Ok, Err, refl, ap, sym, subst, ◌∙◌, arith}
+use Rattle.std.proofs.Common.{◌≡◌, ℕ, suc, ◌-◌, ◌<◌, true, false, List, [], ◌∷◌, Option, Some, None, Result, Ok, Err, refl, ap, sym, subst, ◌∙◌, arith}
 use Rattle.std.specs.Prelude.{Bool, IfSome, if◌then◌else◌, not, ◌||◌, ◌&&◌}
 use Rattle.std.specs.Result.{IsErrAnd}
 use Rattle.hp_elements.specs.Names as names
@@ -13,6 +13,7 @@ use Rattle.hp_elements.specs.declared.act.Which.TheVariants.{Its, Named}
 use Rattle.hp_elements.specs.declared.kinds.Kinds.TheVariants as kinds
 use Rattle.hp_elements.specs.declared.known.Known.TheVariants as known
 use Rattle.hp_elements.specs.declared.token.Kind.{Kind}
+use Rattle.hp_elements.specs.declared.token.Mode.{Mode}
 use Rattle.hp_elements.specs.declared.token.Mode.TheVariants as mode
 use Rattle.hp_elements.specs.declared.token.Token.{Token}
 use Rattle.hp_control.specs.declared.change.Refusal.{Refusal}
@@ -27,6 +28,7 @@ use Rattle.hp_adoption.specs.LinkPlans.{close_link_plan}
 use Rattle.hp_adoption.specs.ReconPlans.{reconstruct_plan}
 use Rattle.hp_foreign.specs.Plans.{goes_on}
 use Rattle.hp_rules_body.specs.Body.{in_body}
+use Rattle.hp_rules_table.specs.TableModes.{in_cell}
 use Rattle.hp_rules_rest.specs.Whole.{every_mode_rows}
 use Rattle.hp_views.specs.ClosingPlans.{close_item_plan, close_paragraph_plan, implied_except_plan, implied_plan}
 use Rattle.hp_views.specs.FieldPlans.{frameset_plan}
@@ -37,9 +39,9 @@ use Rattle.hp_model.specs.Texts.{has_html_top}
 use Rattle.hp_model.specs.Tokens.{bare, name_of}
 use Rattle.hp_acts.specs.HandlePlans.{all_turns_plan, most_turns, turns_plan, where_again}
 use Rattle.hp_acts.specs.Handling.{Handles, nothing_asked}
-use Rattle.hp_acts.specs.RowPlans.{Reached, Came, left, acts_plan, changed, dispatched, is_early, mode_plan, nothing_more, rules_plan, turn_plan}
+use Rattle.hp_acts.specs.RowPlans.{Reached, Came, left, acts_plan, changed, dispatched, is_early, mode_plan, nothing_more, rules_plan, turn_plan, where_left}
 use Rattle.hp_acts.specs.Spending.{html_tag}
-use Rattle.hp_acts.specs.Usual.{IsUsual, block_end_by, item_end_by, paragraph_end_by, usual_acts, usual_plan}
+use Rattle.hp_acts.specs.Usual.{IsUsual, UsesBody, block_end_by, item_end_by, paragraph_end_by, usual_acts, usual_plan}
 use Rattle.hp_acts.specs.declared.usual.Closing.TheVariants as closing
 use Rattle.hp_acts.specs.declared.usual.Opening.TheVariants as opening
 use Rattle.hp_acts.specs.declared.usual.UsualRow.{UsualRow}
@@ -116,13 +118,42 @@ row_runs depth (Closes closing.Paragraph) t r = paragraph_end_row depth t r
 row_runs depth (Closes closing.Formatting) t r = refl
 row_runs depth (Closes closing.Ordinary) t r = refl
 
-in_body_acts : (t : Token) (r : Reached) → mode_plan t mode.InBody r ≡ acts_plan (rules_plan 3 t) nothing_more false t 0 0 (acts_for in_body (kind_of t)) r
+-- the row in the body, whose rules are used so deep
+body_row : (depth : ℕ) (t : Token) (r : Reached) → rules_plan (suc depth) t false mode.InBody r ≡ acts_plan (rules_plan depth t) nothing_more false t 0 0 (acts_for in_body (kind_of t)) r
 unfolding rules_plan every_mode_rows
-in_body_acts t r = refl
+body_row depth t r = refl
 
-not_early : (page : Option Page) → is_early page mode.InBody ≡ false
-not_early (Some page) = refl
-not_early None = refl
+cell_row : (t : Token) (r : Reached) → mode_plan t mode.InCell r ≡ acts_plan (rules_plan 3 t) nothing_more false t 0 0 (acts_for in_cell (kind_of t)) r
+unfolding rules_plan every_mode_rows
+cell_row t r = refl
+
+by_body : (depth : ℕ) (row : UsualRow) (t : Token) (r : Reached) → acts_for in_body (kind_of t) ≡ usual_acts row → rules_plan (suc depth) t false mode.InBody r ≡ followed_by (usual_plan row t r.split) (ended r)
+by_body depth row t r h =
+    body_row depth t r
+    ∙ (ap (λ acts. acts_plan (rules_plan depth t) nothing_more false t 0 0 acts r) h
+    ∙ sym (row_runs depth row t r))
+
+abbrev used_on : Came → Plan Came
+used_on = where_left (λ s. gives (left s))
+
+-- in a cell the row goes on behind the rules of the body, and ends
+by_cell : (row : UsualRow) (t : Token) (r : Reached) → acts_for in_cell (kind_of t) ≡ act.As mode.InBody ∷ [] → acts_for in_body (kind_of t) ≡ usual_acts row → mode_plan t mode.InCell r ≡ followed_by (usual_plan row t r.split) (ended r)
+by_cell row t r used h =
+    cell_row t r
+    ∙ (ap (λ acts. acts_plan (rules_plan 3 t) nothing_more false t 0 0 acts r) used
+    ∙ (ap (λ p. followed_by p used_on) (by_body 2 row t r h)
+    ∙ follow_assoc (usual_plan row t r.split) (ended r) used_on))
+
+by_mode : (m : Mode) (row : UsualRow) (t : Token) (r : Reached) → UsesBody m t → acts_for in_body (kind_of t) ≡ usual_acts row → mode_plan t m r ≡ followed_by (usual_plan row t r.split) (ended r)
+by_mode mode.InBody row t r used h = by_body 3 row t r h
+by_mode mode.InCell row t r used h = by_cell row t r used h
+by_mode _ row t r used h = absurd used
+
+not_early : (page : Option Page) (m : Mode) (t : Token) → UsesBody m t → is_early page m ≡ false
+not_early (Some page) m t used = refl
+not_early None mode.InBody t used = refl
+not_early None mode.InCell t used = refl
+not_early None _ t used = absurd used
 
 or_true : (a : Bool) → (a || true) ≡ true
 or_true true = refl
@@ -136,12 +167,9 @@ not_foreign k v (e ∷ es) h =
 
 usual_turn : (row : UsualRow) (t : Token) (r : Reached) → IsUsual r.split t row → turn_plan t r ≡ followed_by (usual_plan row t r.split) (ended r)
 usual_turn row t r u =
-    turn_on t r (ap (is_early r.split.page) u.place ∙ not_early r.split.page)
+    turn_on t r (not_early r.split.page r.split.change.mode t u.place)
     ∙ (ap (λ p. followed_by p (dispatched t r.split.change.mode r)) (not_foreign (kind_of t) r.split r.split.change.stack u.top)
-    ∙ (ap (λ m. mode_plan t m r) u.place
-    ∙ (in_body_acts t r
-    ∙ (ap (λ acts. acts_plan (rules_plan 3 t) nothing_more false t 0 0 acts r) u.acts
-    ∙ sym (row_runs 3 row t r)))))
+    ∙ by_mode r.split.change.mode row t r u.place u.acts)
 
 abbrev done_with : Split → Plan Reached
 done_with v = gives (record { split = v; handled = nothing_asked })
@@ -186,7 +214,7 @@ carries_then (Err NoMemory) old mid new plan next x f k = tt
 pub usual_acts_of : (acts other : List Act) (o : Option UsualRow) → acts ≡ other → IfSome o (λ row. acts ≡ usual_acts row) → IfSome o (λ row. other ≡ usual_acts row)
 usual_acts_of acts other o e h = subst (λ xs. IfSome o (λ row. xs ≡ usual_acts row)) e h
 
-pub usual_there : (v : Split) (t : Token) (o : Option UsualRow) → v.change.mode ≡ mode.InBody → has_html_top v.change.stack ≡ true → IfSome o (λ row. acts_for in_body (kind_of t) ≡ usual_acts row) → IfSome o (λ row. IsUsual v t row)
+pub usual_there : (v : Split) (t : Token) (o : Option UsualRow) → UsesBody v.change.mode t → has_html_top v.change.stack ≡ true → IfSome o (λ row. acts_for in_body (kind_of t) ≡ usual_acts row) → IfSome o (λ row. IsUsual v t row)
 usual_there v t None place top h = tt
 usual_there v t (Some row) place top h = record { place = place; top = top; acts = h }
 

@@ -11,6 +11,7 @@ use Rattle.hp_elements.specs.declared.act.Which.TheVariants.{Its, Named}
 use Rattle.hp_elements.specs.declared.kinds.Kinds.TheVariants as kinds
 use Rattle.hp_elements.specs.declared.known.Known.TheVariants as known
 use Rattle.hp_elements.specs.declared.tag.Tag.{Tag}
+use Rattle.hp_elements.specs.declared.token.Mode.{Mode}
 use Rattle.hp_elements.specs.declared.token.Mode.TheVariants as mode
 use Rattle.hp_elements.specs.declared.token.Token.{Token}
 use Rattle.hp_control.specs.Faithful.{Split}
@@ -20,6 +21,7 @@ use Rattle.hp_adoption.specs.ArkPlans.{append_to_list_plan}
 use Rattle.hp_adoption.specs.LinkPlans.{close_link_plan}
 use Rattle.hp_adoption.specs.ReconPlans.{reconstruct_plan}
 use Rattle.hp_rules_body.specs.Body.{in_body}
+use Rattle.hp_rules_table.specs.TableModes.{in_cell}
 use Rattle.hp_views.specs.ClosingPlans.{close_item_plan, close_paragraph_plan, implied_except_plan, implied_plan, walk_plan}
 use Rattle.hp_views.specs.FieldPlans.{frameset_plan}
 use Rattle.hp_views.specs.PlacePlans.{insert_plan}
@@ -52,9 +54,15 @@ abbrev pub usual_acts : UsualRow → List Act
 usual_acts (Opens row) = opening_acts row
 usual_acts (Closes row) = closing_acts row
 
--- the token has that row in the body, and isn't foreign content
+-- the rules of the body are used for the token: in the body, and in a cell where its row there only uses them
+abbrev pub UsesBody : Mode → Token → Type 0
+UsesBody mode.InBody t = Unit {0}
+UsesBody mode.InCell t = acts_for in_cell (kind_of t) ≡ act.As mode.InBody ∷ []
+UsesBody m t = ⊥
+
+-- the token has that row by the rules of the body, and isn't foreign content
 pub record IsUsual (v : Split) (t : Token) (row : UsualRow) : Type 0 where
-  pub place : v.change.mode ≡ mode.InBody
+  pub place : UsesBody v.change.mode t
   pub top : has_html_top v.change.stack ≡ true
   pub acts : acts_for in_body (kind_of t) ≡ usual_acts row
 

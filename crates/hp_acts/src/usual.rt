@@ -1,16 +1,19 @@
-//! The usual rows of the body, carried out without the table: a short way to what it says (13.2.6.4.7).
-ghost use Rattle.std.specs.Prelude.{◌≡◌, false, true, IfSome};
+//! The usual rows of the body, carried out without the table, in the body and in cells: a short way to what it says (13.2.6.4.7).
+ghost use Rattle.std.specs.Prelude.{◌≡◌, [], ◌∷◌, false, true, IfSome};
 ghost use Rattle.hp_elements.specs.Rules.{acts_for, acts_numbered};
 ghost use Rattle.hp_elements.specs.Tokens.{kind_of};
+ghost use Rattle.hp_elements.specs.declared.act.Act.TheVariants.{As};
 ghost use Rattle.hp_elements.specs.declared.token.Mode.TheVariants.{InBody};
 ghost use Rattle.hp_elements.specs.declared.sets.Namespace.TheVariants.{Html};
 ghost use Rattle.hp_rules_body.specs.Body.{in_body};
 ghost use Rattle.hp_rules_body.specs.Table.{all_rows};
+ghost use Rattle.hp_rules_table.specs.Table.{all_rows as table_rows};
+ghost use Rattle.hp_rules_table.specs.TableModes.{in_cell};
 ghost use Rattle.hp_views.specs.View.{sight, split_of, Carries};
 ghost use Rattle.hp_views.specs.PlacePlans.{insert_plan};
 ghost use Rattle.hp_acts.specs.HandlePlans.{all_turns_plan};
 ghost use Rattle.hp_acts.specs.Handling.{Handles};
-ghost use Rattle.hp_acts.specs.Usual.{IsUsual, block_end_by, block_end_plan, block_plan, closing_plan, formatting_plan, item_after_plan, item_end_by, item_end_plan, item_plan, link_plan, listed_plan, opening_plan, ordinary_plan, paragraph_end_by, paragraph_end_plan, usual_acts, usual_plan};
+ghost use Rattle.hp_acts.specs.Usual.{IsUsual, UsesBody, block_end_by, block_end_plan, block_plan, closing_plan, formatting_plan, item_after_plan, item_end_by, item_end_plan, item_plan, link_plan, listed_plan, opening_plan, ordinary_plan, paragraph_end_by, paragraph_end_plan, usual_acts, usual_plan};
 
 use crate::plain::is_in_html;
 use crate::token_parts::{bare, into_name, into_tag};
@@ -82,12 +85,34 @@ fn usual_in_body(token: &Token<'_>) -> Option<UsualRow>
     }
 }
 
-/// Whether the rules of the body are used.
-fn is_body(mode: Mode) -> bool
-    ensures { result ≡ true → mode ≡ InBody }
+/// Whether a row of tables only uses the rules of the body.
+fn is_passed_on(number: u16) -> bool
+    ensures { result ≡ true → acts_numbered table_rows number ≡ As InBody ∷ [] }
+{
+    match number {
+        49 => true,
+        _ => false,
+    }
+}
+
+/// Whether the row that the token has in a cell only uses the rules of the body.
+fn is_passed_in_cell(token: &Token<'_>) -> bool
+    ensures { result ≡ true → acts_for in_cell (kind_of token.now) ≡ As InBody ∷ [] }
+{
+    match hp_rules_table::row(Mode::InCell, token) {
+        Some(number) => is_passed_on(number),
+        None => false,
+    }
+}
+
+/// Whether the rules of the body are used for the token.
+#[inline(always)]
+fn uses_body(mode: Mode, token: &Token<'_>) -> bool
+    ensures { result ≡ true → UsesBody mode token.now }
 {
     match mode {
         Mode::InBody => true,
+        Mode::InCell => is_passed_in_cell(token),
         _ => false,
     }
 }
@@ -98,7 +123,7 @@ fn is_body(mode: Mode) -> bool
 pub(crate) fn usual_row<'p, B: Below>(view: &View<'p, B>, token: &Token<'p>) -> Option<UsualRow>
     ensures { IfSome result (λ row. IsUsual (split_of view.now) token.now row) }
 {
-    if is_body(view.change.mode) && is_in_html(&view.change.stack) {
+    if is_in_html(&view.change.stack) && uses_body(view.change.mode, token) {
         usual_in_body(token)
     } else {
         None

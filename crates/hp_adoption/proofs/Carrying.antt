@@ -1,5 +1,5 @@
 -- A plan, and then another from where it led.
-use Rattle.std.proofs.Common.{◌≡◌, ℕ, false, true, List, [], ◌∷◌, Result, Ok, Err, ap, subst, sym}
+use Rattle.std.proofs.Common.{◌≡◌, ℕ, false, true, List, [], ◌∷◌, ◌++◌, Result, Ok, Err, ap, append_assoc, subst, sym, ◌∙◌}
 use Rattle.std.specs.Prelude.{◌==◌, length}
 use Rattle.std.specs.List.{list_all}
 use Rattle.std.specs.Result.{IsErrAnd}
@@ -38,3 +38,10 @@ carries_as (Err NoMemory) old new p q e run = tt
 pub white_flushed : (result : Result (Unit {0}) Refusal) (old new : Sight) (text : List ℕ) → (length text == 0) ≡ false → list_all is_white text ≡ true → Carries result old new (put_plan false (child.Text text)) → Carries result old new (flush_text text)
 white_flushed result old new [] e w k = absurd (cc)
 white_flushed result old new (c ∷ cs) e w k = carries_as result old new (put_plan false (child.Text (c ∷ cs))) (flush_text (c ∷ cs)) (ap (flush_by (c ∷ cs) old.split) (sym w)) k
+
+-- four items that were put behind others one by one
+pub four_pushed : {X : Type 0} (os l1 l2 l3 l4 : List X) (a b c d : X) → l1 ≡ os ++ a ∷ [] → l2 ≡ l1 ++ b ∷ [] → l3 ≡ l2 ++ c ∷ [] → l4 ≡ l3 ++ d ∷ [] → l4 ≡ os ++ a ∷ b ∷ c ∷ d ∷ []
+four_pushed {X} os l1 l2 l3 l4 a b c d e1 e2 e3 e4 =
+    let two : l2 ≡ os ++ a ∷ b ∷ [] = e2 ∙ (ap (λ (l : List X). l ++ b ∷ []) e1 ∙ append_assoc os (a ∷ []) (b ∷ [])) in
+    let three : l3 ≡ os ++ a ∷ b ∷ c ∷ [] = e3 ∙ (ap (λ (l : List X). l ++ c ∷ []) two ∙ append_assoc os (a ∷ b ∷ []) (c ∷ [])) in
+    e4 ∙ (ap (λ (l : List X). l ++ d ∷ []) three ∙ append_assoc os (a ∷ b ∷ c ∷ []) (d ∷ []))
