@@ -4,4 +4,5 @@ pub mod Arena
 pub mod Leaves
 pub mod Shape
 pub mod Readers
+pub mod Room
 pub mod Roots

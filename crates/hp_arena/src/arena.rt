@@ -11,9 +11,10 @@ ghost use Rattle.hp_arena.specs.Nodes.{kind_of, IsClosed, end_from};
 ghost use Rattle.hp_arena.specs.Readers.{IsSpot, shown, is_item, HasTag};
 
 use crate::attributes::add_attributes;
-use crate::leaves::{Doctype, Leaf, add_cells, add_leaf, add_text, alone, push_within, text_at};
+use crate::leaves::{Doctype, Leaf, add_leaf, add_text, alone, push_within, text_at};
 use crate::links::{Kind, Node, put_before, splice, unlink};
 use crate::readers::{NodeView, Runs, Spot};
+use crate::room::{largest, widen};
 use hp_control::{Child, Edit, Edits, Place, Ref};
 use hp_elements::{Attribute, Chain, Tag, Text};
 use std::alloc::{AllocError, Global};
@@ -101,22 +102,26 @@ impl<'p> Arena<'p> {
         if room <= self.spare as u64 {
             return Ok(());
         }
-        let most = self
-            .nodes
-            .len()
-            .max(self.elements.len())
-            .max(self.leaves.len())
-            .max(self.doctypes.len())
-            .max(self.used);
+        let most = largest(
+            self.nodes.len(),
+            self.elements.len(),
+            self.leaves.len(),
+            self.doctypes.len(),
+            self.used,
+        );
         if room > MOST as u64 || most > MOST {
             return Err(AllocError);
         }
         let room = room as usize;
-        self.nodes.reserve(2 * room)?;
-        self.elements.reserve(room)?;
-        self.leaves.reserve(room)?;
-        self.doctypes.reserve(room)?;
-        add_cells(alloc, &mut self.cells, room)?;
+        widen(
+            alloc,
+            &mut self.nodes,
+            &mut self.elements,
+            &mut self.leaves,
+            &mut self.doctypes,
+            &mut self.cells,
+            room,
+        )?;
         self.spare = room;
         Ok(())
     }

@@ -6,6 +6,7 @@ mod attributes;
 mod leaves;
 mod links;
 mod readers;
+mod room;
 mod roots;
 mod tree;
 
