@@ -13,6 +13,7 @@ use hp_acts::handle;
 use hp_control::{Control, Nothing};
 use hp_elements::{Rest, Token, Tokens};
 use hp_pieces::of_page;
+use hp_tokens::{LexState, Machine, OwnedText};
 use hp_views::View;
 use std::alloc::Global;
 
@@ -20,7 +21,6 @@ use std::alloc::Global;
 fn without_lexer(control: Control) -> Control
     ensures { result ≡ record control { lex = lex_start } }
 {
-    let Control { lex, .. } = Control::start();
     let Control {
         lex: own,
         mode,
@@ -38,7 +38,7 @@ fn without_lexer(control: Control) -> Control
     } = control;
     let _ = own;
     Control {
-        lex,
+        lex: page_lex(),
         mode,
         original,
         templates,
@@ -51,6 +51,20 @@ fn without_lexer(control: Control) -> Control
         pending,
         skip_lf,
         next,
+    }
+}
+
+/// The lexer's part of a page's start.
+fn page_lex() -> LexState
+    ensures { result ≡ lex_start }
+{
+    let LexState { machine, ahead } = LexState::at_rest(Rest::Data, false);
+    LexState {
+        machine: Machine {
+            last_tag: Some(OwnedText::new()),
+            ..machine
+        },
+        ahead,
     }
 }
 
