@@ -9,6 +9,7 @@ ghost use Rattle.hp_steps.specs.Handling.{AllRead};
 ghost use Rattle.hp_replay.specs.Collecting.{control_of, Collects, CollectsAll, IsKnown};
 
 use crate::NoMemory;
+use crate::leaving::leave_lex;
 use hp_acts::handle;
 use hp_control::{Control, Nothing};
 use hp_elements::{Rest, Token, Tokens};
@@ -36,7 +37,7 @@ fn without_lexer(control: Control) -> Control
         skip_lf,
         next,
     } = control;
-    let _ = own;
+    leave_lex(own);
     Control {
         lex: page_lex(),
         mode,

@@ -18,7 +18,7 @@ returns-in-Ok-clause-between c = record {
 pub returns-in-Ok-clause-state : goal.returns-in-Ok-clause-state
 returns-in-Ok-clause-state c =
     ap (λ (s : ControlState). record s { lex = c.in_ok-lexer.lexer.lex }) c.in-Ok.ensures.control
-    ∙ ap (λ (l : LexState). record c.args.from.now { lex = l }) (ap (λ (l : Lexer). l.lex) c.in_ok-lexer.ensures.lexer)
+    ∙ ap (λ (l : LexState). record c.args.from.now { lex = l }) (ap (λ (l : Lexer). l.lex) c.in_ok-lexer.ensures.lexer ∙ ap (λ (s : ControlState). s.lex) c.from.view_is)
 
 pub returns-in-Ok-clause-edits : goal.returns-in-Ok-clause-edits
 returns-in-Ok-clause-edits c = c.in-Ok.ensures.edits
