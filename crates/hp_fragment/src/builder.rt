@@ -14,6 +14,7 @@ ghost use Rattle.hp_model.specs.Whole.{IsRead};
 ghost use Rattle.hp_fragment.specs.Building.{control_of, grown, IsBuilder, HandledOne, HandledAll, HasGrown};
 
 use crate::NoMemory;
+use crate::leaving::leave_view;
 use hp_acts::{handle, handle_text, takes_text};
 use hp_arena::Tree;
 use hp_control::{Control, Edits, Nothing};
@@ -115,7 +116,8 @@ impl<'p> Builder<'p> {
     pub fn into_tree(self) -> Tree<'p>
         ensures { result.branches ≡ self.entry.tree.branches }
     {
-        let Builder { tree, .. } = self;
+        let Builder { view, tree } = self;
+        leave_view(view);
         tree
     }
 }

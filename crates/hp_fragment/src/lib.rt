@@ -3,6 +3,7 @@
 
 mod builder;
 mod laws;
+mod leaving;
 mod parsing;
 mod whole;
 

@@ -21,6 +21,7 @@ ghost use Rattle.hp_fragment.specs.Reading.{IsReady, IsAtEnd, IsWithin, Reads, H
 use crate::NoMemory;
 use crate::builder::Builder;
 use crate::laws::{never_asked, rests_ahead};
+use crate::leaving::leave_lexer;
 use hp_arena::Tree;
 use hp_elements::{Rest, Text, Token, Tokens};
 use hp_lexer::{Cursor, Lexer, Step};
@@ -315,7 +316,8 @@ impl<'p> Parsing<'p> {
     pub fn into_tree(self) -> Tree<'p>
         ensures { result.branches ≡ self.entry.builder.tree.branches }
     {
-        let Parsing { builder, .. } = self;
+        let Parsing { lexer, builder, .. } = self;
+        leave_lexer(lexer);
         builder.into_tree()
     }
 }

@@ -9,10 +9,12 @@ ghost use Rattle.hp_steps.specs.Handling.{AllRead};
 ghost use Rattle.hp_replay.specs.Collecting.{control_of, Collects, CollectsAll, IsKnown};
 
 use crate::NoMemory;
+use crate::leaving::leave_lex;
 use hp_acts::handle;
 use hp_control::{Control, Nothing};
 use hp_elements::{Rest, Token, Tokens};
 use hp_pieces::of_page;
+use hp_tokens::{LexState, Machine, OwnedText};
 use hp_views::View;
 use std::alloc::Global;
 
@@ -20,7 +22,6 @@ use std::alloc::Global;
 fn without_lexer(control: Control) -> Control
     ensures { result ≡ record control { lex = lex_start } }
 {
-    let Control { lex, .. } = Control::start();
     let Control {
         lex: own,
         mode,
@@ -36,9 +37,9 @@ fn without_lexer(control: Control) -> Control
         skip_lf,
         next,
     } = control;
-    let _ = own;
+    leave_lex(own);
     Control {
-        lex,
+        lex: page_lex(),
         mode,
         original,
         templates,
@@ -51,6 +52,20 @@ fn without_lexer(control: Control) -> Control
         pending,
         skip_lf,
         next,
+    }
+}
+
+/// The lexer's part of a page's start.
+fn page_lex() -> LexState
+    ensures { result ≡ lex_start }
+{
+    let LexState { machine, ahead } = LexState::at_rest(Rest::Data, false);
+    LexState {
+        machine: Machine {
+            last_tag: Some(OwnedText::new()),
+            ..machine
+        },
+        ahead,
     }
 }
 

@@ -4,6 +4,7 @@
 mod at_end;
 mod collecting;
 mod laws;
+mod leaving;
 mod replaying;
 mod running;
 mod told;

@@ -6,6 +6,7 @@ ghost use Rattle.hp_pieces.specs.Fragments.{IsRun};
 ghost use Rattle.hp_pieces.specs.Texts.{text_of, IsExactFrom};
 
 use crate::NoMemory;
+use crate::leaving::leave_control;
 use crate::running::Running;
 use hp_control::{Control, Edits};
 use hp_pieces::{Exact, Fragment};
@@ -19,11 +20,18 @@ pub fn replay<'p>(alloc: Global, chunk: Chunk<'p>, from: Control) -> Result<Frag
 {
     let text = chunk_text(&chunk);
     from.is_kept();
-    let parts = run_from(alloc, text, &from)?;
-    let (exit, edits) = parts;
-    let bytes = text.as_bytes();
-    let exact = Exact::of_run(bytes, from, exit, edits);
-    Ok(Fragment::Exact(exact))
+    match run_from(alloc, text, &from) {
+        Ok(parts) => {
+            let (exit, edits) = parts;
+            let bytes = text.as_bytes();
+            let exact = Exact::of_run(bytes, from, exit, edits);
+            Ok(Fragment::Exact(exact))
+        }
+        Err(fault) => {
+            leave_control(from);
+            Err(fault)
+        }
+    }
 }
 
 fn chunk_text<'p>(chunk: &Chunk<'p>) -> &'p str
@@ -42,7 +50,14 @@ fn run_from<'p>(
     ensures { IfOk result (λ parts. IsRun (record { text = text.now; entry = from.now; exit = parts.0; edits = parts.1 })) }
 {
     let mut running = Running::of_state(alloc, from)?;
-    running.run(alloc, text)?;
-    let parts = running.into_parts(alloc)?;
-    Ok(parts)
+    match running.run(alloc, text) {
+        Ok(()) => {
+            let parts = running.into_parts(alloc)?;
+            Ok(parts)
+        }
+        Err(fault) => {
+            running.leave();
+            Err(fault)
+        }
+    }
 }

@@ -16,6 +16,7 @@ ghost use Rattle.hp_replay.specs.Reading.{edits_in, state_of, HasEnded, IsAtEnd,
 use crate::NoMemory;
 use crate::collecting::{collect, is_foreign, view_of};
 use crate::laws::{never_asked, runs_join, runs_stay_valid};
+use crate::leaving::{leave_control, leave_lexer, leave_view};
 use crate::told::told_all;
 use hp_control::{Control, Edits, Nothing};
 use hp_elements::{Token, Tokens};
@@ -42,9 +43,16 @@ impl<'p> Running<'p> {
         ensures edits { IfOk result (λ running. running.view.edits ≡ []) }
     {
         let lexer = Lexer::from_state(alloc, &from.lex)?;
-        let view = view_of(alloc, from)?;
-        let input = Cursor::of_str("");
-        Ok(Running { lexer, input, view })
+        match view_of(alloc, from) {
+            Ok(view) => {
+                let input = Cursor::of_str("");
+                Ok(Running { lexer, input, view })
+            }
+            Err(fault) => {
+                leave_lexer(lexer);
+                Err(fault)
+            }
+        }
     }
 
     /// Reads a text to its end.
@@ -154,31 +162,37 @@ impl<'p> Running<'p> {
 
     /// The state that was reached, and the edits that led there.
     pub fn into_parts(self, alloc: Global) -> Result<(Control, Edits<'p>), NoMemory>
-        requires asked { self.lexer.asked ≡ asked.Nothing }
         requires valid { IsValid (state_of self) }
         ensures state { IfOk result (λ parts. parts.0 ≡ state_of self.entry) }
         ensures edits { IfOk result (λ parts. parts.1 ≡ edits_in self.entry) }
     {
-        let Running { lexer, view, .. } = self;
-        ended(alloc, &lexer, view)
+        let (control, edits) = self.into_control();
+        match told_all(alloc, edits) {
+            Ok(edits) => Ok((control, edits)),
+            Err(fault) => {
+                leave_control(control);
+                Err(fault)
+            }
+        }
     }
-}
 
-/// The state of this lexer and of this view, and the view's edits.
-fn ended<'p>(
-    alloc: Global,
-    lexer: &Lexer,
-    view: View<'p, Nothing>,
-) -> Result<(Control, Edits<'p>), NoMemory>
-    requires asked { lexer.now.asked ≡ asked.Nothing }
-    requires valid { IsValid (with_lexer lexer.now.lex (control_of (split_of view))) }
-    ensures state { IfOk result (λ parts. parts.0 ≡ with_lexer lexer.now.lex (control_of (split_of view.entry))) }
-    ensures edits { IfOk result (λ parts. parts.1 ≡ edits_of (split_of view.entry)) }
-{
-    let lex = lexer.state(alloc)?;
-    let (control, edits) = view.into_control(lex);
-    let edits = told_all(alloc, edits)?;
-    Ok((control, edits))
+    /// The state that was reached, and the edits as they were made.
+    fn into_control(self) -> (Control, Edits<'p>)
+        requires valid { IsValid (state_of self) }
+        ensures state { result.0 ≡ state_of self.entry }
+        ensures edits { result.1 ≡ self.entry.view.edits }
+    {
+        let Running { lexer, view, .. } = self;
+        let Lexer { lex, .. } = lexer;
+        view.into_control(lex)
+    }
+
+    /// Gives the memory back.
+    pub fn leave(self) {
+        let Running { lexer, view, .. } = self;
+        leave_lexer(lexer);
+        leave_view(view);
+    }
 }
 
 /// Whether nothing of the text is left.

@@ -1,19 +1,11 @@
-use Rattle.std.proofs.Common.{refl, subst}
-use Rattle.hp_control.specs.States.{IsValid}
-use Rattle.hp_views.specs.View.{split_of}
-use Rattle.hp_replay.proofs.Ended.{ending_is, named-ends}
+use Rattle.std.proofs.Common.{List, map, ap, sym, subst, ◌∙◌}
+use Rattle.hp_control.specs.Apply.{named_edit}
+use Rattle.hp_control.specs.Nothing.{nothing}
+use Rattle.hp_control.specs.declared.edit.Edit.{Edit}
+use Rattle.hp_pieces.specs.Fragments.{IsEnd}
 use Rattle.hp_replay.proofs.at_end.end_edits.Goals as goal
 
-pub collect_last-requires-clause-read : goal.collect_last-requires-clause-read
-collect_last-requires-clause-read c = (c.ends_of_text.ensures.read _ _ c.in_ok-tokens.tokens (c.in_ok-tokens.ensures 0)).0
-
-pub collect_last-requires-clause-runs : goal.collect_last-requires-clause-runs
-collect_last-requires-clause-runs c = (c.ends_of_text.ensures.read _ _ c.in_ok-tokens.tokens (c.in_ok-tokens.ensures 0)).1
-
-pub returns : goal.returns
-returns c =
-    let read = c.ends_of_text.ensures.read _ _ c.in_ok-tokens.tokens (c.in_ok-tokens.ensures 0) in
-    ending_is c.at_once.ensures.token c.ends_of_text.ensures.handled c.args.from.now (split_of c.in_ok-view.view) (split_of c.collect_last.new.view) c.in_ok-tokens.tokens c.in_ok-edits.edits
-    c.requires.valid (subst IsValid c.in_ok-view.ensures.control c.in_ok-view.ensures.known.valid) c.in_ok-view.ensures.control c.in_ok-view.ensures.edits read.0 read.1
-    (named-ends c.in_ok-from_state.field-0 c.args.from.now.lex c.args.from.now.lex c.in_ok-tokens.tokens c.in_ok-from_state.ensures.lexer refl c.in_ok-tokens.ensures) c.in_ok-collect_last.ensures
-    c.in_ok-edits.ensures
+pub returns-in_ok-edits-in-Ok : goal.returns-in_ok-edits-in-Ok
+returns-in_ok-edits-in-Ok c =
+    subst (λ (es : List Edit). IsEnd (record { entry = c.args.from.now; edits = es }))
+    (sym (c.in_ok-edits-in-Ok.ensures ∙ ap (map (named_edit nothing)) c.into_edits.ensures)) c.in-Ok.ensures

@@ -4,11 +4,11 @@ use Rattle.hp_replay.proofs.replaying.replay.Goals as goal
 
 pub of_run-exact-requires : goal.of_run-exact-requires
 of_run-exact-requires c = record {
-  run = subst (λ (t : List ℕ). IsRun (record { text = t; entry = c.args.from; exit = c.in_ok-parts.parts.0; edits = c.in_ok-parts.parts.1 })) (sym c.as_bytes-bytes.ensures.value) c.in_ok-parts.ensures;
+  run = subst (λ (t : List ℕ). IsRun (record { text = t; entry = c.args.from; exit = c.in-Ok.parts.0; edits = c.in-Ok.parts.1 })) (sym c.as_bytes-bytes.ensures.value) c.in-Ok.ensures;
 }
 
-pub returns-clause-text : goal.returns-clause-text
-returns-clause-text c = ap (λ (k : Known). k.text) c.of_run-exact.ensures ∙ (c.as_bytes-bytes.ensures.value ∙ c.chunk_text-text.ensures)
+pub returns-in-Ok-clause-text : goal.returns-in-Ok-clause-text
+returns-in-Ok-clause-text c = ap (λ (k : Known). k.text) c.of_run-exact.ensures ∙ (c.as_bytes-bytes.ensures.value ∙ c.chunk_text-text.ensures)
 
-pub returns-clause-exact : goal.returns-clause-exact
-returns-clause-exact c = ap (λ (k : Known). k.entry) c.of_run-exact.ensures
+pub returns-in-Ok-clause-exact : goal.returns-in-Ok-clause-exact
+returns-in-Ok-clause-exact c = ap (λ (k : Known). k.entry) c.of_run-exact.ensures

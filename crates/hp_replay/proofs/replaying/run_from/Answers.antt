@@ -9,13 +9,10 @@ run-requires-clause-between c = c.in_ok-running.ensures.between
 pub run-requires-clause-valid : goal.run-requires-clause-valid
 run-requires-clause-valid c = subst IsValid (sym c.in_ok-running.ensures.state) c.requires
 
-pub into_parts-requires-clause-asked : goal.into_parts-requires-clause-asked
-into_parts-requires-clause-asked c = c.in_ok-run.ensures.between.at_end.asked
+pub into_parts-requires : goal.into_parts-requires
+into_parts-requires c = record { valid = c.in-Ok.ensures.valid }
 
-pub into_parts-requires-clause-valid : goal.into_parts-requires-clause-valid
-into_parts-requires-clause-valid c = c.in_ok-run.ensures.valid
-
-pub returns : goal.returns
-returns c =
-    replayed c.args.text.now c.in_ok-running.running c.run.new.self c.args.from.now c.in_ok-parts.parts.0 c.in_ok-parts.parts.1 c.utf8.text c.in_ok-run.ensures.ran c.in_ok-running.ensures.edits
-    c.in_ok-running.ensures.state c.in_ok-parts.ensures.state c.in_ok-parts.ensures.edits
+pub returns-in_ok-parts-in-Ok : goal.returns-in_ok-parts-in-Ok
+returns-in_ok-parts-in-Ok c =
+    replayed c.args.text.now c.in_ok-running.running c.run.new.self c.args.from.now c.in_ok-parts-in-Ok.parts.0 c.in_ok-parts-in-Ok.parts.1 c.utf8.text c.in-Ok.ensures.ran c.in_ok-running.ensures.edits
+    c.in_ok-running.ensures.state c.in_ok-parts-in-Ok.ensures.state c.in_ok-parts-in-Ok.ensures.edits

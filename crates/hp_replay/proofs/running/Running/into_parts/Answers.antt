@@ -1,13 +1,13 @@
+use Rattle.std.proofs.Common.{ap, map, ◌∙◌}
+use Rattle.hp_control.specs.Apply.{named_edit}
+use Rattle.hp_control.specs.Nothing.{nothing}
 use Rattle.hp_replay.proofs.running.Running.into_parts.Goals as goal
 
-pub ended-requires-clause-asked : goal.ended-requires-clause-asked
-ended-requires-clause-asked c = c.requires.asked
+pub into_control-control-requires : goal.into_control-control-requires
+into_control-control-requires c = record { valid = c.requires.valid }
 
-pub ended-requires-clause-valid : goal.ended-requires-clause-valid
-ended-requires-clause-valid c = c.requires.valid
+pub returns-in-Ok-clause-state : goal.returns-in-Ok-clause-state
+returns-in-Ok-clause-state c = c.into_control-control.ensures.state
 
-pub returns-clause-state : goal.returns-clause-state
-returns-clause-state c = c.ended.ensures.state
-
-pub returns-clause-edits : goal.returns-clause-edits
-returns-clause-edits c = c.ended.ensures.edits
+pub returns-in-Ok-clause-edits : goal.returns-in-Ok-clause-edits
+returns-in-Ok-clause-edits c = c.in-Ok.ensures ∙ ap (map (named_edit nothing)) c.into_control-control.ensures.edits
