@@ -1,6 +1,6 @@
 //! The nodes, elements and leaves of a tree, and the edits on them.
 
-ghost use Rattle.std.specs.Prelude.{◌≡◌, ◌≢◌, ◌+◌, ◌<◌, ◌≤◌, length, ◌++◌, [], ◌∷◌, ◌^◌, true, false, IfOk, OnOk, OnErr, All, MatchOption, unwrap_or, Some, slice_get, slice_set, vec_len, vec_capacity};
+ghost use Rattle.std.specs.Prelude.{◌≡◌, ◌≢◌, ◌+◌, ◌<◌, ◌≤◌, length, ◌++◌, [], ◌∷◌, ◌^◌, true, false, IfOk, OnOk, OnErr, All, MatchOption, unwrap_or, Some, slice_get, slice_set, vec_len, vec_capacity, ℕ};
 ghost use Rattle.hp_control.specs.Edits.{room_of, room_of_all};
 ghost use Rattle.hp_control.specs.Tree.{document, detached, put, put_child, applied, is_there, id_of, is_place, may_be_child, leads_into_document, children_moved, with_tag, with_attributes};
 ghost use Rattle.hp_control.specs.Tree.{branch, IsForest};
@@ -363,6 +363,13 @@ impl<'p> Arena<'p> {
         ensures forest { IsForest self.now.branches }
     {
         self.elements.len() as u32
+    }
+
+    /// At least as many as the attributes of any element.
+    pub fn most_attributes(&self) -> usize
+        ensures { (id : ℕ) → id < length self.now.branches → attribute_count (branch self.now.branches id).tag ≤ result }
+    {
+        self.used
     }
 
     /// The first of what stands inside an element: of its children, or of the contents if it is a template. The document is 0.

@@ -1,8 +1,9 @@
 //! The tree that callers see: its edits and its readers.
 
-ghost use Rattle.std.specs.Prelude.{◌≡◌, ◌+◌, ◌<◌, ◌≤◌, length, [], IfOk, IfSome, OnOk, OnErr, MatchOption};
+ghost use Rattle.std.specs.Prelude.{◌≡◌, ◌+◌, ◌<◌, ◌≤◌, length, [], ℕ, IfOk, IfSome, OnOk, OnErr, MatchOption};
 ghost use Rattle.hp_control.specs.Edits.{room_of, room_of_all};
 ghost use Rattle.hp_control.specs.Tree.{document, applied, branch, IsForest};
+ghost use Rattle.hp_arena.specs.Shape.{attribute_count};
 ghost use Rattle.hp_arena.specs.Readers.{IsAt, IsIn, IsFirstChild, IsShown, HasTag, children, list_of, contents_of, siblings, parent_of, place_of};
 
 use crate::arena::Arena;
@@ -79,6 +80,13 @@ impl<'p> Tree<'p> {
         ensures forest { IsForest self.now.branches }
     {
         self.arena.len()
+    }
+
+    /// At least as many as the attributes of any element.
+    pub fn most_attributes(&self) -> usize
+        ensures { (id : ℕ) → id < length self.now.branches → attribute_count (branch self.now.branches id).tag ≤ result }
+    {
+        self.arena.most_attributes()
     }
 
     /// The document.
