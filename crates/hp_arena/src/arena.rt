@@ -365,6 +365,12 @@ impl<'p> Arena<'p> {
         self.elements.len() as u32
     }
 
+    /// About how many levels stand above the lines of the tree's text, all together: those above each item, and those above the
+    /// deepest for each attribute that there may be. Nothing is promised of it.
+    pub fn summed_levels(&self) -> u64 {
+        summed_levels(&self.nodes, self.used as u64)
+    }
+
     /// At least as many as the attributes of any element.
     pub fn most_attributes(&self) -> usize
         ensures { (id : ℕ) → id < length self.now.branches → attribute_count (branch self.now.branches id).tag ≤ result }
@@ -520,4 +526,35 @@ fn end_after(nodes: &[Node], from: u32) -> u32
         at = nodes[at as usize].next;
     }
     at
+}
+
+/// The levels above all items that the links lead to from the document, and those above the deepest for so many more. An element
+/// stands right before the end of its own children.
+#[inline(never)]
+fn summed_levels(nodes: &[Node], more: u64) -> u64 {
+    let mut level = 0u64;
+    let mut deepest = 0u64;
+    let mut sum = 0u64;
+    let mut at = 1usize;
+    for _ in 0..nodes.len() {
+        let Some(node) = nodes.get(at) else { break };
+        let Some(next) = nodes.get(node.next as usize) else {
+            break;
+        };
+        sum = sum.saturating_add(level);
+        at = node.next as usize;
+        match next.kind {
+            Kind::Leaf(_) => {}
+            Kind::Element(_) => {
+                level = level.saturating_add(1);
+                deepest = deepest.max(level);
+                at = at.saturating_add(1);
+            }
+            Kind::End(_) => {
+                level = level.saturating_sub(1);
+                at = at.saturating_sub(1);
+            }
+        }
+    }
+    sum.saturating_add(deepest.saturating_mul(more))
 }

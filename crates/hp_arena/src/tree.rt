@@ -82,6 +82,12 @@ impl<'p> Tree<'p> {
         self.arena.len()
     }
 
+    /// About how many levels stand above the lines of the tree's text, all together: those above each item, and those above the
+    /// deepest for each attribute that there may be. Nothing is promised of it.
+    pub fn summed_levels(&self) -> u64 {
+        self.arena.summed_levels()
+    }
+
     /// At least as many as the attributes of any element.
     pub fn most_attributes(&self) -> usize
         ensures { (id : ℕ) → id < length self.now.branches → attribute_count (branch self.now.branches id).tag ≤ result }

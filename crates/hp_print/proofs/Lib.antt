@@ -4,7 +4,6 @@ pub mod Fronts
 pub mod Lists
 pub mod Ordered
 pub mod Pieces
-pub mod Sizes
 pub mod Sorting
 pub mod Stable
 pub mod Steps

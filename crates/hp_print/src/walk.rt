@@ -37,8 +37,8 @@ pub enum Refusal {
     Fault,
 }
 
-/// A text with more spaces than this before its lines is of absurd length: that of a tree goes by the square of its depth.
-const ABSURD: u64 = 1 << 36;
+/// A text with more levels than these above its lines is of absurd length: that of a tree goes by the square of its depth.
+const ABSURD: u64 = 1 << 34;
 
 /// The tree as text, in UTF-8.
 pub fn print_tree(alloc: Global, tree: &Tree<'_>) -> Result<Vec<u8>, NoMemory>
@@ -61,12 +61,12 @@ pub fn write_tree<K: Sink>(alloc: Global, tree: &Tree<'_>, sink: &mut K) -> Resu
 
     ensures nothing { result ≡ Err Refusal.NoMemory → sink.new ≡ sink.old }
 {
+    if tree.summed_levels() > ABSURD {
+        return Err(Refusal::NoMemory);
+    }
     let Ok(mut stack) = marks(alloc, tree) else {
         return Err(Refusal::NoMemory);
     };
-    if spaces(tree, &mut stack) > ABSURD {
-        return Err(Refusal::NoMemory);
-    }
     let Ok(mut list) = Vec::with_capacity(alloc, tree.most_attributes()) else {
         return Err(Refusal::NoMemory);
     };
@@ -88,28 +88,6 @@ fn marks(alloc: Global, tree: &Tree<'_>) -> Result<Vec<Mark>, NoMemory>
 {
     let stack = Vec::with_capacity(alloc, tree.len() as usize)?;
     Ok(stack)
-}
-
-/// How many spaces stand before the lines of the tree: of those of templates about half are left out.
-fn spaces(tree: &Tree<'_>, stack: &mut Vec<Mark>) -> u64
-    requires empty { stack.old.items ≡ [] }
-    requires room { length tree.now.branches ≤ vec_capacity stack.old }
-    ensures empty { stack.new.items ≡ [] }
-    ensures room { length tree.now.branches ≤ vec_capacity stack.new }
-{
-    let _elements = tree.len();
-    let mut spaces = 0u64;
-    push_first(tree, stack, 0, 0, 0);
-    while let Some(mark) = stack.pop() {
-        let view = step(tree, stack, mark);
-        let lines = match view {
-            NodeView::Element { tag, .. } => tag.attributes.len() as u64,
-            _ => 0,
-        };
-        let inside = mark.level as u64;
-        spaces = spaces.saturating_add((lines + 1).saturating_mul(2 * inside));
-    }
-    spaces
 }
 
 /// Prints all items of the tree.
