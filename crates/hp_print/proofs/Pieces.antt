@@ -49,9 +49,9 @@ gathers old new s piece is = record {
 
 -- after a failure nothing more is taken
 part_more : (text piece : List ℕ) (old new : Option (List ℕ)) → TakesPart text old new → TakesPart (text ++ piece) old new
-part_more text piece old new (n, (less, took)) =
+part_more text piece old new (n, less, took) =
     let within : n ≤ length text = omega arith in
-    (n, (omega (arith, length-append text piece), took ∙ ap (append_known old) (sym (take-append-le n text piece within))))
+    (n, omega (arith, length-append text piece), took ∙ ap (append_known old) (sym (take-append-le n text piece within)))
 
 pub failed : (s : Sight) (piece : List ℕ) → Prints Failed Failed s s piece
 failed s piece = record { after = λ start bytes broke. record { part = part_more bytes piece start.0 s.0 broke.part; rose = broke.rose } }
@@ -66,7 +66,7 @@ broke_at : (start s t : Sight) (gone more whole : List ℕ) (n : ℕ) → s.0 �
 broke_at start s t gone more whole n first same is less took rose =
     let total : length whole ≡ length gone + length more = ap length (sym is) ∙ length-append gone more in
     record {
-      part = (length gone + n, (omega arith, took_all start s t gone (take n more) first took ∙ ap (append_known start.0) (sym (take-append-add gone more n) ∙ ap (take (length gone + n)) is)));
+      part = (length gone + n, omega arith, took_all start s t gone (take n more) first took ∙ ap (append_known start.0) (sym (take-append-add gone more n) ∙ ap (take (length gone + n)) is));
       rose = subst (λ count. Rose count t.1) same rose;
     }
 

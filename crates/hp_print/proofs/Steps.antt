@@ -73,10 +73,11 @@ marks-high t place (n ∷ ms) m all = let high : place + 1 + length ms ≤ m.lev
 pub pushed_some : (t : Seen) (ms : List Mark) (m : Mark) (level templates : ℕ) (items : List Item) → IsMark t m → length ms ≤ m.level → m.level ≡ level → m.templates ≡ templates → rest t.branches m ≡ items
     → Pushed t ms (ms ++ m ∷ []) (lines_at t.branches level templates items) (steps_at t.branches level items)
 pushed_some t ms m level templates items is high at_level of_templates left =
+    let first : 0 + length ms ≤ m.level = omega arith in
     rw (← at_level, ← of_templates, ← left) (record {
       text_is = pending-push t.branches ms m;
       steps_are = omega (arith, todo-push t.branches ms m);
-      marks = λ all. marks-push t 0 ms m all is high;
+      marks = λ all. marks-push t 0 ms m all is first;
     })
 
 -- where nothing is left, nothing is pushed

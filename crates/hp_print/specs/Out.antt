@@ -1,5 +1,5 @@
 -- What was printed so far: what the sink took of it, and what is gathered.
-use Rattle.std.specs.Prelude.{◌≡◌, ℕ, ◌<◌, Bool, true, false, Option, List, [], ◌++◌, length, take, if◌then◌else◌}
+use Rattle.std.specs.Prelude.{◌≡◌, ℕ, ◌<◌, Bool, true, false, Option, List, [], ◌++◌, length, take}
 use Rattle.std.specs.Io.KnownBytes.{append_known}
 use Rattle.hp_text.specs.Device.{Rose}
 use Rattle.hp_print.specs.declared.output.Out.{Out}
@@ -31,8 +31,8 @@ Has start now (Gathered gathered) bytes = Waits start now gathered.items bytes
 Has start now Failed bytes = Broke start now bytes
 
 -- these bytes were printed after the others
-pub record Prints (old new : Out) (before after : Sight) (piece : List ℕ) : Type 0 where
-  pub after : (start : Sight) (bytes : List ℕ) → Has start before old bytes → Has start after new (bytes ++ piece)
+pub record Prints (old new : Out) (earlier later : Sight) (piece : List ℕ) : Type 0 where
+  pub after : (start : Sight) (bytes : List ℕ) → Has start earlier old bytes → Has start later new (bytes ++ piece)
 
 -- nothing was printed
 abbrev pub Starts : Out → Type 0
@@ -48,5 +48,5 @@ abbrev pub Outcome : Bool → Sight → Sight → List ℕ → Type 0
 Outcome true start now bytes = now.0 ≡ append_known start.0 bytes
 Outcome false start now bytes = Broke start now bytes
 
-pub record Finished (old : Out) (done : Bool) (before after : Sight) : Type 0 where
-  pub outcome : (start : Sight) (bytes : List ℕ) → Has start before old bytes → Outcome done start after bytes
+pub record Finished (old : Out) (done : Bool) (earlier later : Sight) : Type 0 where
+  pub outcome : (start : Sight) (bytes : List ℕ) → Has start earlier old bytes → Outcome done start later bytes

@@ -1,7 +1,7 @@
 //! The attributes of an element, in the order in which they are printed.
 
 ghost use Rattle.std.specs.Prelude.{◌≡◌, ◌+◌, ◌^◌, ◌++◌, ◌<◌, ◌≤◌, OnOk, IfOk, IfSome, IsTrue, length, vec_len, vec_capacity};
-ghost use Rattle.core.specs.List.{insert};
+ghost use Rattle.std.specs.List.{insert};
 ghost use Rattle.std.specs.Str.{chars};
 ghost use Rattle.hp_print.specs.Order.{by_units, comes_before, in_order, placed, printed_name, space_word, weight, InOrder};
 ghost use Rattle.hp_print.specs.Out.{Prints};

@@ -246,7 +246,7 @@ pub fn print_item<'t, K: Sink>(
     view: NodeView<'t, '_>,
     depth: u64,
 )
-    requires room { attributes_in view.entry ≤ vec_capacity list.old }
+    requires room { attributes_in view ≤ vec_capacity list.old }
     requires depth { depth < 2 ^ 62 }
     ensures printed { (t : Tree) → HasTag t view.entry → Prints out.old out.new (K.taken sink.old, K.faults sink.old) (K.taken sink.new, K.faults sink.new) (lines_of t depth (shown view.entry)) }
     ensures room { vec_capacity list.old ≤ vec_capacity list.new }

@@ -36,6 +36,7 @@ impl Out {
     }
 
     /// Prints these bytes.
+    #[tactic(auto, using(crate::proofs::Pieces::gathers, crate::proofs::Pieces::failed))]
     #[inline]
     pub fn put<K: Sink>(&mut self, sink: &mut K, piece: &[u8])
         ensures { Prints self.old self.new (K.taken sink.old, K.faults sink.old) (K.taken sink.new, K.faults sink.new) piece.now }

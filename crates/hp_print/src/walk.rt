@@ -67,7 +67,7 @@ pub fn write_tree<K: Sink>(alloc: Global, tree: &Tree<'_>, sink: &mut K) -> Resu
     let Ok(mut stack) = marks(alloc, tree) else {
         return Err(Refusal::NoMemory);
     };
-    let Ok(mut list) = Vec::with_capacity(alloc, tree.most_attributes()) else {
+    let Ok(mut list) = attribute_list(alloc, tree) else {
         return Err(Refusal::NoMemory);
     };
     let Ok(mut out) = Out::new(alloc) else {
@@ -88,6 +88,14 @@ fn marks(alloc: Global, tree: &Tree<'_>) -> Result<Vec<Mark>, NoMemory>
 {
     let stack = Vec::with_capacity(alloc, tree.len() as usize)?;
     Ok(stack)
+}
+
+/// Memory for the attributes of any element of the tree.
+fn attribute_list<'t>(alloc: Global, tree: &'t Tree<'_>) -> Result<Vec<Shown<'t>>, NoMemory>
+    ensures { IfOk result (λ list. HasRoom tree.now.branches (vec_capacity list)) }
+{
+    let list = Vec::with_capacity(alloc, tree.most_attributes())?;
+    Ok(list)
 }
 
 /// Prints all items of the tree.
