@@ -4,6 +4,7 @@ pub mod Fronts
 pub mod Lists
 pub mod Ordered
 pub mod Pieces
+pub mod Placing
 pub mod Sorting
 pub mod Stable
 pub mod Steps

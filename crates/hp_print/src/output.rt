@@ -71,8 +71,11 @@ impl Out {
             Out::Gathered(bytes) => {
                 if piece.len() <= bytes.capacity() - bytes.len() {
                     append(bytes, piece);
-                } else if write_whole(sink, piece).is_err() {
-                    *self = Out::Failed;
+                } else {
+                    match write_whole(sink, piece) {
+                        Ok(()) => {}
+                        Err(_) => *self = Out::Failed,
+                    }
                 }
             }
             Out::Failed => {}
@@ -96,11 +99,15 @@ impl Out {
     }
 
     /// Writes the rest. Whether all was written.
+    #[tactic(auto, using(crate::proofs::Pieces::finished_whole, crate::proofs::Pieces::finished_part))]
     pub fn finish<K: Sink>(&mut self, sink: &mut K) -> bool
         ensures { Finished self.old result (K.taken sink.old, K.faults sink.old) (K.taken sink.new, K.faults sink.new) }
     {
         self.flush(sink);
-        matches!(self, Out::Gathered(_))
+        match self {
+            Out::Gathered(_) => true,
+            Out::Failed => false,
+        }
     }
 
     /// Prints a text, in UTF-8.
