@@ -4,7 +4,7 @@ pub mod Fronts
 pub mod Lists
 pub mod Ordered
 pub mod Pieces
-pub mod Sizes
+pub mod Placing
 pub mod Sorting
 pub mod Stable
 pub mod Steps

@@ -13,27 +13,16 @@ use Rattle.hp_elements.specs.declared.tag.Attribute.{Attribute}
 use Rattle.hp_elements.specs.declared.tag.AttributeSpace.{AttributeSpace}
 use Rattle.hp_elements.specs.declared.tag.AttributeSpace.TheVariants.{Plain, Xlink, Xml, Xmlns}
 use Rattle.hp_print.specs.declared.attributes.Shown.{Shown}
-use Rattle.hp_print.specs.declared.output.Out.{Out}
 use Rattle.hp_print.specs.Order.{comes_before, in_order, space_word}
-use Rattle.hp_print.specs.Out.{Prints, is_counting}
 use Rattle.hp_print.specs.Print.{attribute_line, attribute_lines}
 use Rattle.hp_print.specs.Shown.{attribute_of, attributes_of}
-use Rattle.hp_print.proofs.Pieces.{recounted}
-use Rattle.hp_print.proofs.Stable.{length-flat_map_fold, placed_none}
-
--- the order of attributes makes the text neither longer nor shorter
-pub length-in_order : (depth : ℕ) (attributes : List Attribute) → length (attribute_lines depth (in_order attributes)) ≡ length (attribute_lines depth attributes)
-length-in_order depth attributes = omega (arith, length-flat_map_fold (attribute_line depth) comes_before attributes [])
+use Rattle.hp_print.proofs.Stable.{placed_none}
 
 -- fewer than two are in order
 pub few_in_order : (attributes : List Attribute) → length attributes < 2 → attributes ≡ in_order attributes
 few_in_order [] h = refl
 few_in_order (a ∷ []) h = sym (placed_none comes_before a)
 few_in_order (a ∷ b ∷ rest) h = absurd (omega arith)
-
--- where nothing but the length counts, they may stand as they are
-pub counted_in_order : (old new : Out) (depth : ℕ) (attributes : List Attribute) → is_counting old ≡ true → Prints old new (attribute_lines depth attributes) → Prints old new (attribute_lines depth (in_order attributes))
-counted_in_order old new depth attributes counts prints = recounted old new _ _ counts prints (sym (length-in_order depth attributes))
 
 -- one attribute more
 pub lines_next : (depth : ℕ) (done : List ℕ) (xs : List Shown) (i : ℕ) (x : Shown) → i < length xs → get_or xs i x ≡ x

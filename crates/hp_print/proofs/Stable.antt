@@ -23,11 +23,11 @@ pub placed_none : {X : Type 0} (lt : X → X → Bool) (a : X) → placed lt [] 
 unfolding placed
 placed_none lt a = refl
 
-placed_here : {X : Type 0} (lt : X → X → Bool) (a b : X) (bs : List X) → lt a b ≡ true → placed lt (b ∷ bs) a ≡ a ∷ b ∷ bs
+pub placed_here : {X : Type 0} (lt : X → X → Bool) (a b : X) (bs : List X) → lt a b ≡ true → placed lt (b ∷ bs) a ≡ a ∷ b ∷ bs
 unfolding placed
 placed_here lt a b bs e = rw (e, placed) refl
 
-placed_later : {X : Type 0} (lt : X → X → Bool) (a b : X) (bs : List X) → lt a b ≡ false → placed lt (b ∷ bs) a ≡ b ∷ placed lt bs a
+pub placed_later : {X : Type 0} (lt : X → X → Bool) (a b : X) (bs : List X) → lt a b ≡ false → placed lt (b ∷ bs) a ≡ b ∷ placed lt bs a
 unfolding placed
 placed_later lt a b bs e = rw (e, placed) refl
 

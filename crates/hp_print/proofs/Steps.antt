@@ -1,5 +1,5 @@
 -- The steps of the walk.
-use Rattle.std.proofs.Common.{◌≡◌, ℕ, zero, suc, ◌+◌, ◌-◌, ◌<◌, ◌≤◌, List, [], ◌∷◌, ◌++◌, length, drop, get_or, arith, refl, sym, ap, ◌∙◌, Some, slice_get, append_assoc, append-nil, add-one}
+use Rattle.std.proofs.Common.{◌≡◌, ℕ, zero, suc, ◌+◌, ◌-◌, ◌<◌, ◌≤◌, List, [], ◌∷◌, ◌++◌, length, drop, get_or, arith, refl, sym, ap, subst, ◌∙◌, Some, slice_get, append_assoc, append-nil, add-one}
 use Rattle.std.proofs.lemmas.Option.{slice_get-get_or, slice_get_within}
 use Rattle.std.proofs.Math.Seq.{drop-cons}
 use Rattle.std.specs.Prelude.{Option, None, true, false, if◌then◌else◌}
@@ -9,17 +9,16 @@ use Rattle.hp_control.specs.Tree.{Tree, Item, branch, HasChild, IsForest}
 use Rattle.hp_control.specs.Tree as item
 use Rattle.std.specs.Option.{option_copied}
 use Rattle.std.proofs.lemmas.Bool.{true≢false}
-use Rattle.hp_arena.specs.Readers.{shown, text_of, is_item, is_template, IsAt, IsIn, IsShown, parent_of, place_of, siblings}
+use Rattle.hp_arena.specs.Readers.{shown, text_of, is_item, is_template, HasTag, IsAt, IsIn, IsShown, parent_of, place_of, siblings}
+use Rattle.hp_arena.specs.Shape.{attribute_count}
 use Rattle.hp_arena.specs.declared.readers.At.{At}
 use Rattle.hp_arena.specs.declared.readers.At.TheVariants as at
 use Rattle.hp_arena.specs.declared.readers.NodeView.{NodeView}
 use Rattle.hp_arena.specs.declared.readers.NodeView.TheVariants as node
 use Rattle.hp_arena.specs.Arena.{Seen}
-use Rattle.hp_print.specs.declared.output.Out.{Out}
 use Rattle.hp_print.specs.declared.walk.Mark.{Mark}
-use Rattle.hp_print.specs.Out.{Prints}
-use Rattle.hp_print.specs.Print.{lines, inside, own_lines, extra, tag_extra, print}
-use Rattle.hp_print.specs.Stack.{lines_at, steps_at, rest, mark_lines, mark_steps, pending, work, todo, IsDeep, IsMark, AreMarks, Pushed, Stepped}
+use Rattle.hp_print.specs.Print.{lines, lines_of, inside, own_lines, extra, tag_extra, print}
+use Rattle.hp_print.specs.Stack.{lines_at, steps_at, rest, mark_lines, mark_steps, pending, work, todo, attributes_in, HasRoom, IsDeep, IsMark, AreMarks, Pushed, Stepped}
 use Rattle.hp_print.proofs.Depths.{deep-room}
 
 lines-none : (t : Tree) (left depth : ℕ) → lines t left depth [] ≡ []
@@ -54,26 +53,31 @@ unfolding todo
 todo-push t [] m = refl
 todo-push t (n ∷ ms) m = omega (arith, todo-push t ms m)
 
-pub marks-push : (t : Seen) (ms : List Mark) (m : Mark) → AreMarks t ms → IsMark t m → AreMarks t (ms ++ m ∷ [])
-marks-push t [] m all is = (is, tt)
-marks-push t (n ∷ ms) m all is = (all.0, marks-push t ms m all.1 is)
+pub marks-push : (t : Seen) (place : ℕ) (ms : List Mark) (m : Mark) → AreMarks t place ms → IsMark t m → place + length ms ≤ m.level → AreMarks t place (ms ++ m ∷ [])
+marks-push t place [] m all is high = (is, omega arith, tt)
+marks-push t place (n ∷ ms) m all is high = let next : place + 1 + length ms ≤ m.level = omega arith in (all.0, all.1, marks-push t (place + 1) ms m all.2 is next)
 
-pub marks-pop : (t : Seen) (ms : List Mark) (m : Mark) → AreMarks t (ms ++ m ∷ []) → AreMarks t ms
-marks-pop t [] m all = tt
-marks-pop t (n ∷ ms) m all = (all.0, marks-pop t ms m all.1)
+pub marks-pop : (t : Seen) (place : ℕ) (ms : List Mark) (m : Mark) → AreMarks t place (ms ++ m ∷ []) → AreMarks t place ms
+marks-pop t place [] m all = tt
+marks-pop t place (n ∷ ms) m all = (all.0, all.1, marks-pop t (place + 1) ms m all.2)
 
-pub marks-last : (t : Seen) (ms : List Mark) (m : Mark) → AreMarks t (ms ++ m ∷ []) → IsMark t m
-marks-last t [] m all = all.0
-marks-last t (n ∷ ms) m all = marks-last t ms m all.1
+pub marks-last : (t : Seen) (place : ℕ) (ms : List Mark) (m : Mark) → AreMarks t place (ms ++ m ∷ []) → IsMark t m
+marks-last t place [] m all = all.0
+marks-last t place (n ∷ ms) m all = marks-last t (place + 1) ms m all.2
+
+pub marks-high : (t : Seen) (place : ℕ) (ms : List Mark) (m : Mark) → AreMarks t place (ms ++ m ∷ []) → place + length ms ≤ m.level
+marks-high t place [] m all = let high : place ≤ m.level = all.1 in omega arith
+marks-high t place (n ∷ ms) m all = let high : place + 1 + length ms ≤ m.level = marks-high t (place + 1) ms m all.2 in omega arith
 
 -- a mark is pushed
-pub pushed_some : (t : Seen) (ms : List Mark) (m : Mark) (level templates : ℕ) (items : List Item) → IsMark t m → m.level ≡ level → m.templates ≡ templates → rest t.branches m ≡ items
+pub pushed_some : (t : Seen) (ms : List Mark) (m : Mark) (level templates : ℕ) (items : List Item) → IsMark t m → length ms ≤ m.level → m.level ≡ level → m.templates ≡ templates → rest t.branches m ≡ items
     → Pushed t ms (ms ++ m ∷ []) (lines_at t.branches level templates items) (steps_at t.branches level items)
-pushed_some t ms m level templates items is at_level of_templates left =
+pushed_some t ms m level templates items is high at_level of_templates left =
+    let first : 0 + length ms ≤ m.level = omega arith in
     rw (← at_level, ← of_templates, ← left) (record {
       text_is = pending-push t.branches ms m;
       steps_are = omega (arith, todo-push t.branches ms m);
-      marks = λ all. marks-push t ms m all is;
+      marks = λ all. marks-push t 0 ms m all is first;
     })
 
 -- where nothing is left, nothing is pushed
@@ -119,27 +123,39 @@ leaf-text own inner next old new none is = rw (none, is, append-nil, append_asso
 element-text : (own inner next old mid new : List ℕ) → mid ≡ next ++ old → new ≡ inner ++ mid → (own ++ inner ++ next) ++ old ≡ own ++ new
 element-text own inner next old mid new is more = rw (more, is) (simp append_assoc)
 
--- an item was printed that has nothing inside
-pub stepped_leaf : (t : Seen) (m : Mark) (x : Item) (old new : List Mark) (before after : Out) → IsForest t.branches → IsMark t m → IsItemAt t.branches m x → inside t.branches x ≡ []
-    → NextPushed t m old new → Prints before after (own_lines t.branches (m.level + m.templates) x) → Stepped t m old new before after
-stepped_leaf t m x old new before after f is item leaf pushed printed =
+-- what is shown at a mark, and the element that it may be is there
+abbrev pub IsShownAt : Tree → Mark → NodeView → Type 0
+IsShownAt t m view = slice_get (branch t (parent_of m.at)).inside (place_of m.at) ≡ shown view
+
+element_there : (t : Tree) (m : Mark) (view : NodeView) → IsForest t → IsShownAt t m view → (id : ℕ) → shown view ≡ Some (item.Element id) → id < length t
+element_there t m view f shows id is = f.there (parent_of m.at) (place_of m.at) id (shows ∙ is)
+
+shown_lines : (t : Tree) (depth : ℕ) (view : NodeView) (x : Item) (more : List ℕ) → shown view ≡ Some x → own_lines t depth x ++ more ≡ lines_of t depth (shown view) ++ more
+shown_lines t depth view x more is = ap (λ o. lines_of t depth o ++ more) (sym is)
+
+-- a step over an item that has nothing inside
+pub stepped_leaf : (t : Seen) (m : Mark) (view : NodeView) (x : Item) (old new : List Mark) → IsForest t.branches → IsMark t m → IsShownAt t.branches m view → shown view ≡ Some x → HasTag t.branches view → inside t.branches x ≡ []
+    → NextPushed t m old new → Stepped t m view old new
+stepped_leaf t m view x old new f is shows one tag leaf pushed =
     let b = t.branches in
+    let item : IsItemAt b m x = shows ∙ one in
     let room : m.level < length b = deep-room b f m.level (parent_of m.at) is.deep in
     let none : lines b (length b - m.level - 1) (m.level + m.templates + 1 + extra b x) (inside b x) ≡ [] = ap (lines b (length b - m.level - 1) (m.level + m.templates + 1 + extra b x)) leaf ∙ lines-none b (length b - m.level - 1) (m.level + m.templates + 1 + extra b x) in
     record {
-      piece = own_lines b (m.level + m.templates) x;
-      printed = printed;
-      text_is = rw (mark-text b m x room item) (leaf-text _ _ _ _ _ none pushed.text_is);
+      text_is = rw (mark-text b m x room item) (leaf-text _ _ _ _ _ none pushed.text_is) ∙ shown_lines b (m.level + m.templates) view x (pending b new) one;
       steps_are = omega (arith, mark-work b m x room item, pushed.steps_are);
       marks = pushed.marks;
+      tag = tag;
+      there = element_there b m view f shows;
     }
 
--- an item was printed, and what stands inside it is marked
-pub stepped_element : (t : Seen) (m : Mark) (x : Item) (templates : ℕ) (old mid new : List Mark) (before after : Out) → IsForest t.branches → IsMark t m → IsItemAt t.branches m x → templates ≡ m.templates + extra t.branches x
-    → NextPushed t m old mid → Prints before after (own_lines t.branches (m.level + m.templates) x)
-    → Pushed t mid new (lines_at t.branches (m.level + 1) templates (inside t.branches x)) (steps_at t.branches (m.level + 1) (inside t.branches x)) → Stepped t m old new before after
-stepped_element t m x templates old mid new before after f is item more pushed printed below =
+-- a step over an item, and what stands inside it is marked
+pub stepped_element : (t : Seen) (m : Mark) (view : NodeView) (x : Item) (templates : ℕ) (old mid new : List Mark) → IsForest t.branches → IsMark t m → IsShownAt t.branches m view → shown view ≡ Some x → HasTag t.branches view
+    → templates ≡ m.templates + extra t.branches x → NextPushed t m old mid
+    → Pushed t mid new (lines_at t.branches (m.level + 1) templates (inside t.branches x)) (steps_at t.branches (m.level + 1) (inside t.branches x)) → Stepped t m view old new
+stepped_element t m view x templates old mid new f is shows one tag more pushed below =
     let b = t.branches in
+    let item : IsItemAt b m x = shows ∙ one in
     let room : m.level < length b = deep-room b f m.level (parent_of m.at) is.deep in
     let left : length b - (m.level + 1) ≡ length b - m.level - 1 = omega arith in
     let depth : m.level + 1 + templates ≡ m.level + m.templates + 1 + extra b x = omega arith in
@@ -147,11 +163,11 @@ stepped_element t m x templates old mid new before after f is item more pushed p
     ap (λ l. lines b l (m.level + 1 + templates) (inside b x)) left ∙ ap (λ d. lines b (length b - m.level - 1) d (inside b x)) depth in
     let effort : work b (length b - (m.level + 1)) (inside b x) ≡ work b (length b - m.level - 1) (inside b x) = ap (λ l. work b l (inside b x)) left in
     record {
-      piece = own_lines b (m.level + m.templates) x;
-      printed = printed;
-      text_is = rw (mark-text b m x room item, ← inner) (element-text _ _ _ _ _ _ pushed.text_is below.text_is);
+      text_is = rw (mark-text b m x room item, ← inner) (element-text _ _ _ _ _ _ pushed.text_is below.text_is) ∙ shown_lines b (m.level + m.templates) view x (pending b new) one;
       steps_are = omega (arith, mark-work b m x room item, pushed.steps_are, below.steps_are, effort);
       marks = λ all. below.marks (pushed.marks all);
+      tag = tag;
+      there = element_there b m view f shows;
     }
 
 -- an item is one element below its list
@@ -215,3 +231,12 @@ leaf_inside t (node.Comment text) x is not_element = let same : item.Comment tex
 -- the whole text is that of what stands inside the document
 pub whole_text : (t : Tree) → lines_at t 0 0 (branch t 0).inside ≡ print t
 whole_text t = let n : length t - 0 ≡ length t = omega arith in ap (λ l. lines t l 0 (branch t 0).inside) n
+
+-- there is room for the attributes of what is shown at a mark
+pub shown_room : (t : Tree) (view : NodeView) (most : ℕ) → HasRoom t most → HasTag t view → ((id : ℕ) → shown view ≡ Some (item.Element id) → id < length t) → attributes_in view ≤ most
+shown_room t node.Document most room tag there = omega arith
+shown_room t node.Contents most room tag there = omega arith
+shown_room t (node.Doctype name public system) most room tag there = omega arith
+shown_room t (node.Element id tag) most room is there = subst (λ o. attribute_count o ≤ most) is (room id (there id refl))
+shown_room t (node.Text runs) most room tag there = omega arith
+shown_room t (node.Comment text) most room tag there = omega arith

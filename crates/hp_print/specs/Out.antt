@@ -1,18 +1,52 @@
--- What was printed so far.
-use Rattle.std.specs.Prelude.{◌≡◌, ℕ, Bool, true, false, List, ◌++◌, length}
+-- What was printed so far: what the sink took of it, and what is gathered.
+use Rattle.std.specs.Prelude.{◌≡◌, ℕ, ◌<◌, Bool, true, false, Option, List, [], ◌++◌, length, take}
+use Rattle.std.specs.Io.KnownBytes.{append_known}
+use Rattle.hp_text.specs.Device.{Rose}
 use Rattle.hp_print.specs.declared.output.Out.{Out}
-use Rattle.hp_print.specs.declared.output.Out.TheVariants.{Counting, Writing}
+use Rattle.hp_print.specs.declared.output.Out.TheVariants.{Gathered, Failed}
 
--- what was printed are these bytes: they are counted, or written
-abbrev pub Has : Out → List ℕ → Type 0
-Has (Counting count) bytes = count ≡ length bytes
-Has (Writing written) bytes = written.items ≡ bytes
+-- what a sink shows: the bytes that it took, where it tells them, and its count of faults
+abbrev pub Sight : Type 0
+Sight = Option (List ℕ) × ℕ
 
-abbrev pub is_counting : Out → Bool
-is_counting (Counting count) = true
-is_counting (Writing written) = false
+-- the first bytes of a text were taken, and not all of them
+abbrev pub TakesPart : List ℕ → Option (List ℕ) → Option (List ℕ) → Type 0
+TakesPart text old new = (n : ℕ) × (n < length text) × (new ≡ append_known old (take n text))
 
--- these bytes were printed after the others; what is counted goes on being counted
-pub record Prints (old new : Out) (piece : List ℕ) : Type 0 where
-  pub after : (bytes : List ℕ) → Has old bytes → Has new (bytes ++ piece)
-  pub kind : is_counting old ≡ true → is_counting new ≡ true
+-- all was taken but what is gathered
+pub record Waits (start now : Sight) (gathered bytes : List ℕ) : Type 0 where
+  pub gone : List ℕ
+  pub taken : now.0 ≡ append_known start.0 gone
+  pub whole : gone ++ gathered ≡ bytes
+  pub faults : now.1 ≡ start.1
+
+-- a write failed before all was taken
+pub record Broke (start now : Sight) (bytes : List ℕ) : Type 0 where
+  pub part : TakesPart bytes start.0 now.0
+  pub rose : Rose start.1 now.1
+
+-- these bytes were printed since the start
+abbrev pub Has : Sight → Sight → Out → List ℕ → Type 0
+Has start now (Gathered gathered) bytes = Waits start now gathered.items bytes
+Has start now Failed bytes = Broke start now bytes
+
+-- these bytes were printed after the others
+pub record Prints (old new : Out) (earlier later : Sight) (piece : List ℕ) : Type 0 where
+  pub after : (start : Sight) (bytes : List ℕ) → Has start earlier old bytes → Has start later new (bytes ++ piece)
+
+-- nothing was printed
+abbrev pub Starts : Out → Type 0
+Starts out = (start : Sight) → Has start start out []
+
+-- nothing is gathered
+abbrev pub IsEmpty : Out → Type 0
+IsEmpty (Gathered gathered) = gathered.items ≡ []
+IsEmpty Failed = Unit {0}
+
+-- all was written, or a part of it
+abbrev pub Outcome : Bool → Sight → Sight → List ℕ → Type 0
+Outcome true start now bytes = now.0 ≡ append_known start.0 bytes
+Outcome false start now bytes = Broke start now bytes
+
+pub record Finished (old : Out) (done : Bool) (earlier later : Sight) : Type 0 where
+  pub outcome : (start : Sight) (bytes : List ℕ) → Has start earlier old bytes → Outcome done start later bytes

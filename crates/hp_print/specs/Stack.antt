@@ -1,12 +1,14 @@
 -- What is still to be printed, by the marks on the stack.
-use Rattle.std.specs.Prelude.{◌≡◌, ℕ, zero, suc, ◌+◌, ◌-◌, ◌<◌, ◌≤◌, List, [], ◌∷◌, ◌++◌, length, drop}
+use Rattle.std.specs.Prelude.{◌≡◌, ℕ, zero, suc, ◌+◌, ◌-◌, ◌<◌, ◌≤◌, List, [], ◌∷◌, ◌++◌, length, drop, Some}
 use Rattle.hp_control.specs.Tree.{Tree, Item, branch, HasChild}
 use Rattle.hp_arena.specs.Arena.{Seen}
-use Rattle.hp_arena.specs.Readers.{IsIn, parent_of, place_of}
-use Rattle.hp_print.specs.declared.output.Out.{Out}
+use Rattle.hp_arena.specs.Readers.{IsIn, HasTag, parent_of, place_of, shown}
+use Rattle.hp_arena.specs.Shape.{attribute_count}
+use Rattle.hp_arena.specs.declared.readers.NodeView.{NodeView}
+use Rattle.hp_arena.specs.declared.readers.NodeView.TheVariants as node
+use Rattle.hp_control.specs.Tree as item
 use Rattle.hp_print.specs.declared.walk.Mark.{Mark}
-use Rattle.hp_print.specs.Out.{Prints}
-use Rattle.hp_print.specs.Print.{lines, inside}
+use Rattle.hp_print.specs.Print.{lines, lines_of, inside}
 
 -- the lines of these items at a depth, in a list this many elements below the document
 abbrev pub lines_at : Tree → ℕ → ℕ → List Item → List ℕ
@@ -51,20 +53,35 @@ pub record IsMark (t : Seen) (m : Mark) : Type 0 where
   pub deep : IsDeep t.branches m.level (parent_of m.at)
   pub templates : m.templates ≤ m.level
 
-abbrev pub AreMarks : Seen → List Mark → Type 0
-AreMarks t [] = Unit {0}
-AreMarks t (m ∷ above) = IsMark t m × AreMarks t above
+-- the marks from a place on are in the tree. None has fewer levels above it than marks below it
+abbrev pub AreMarks : Seen → ℕ → List Mark → Type 0
+AreMarks t place [] = Unit {0}
+AreMarks t place (m ∷ above) = IsMark t m × (place ≤ m.level) × AreMarks t (place + 1) above
 
 -- what is to come is this text and then what was to come before, in so many steps more at most
 pub record Pushed (t : Seen) (old new : List Mark) (text : List ℕ) (steps : ℕ) : Type 0 where
   pub text_is : pending t.branches new ≡ text ++ pending t.branches old
   pub steps_are : todo t.branches new ≤ todo t.branches old + steps
-  pub marks : AreMarks t old → AreMarks t new
+  pub marks : AreMarks t 0 old → AreMarks t 0 new
 
--- a piece was printed, and what is to come is the rest of what was to come at the mark and below it, in fewer steps
-pub record Stepped (t : Seen) (m : Mark) (old new : List Mark) (before after : Out) : Type 0 where
-  pub piece : List ℕ
-  pub printed : Prints before after piece
-  pub text_is : mark_lines t.branches m ++ pending t.branches old ≡ piece ++ pending t.branches new
+-- what stands at the mark is shown, and what is to come behind its lines is the rest of what was to come at the mark and below it,
+-- in fewer steps
+pub record Stepped (t : Seen) (m : Mark) (view : NodeView) (old new : List Mark) : Type 0 where
+  pub text_is : mark_lines t.branches m ++ pending t.branches old ≡ lines_of t.branches (m.level + m.templates) (shown view) ++ pending t.branches new
   pub steps_are : todo t.branches new < todo t.branches old + mark_steps t.branches m
-  pub marks : AreMarks t old → AreMarks t new
+  pub marks : AreMarks t 0 old → AreMarks t 0 new
+  pub tag : HasTag t.branches view
+  pub there : (id : ℕ) → shown view ≡ Some (item.Element id) → id < length t.branches
+
+-- how many attributes what a view shows has
+abbrev pub attributes_in : NodeView → ℕ
+attributes_in node.Document = 0
+attributes_in node.Contents = 0
+attributes_in (node.Doctype name public system) = 0
+attributes_in (node.Element id tag) = length tag.now.attributes
+attributes_in (node.Text runs) = 0
+attributes_in (node.Comment text) = 0
+
+-- no element has more attributes than this
+abbrev pub HasRoom : Tree → ℕ → Type 0
+HasRoom t most = (id : ℕ) → id < length t → attribute_count (branch t id).tag ≤ most

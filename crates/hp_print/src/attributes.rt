@@ -1,14 +1,16 @@
 //! The attributes of an element, in the order in which they are printed.
 
-ghost use Rattle.std.specs.Prelude.{◌≡◌, ◌++◌, ◌<◌, OnOk, IfOk, IfSome, IsTrue, length};
+ghost use Rattle.std.specs.Prelude.{◌≡◌, ◌+◌, ◌^◌, ◌++◌, ◌<◌, ◌≤◌, OnOk, IfOk, IfSome, IsTrue, length, vec_len, vec_capacity};
+ghost use Rattle.std.specs.List.{insert};
 ghost use Rattle.std.specs.Str.{chars};
-ghost use Rattle.hp_print.specs.Order.{by_units, in_order, printed_name, space_word, weight, InOrder};
+ghost use Rattle.hp_print.specs.Order.{by_units, comes_before, in_order, placed, printed_name, space_word, weight, InOrder};
 ghost use Rattle.hp_print.specs.Out.{Prints};
 ghost use Rattle.hp_print.specs.Print.{attribute_line, attribute_lines};
 ghost use Rattle.hp_print.specs.Shown.{attribute_of, attributes_of, follows};
 
-use crate::output::{Out, line_front};
+use crate::output::Out;
 use hp_elements::{Attribute, AttributeSpace, Chain, NoMemory};
+use hp_text::Sink;
 use std::alloc::Global;
 use std::cmp::Ordering;
 
@@ -45,89 +47,18 @@ fn space_text(space: AttributeSpace) -> &'static str
     }
 }
 
-/// Prints what stands before the local name of an attribute.
-#[inline]
-fn print_space(out: &mut Out, space: AttributeSpace) -> Result<(), NoMemory>
-    ensures { OnOk result (Prints out.old out.new (space_word space)) }
-{
-    match space {
-        AttributeSpace::Plain => Ok(()),
-        AttributeSpace::Xlink => out.put(b"xlink "),
-        AttributeSpace::Xml => out.put(b"xml "),
-        AttributeSpace::Xmlns => out.put(b"xmlns "),
-    }
-}
-
-/// Prints an attribute at any depth.
-#[inline(never)]
-fn print_deep(out: &mut Out, attribute: Shown<'_>, depth: u64) -> Result<(), NoMemory>
-    ensures { OnOk result (Prints out.old out.new (attribute_line depth (attribute_of attribute.entry))) }
-{
-    out.indent(depth)?;
-    print_space(out, attribute.space)?;
-    out.put_text(attribute.name)?;
-    out.put(b"=\"")?;
-    out.put_text(attribute.value)?;
-    out.put(b"\"\n")?;
-    Ok(())
-}
-
-/// How many bytes the line of an attribute of a low depth takes.
-fn line_size(attribute: Shown<'_>, depth: u64) -> Option<u64>
-    requires { depth < 64 }
-    ensures { IfSome result (λ size. size ≡ length (attribute_line depth (attribute_of attribute.entry))) }
-{
-    let word = space_text(attribute.space).len() as u64;
-    let name = word.checked_add(attribute.name.as_bytes().len() as u64)?;
-    let texts = name.checked_add(attribute.value.as_bytes().len() as u64)?;
-    let size = texts.checked_add(2 * depth + 6)?;
-    Some(size)
-}
-
-/// Writes what stands before the local name of an attribute.
-fn write_space(bytes: &mut Vec<u8>, space: AttributeSpace) -> Result<(), NoMemory>
-    ensures { OnOk result (bytes.new.items ≡ bytes.old.items ++ space_word space) }
-{
-    match space {
-        AttributeSpace::Plain => Ok(()),
-        _ => bytes.extend_from_slice(space_text(space).as_bytes()),
-    }
-}
-
-/// Writes an attribute of a low depth.
-fn write_attribute(bytes: &mut Vec<u8>, attribute: Shown<'_>, depth: u64) -> Result<(), NoMemory>
-    requires { depth < 64 }
-    ensures { OnOk result (bytes.new.items ≡ bytes.old.items ++ attribute_line depth (attribute_of attribute.entry)) }
-{
-    bytes.extend_from_slice(line_front(depth))?;
-    write_space(bytes, attribute.space)?;
-    bytes.extend_from_slice(attribute.name.as_bytes())?;
-    bytes.extend_from_slice(b"=\"")?;
-    bytes.extend_from_slice(attribute.value.as_bytes())?;
-    bytes.extend_from_slice(b"\"\n")?;
-    Ok(())
-}
-
 /// Prints an attribute.
-fn print_attribute(out: &mut Out, attribute: Shown<'_>, depth: u64) -> Result<(), NoMemory>
-    ensures { OnOk result (Prints out.old out.new (attribute_line depth (attribute_of attribute.entry))) }
+#[tactic(auto, using(crate::proofs::Pieces::prints_then))]
+fn print_attribute<K: Sink>(out: &mut Out, sink: &mut K, attribute: Shown<'_>, depth: u64)
+    requires { depth < 2 ^ 63 }
+    ensures { Prints out.old out.new (K.taken sink.old, K.faults sink.old) (K.taken sink.new, K.faults sink.new) (attribute_line depth (attribute_of attribute.entry)) }
 {
-    if depth >= 64 {
-        return print_deep(out, attribute, depth);
-    }
-    let size = line_size(attribute, depth).ok_or(NoMemory)?;
-    match out {
-        Out::Counting(count) => {
-            *count = count.checked_add(size).ok_or(NoMemory)?;
-            Ok(())
-        }
-        Out::Writing(bytes) => {
-            if ((bytes.capacity() - bytes.len()) as u64) < size {
-                return print_deep(out, attribute, depth);
-            }
-            write_attribute(bytes, attribute, depth)
-        }
-    }
+    out.indent(sink, depth);
+    out.put(sink, space_text(attribute.space).as_bytes());
+    out.put_text(sink, attribute.name);
+    out.put(sink, b"=\"");
+    out.put_text(sink, attribute.value);
+    out.put(sink, b"\"\n");
 }
 
 /// A number by which code points are ordered as their UTF-16 code units are.
@@ -242,13 +173,13 @@ fn is_in_order(attributes: &Chain<Attribute>) -> bool
 }
 
 /// Prints the attributes of an element as they stand.
-fn print_unsorted(out: &mut Out, attributes: &Chain<Attribute>, depth: u64) -> Result<(), NoMemory>
-    ensures { OnOk result (Prints out.old out.new (attribute_lines depth attributes.now)) }
+fn print_unsorted<K: Sink>(out: &mut Out, sink: &mut K, attributes: &Chain<Attribute>, depth: u64)
+    requires { depth < 2 ^ 63 }
+    ensures { Prints out.old out.new (K.taken sink.old, K.faults sink.old) (K.taken sink.new, K.faults sink.new) (attribute_lines depth attributes.now) }
 {
     for attribute in attributes.iter() {
-        print_attribute(out, Shown::of(attribute), depth)?;
+        print_attribute(out, sink, Shown::of(attribute), depth);
     }
-    Ok(())
 }
 
 /// Attributes in the order in which they are printed are in order by the UTF-16 code units of their printed names.
@@ -257,30 +188,93 @@ pub fn attributes_are_in_order()
 {}
 
 /// Prints attributes as they stand.
-fn print_all(out: &mut Out, attributes: &[Shown<'_>], depth: u64) -> Result<(), NoMemory>
-    ensures { OnOk result (Prints out.old out.new (attribute_lines depth (attributes_of attributes.now))) }
+fn print_all<K: Sink>(out: &mut Out, sink: &mut K, attributes: &[Shown<'_>], depth: u64)
+    requires { depth < 2 ^ 63 }
+    ensures { Prints out.old out.new (K.taken sink.old, K.faults sink.old) (K.taken sink.new, K.faults sink.new) (attribute_lines depth (attributes_of attributes.now)) }
 {
     for index in 0..attributes.len() {
-        print_attribute(out, attributes[index], depth)?;
+        print_attribute(out, sink, attributes[index], depth);
     }
-    Ok(())
 }
 
-/// Prints the attributes of an element in their order. Where they are counted, and where they stand in order already,
-/// nothing is sorted.
-pub fn print_attributes(
-    alloc: Global,
-    out: &mut Out,
-    attributes: &Chain<Attribute>,
-    depth: u64,
-) -> Result<(), NoMemory>
-    ensures { OnOk result (Prints out.old out.new (attribute_lines depth (in_order attributes.now))) }
+/// Where an attribute goes among others that stand in order: before the first that it comes before.
+fn place_of(sorted: &[Shown<'_>], shown: Shown<'_>) -> usize
+    ensures within { result ≤ length sorted.now }
+    ensures place { placed comes_before (attributes_of sorted.now) (attribute_of shown.entry) ≡ attributes_of (insert sorted.now result shown.entry) }
 {
-    if attributes.len() < 2 || out.is_counting() || is_in_order(attributes) {
-        return print_unsorted(out, attributes, depth);
+    let mut at = 0;
+    while at < sorted.len() && follows(Some(sorted[at]), shown) {
+        at += 1;
     }
+    at
+}
+
+/// Puts an attribute among others that stand in order. There is room for it.
+fn place<'t>(sorted: &mut Vec<Shown<'t>>, shown: Shown<'t>)
+    requires { vec_len sorted.old < vec_capacity sorted.old }
+    ensures items { attributes_of sorted.new.items ≡ placed comes_before (attributes_of sorted.old.items) (attribute_of shown.entry) }
+    ensures len { vec_len sorted.new ≡ vec_len sorted.old + 1 }
+    ensures capacity { vec_capacity sorted.old ≤ vec_capacity sorted.new }
+{
+    let at = place_of(sorted.as_slice(), shown);
+    match sorted.insert(at, shown) {
+        Ok(()) => {}
+        Err(_) => unreachable!(),
+    }
+}
+
+/// Puts attributes into order, one after the other. There is room for them.
+#[inline(never)]
+fn place_all<'t>(sorted: &mut Vec<Shown<'t>>, attributes: &'t Chain<Attribute>)
+    requires { length attributes.now ≤ vec_capacity sorted.old }
+    ensures items { attributes_of sorted.new.items ≡ in_order attributes.now }
+    ensures capacity { vec_capacity sorted.old ≤ vec_capacity sorted.new }
+{
+    sorted.clear();
+    for attribute in attributes.iter() {
+        place(sorted, Shown::of(attribute));
+    }
+}
+
+/// Attributes in the order in which they are printed, by a sort.
+#[inline(never)]
+fn sorted<'t>(alloc: Global, attributes: &'t Chain<Attribute>) -> Result<Vec<Shown<'t>>, NoMemory>
+    ensures { IfOk result (λ sorted. attributes_of sorted.items ≡ in_order attributes.now) }
+{
     let mut sorted = texts_of(alloc, attributes)?;
     sort(&mut sorted)?;
-    print_all(out, sorted.as_slice(), depth)?;
-    Ok(())
+    Ok(sorted)
+}
+
+/// More attributes than these are sorted where there is memory for it: putting them into order one by one takes time by the square
+/// of their number.
+const FEW: usize = 20;
+
+/// Prints the attributes of an element in their order. Where they stand in order already, nothing is sorted. The list has
+/// room for them.
+pub fn print_attributes<'t, K: Sink>(
+    alloc: Global,
+    out: &mut Out,
+    sink: &mut K,
+    list: &mut Vec<Shown<'t>>,
+    attributes: &'t Chain<Attribute>,
+    depth: u64,
+)
+    requires room { length attributes.now ≤ vec_capacity list.old }
+    requires depth { depth < 2 ^ 63 }
+    ensures printed { Prints out.old out.new (K.taken sink.old, K.faults sink.old) (K.taken sink.new, K.faults sink.new) (attribute_lines depth (in_order attributes.now)) }
+    ensures room { vec_capacity list.old ≤ vec_capacity list.new }
+{
+    if attributes.len() < 2 || is_in_order(attributes) {
+        print_unsorted(out, sink, attributes, depth);
+        return;
+    }
+    if attributes.len() > FEW {
+        if let Ok(sorted) = sorted(alloc, attributes) {
+            print_all(out, sink, sorted.as_slice(), depth);
+            return;
+        }
+    }
+    place_all(list, attributes);
+    print_all(out, sink, list.as_slice(), depth);
 }

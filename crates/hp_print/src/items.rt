@@ -1,17 +1,19 @@
 //! The lines of one item.
 
-ghost use Rattle.std.specs.Prelude.{◌≡◌, ◌++◌, [], codes, OnOk, IfSome, unwrap_or, encode_utf8_all};
+ghost use Rattle.std.specs.Prelude.{◌≡◌, ◌^◌, ◌<◌, ◌≤◌, ◌++◌, [], codes, length, IfSome, unwrap_or, encode_utf8_all, vec_capacity};
 ghost use Rattle.std.specs.Option.{option_copied};
 ghost use Rattle.std.specs.List.{concat};
 ghost use Rattle.hp_control.specs.Tree.{Tree};
 ghost use Rattle.hp_arena.specs.Readers.{shown, text_of, HasTag};
 ghost use Rattle.hp_print.specs.Out.{Prints};
+ghost use Rattle.hp_print.specs.Stack.{attributes_in};
 ghost use Rattle.hp_print.specs.Print.{opening, indentation, namespace_word, contents_line, element_lines, text_line, comment_line, identifiers, doctype_line, lines_of, tag_extra};
 
-use crate::attributes::print_attributes;
+use crate::attributes::{Shown, print_attributes};
 use crate::output::Out;
 use hp_arena::{NodeView, Runs, is_template};
-use hp_elements::{Chain, Namespace, NoMemory, Tag, Text};
+use hp_elements::{Chain, Namespace, Tag, Text};
+use hp_text::Sink;
 use std::alloc::Global;
 
 /// What stands before the name of an element.
@@ -52,26 +54,27 @@ fn open_front(depth: u64) -> Option<&'static [u8]>
 }
 
 /// Prints what the line of an element begins with.
-fn print_front(out: &mut Out, namespace: Namespace, depth: u64) -> Result<(), NoMemory>
-    ensures { OnOk result (Prints out.old out.new (indentation depth ++ codes "<" ++ namespace_word namespace)) }
+fn print_front<K: Sink>(out: &mut Out, sink: &mut K, namespace: Namespace, depth: u64)
+    requires { depth < 2 ^ 63 }
+    ensures { Prints out.old out.new (K.taken sink.old, K.faults sink.old) (K.taken sink.new, K.faults sink.new) (indentation depth ++ codes "<" ++ namespace_word namespace) }
 {
     if namespace == Namespace::Html {
         if let Some(front) = open_front(depth) {
-            return out.put(front);
+            return out.put(sink, front);
         }
     }
-    out.indent(depth)?;
-    out.put(open_text(namespace))
+    out.indent(sink, depth);
+    out.put(sink, open_text(namespace))
 }
 
 /// Prints an element without its attributes.
-fn print_opening(out: &mut Out, tag: &Tag, depth: u64) -> Result<(), NoMemory>
-    ensures { OnOk result (Prints out.old out.new (opening depth tag.now)) }
+fn print_opening<K: Sink>(out: &mut Out, sink: &mut K, tag: &Tag, depth: u64)
+    requires { depth < 2 ^ 63 }
+    ensures { Prints out.old out.new (K.taken sink.old, K.faults sink.old) (K.taken sink.new, K.faults sink.new) (opening depth tag.now) }
 {
-    print_front(out, tag.namespace, depth)?;
-    out.put_text(tag.name.as_str())?;
-    out.put(b">\n")?;
-    Ok(())
+    print_front(out, sink, tag.namespace, depth);
+    out.put_text(sink, tag.name.as_str());
+    out.put(sink, b">\n");
 }
 
 /// How much deeper the contents of a template stand than children do.
@@ -108,139 +111,155 @@ fn quote_front(depth: u64) -> Option<&'static [u8]>
 }
 
 /// Prints what the line of a text begins with.
-fn print_quote(out: &mut Out, depth: u64) -> Result<(), NoMemory>
-    ensures { OnOk result (Prints out.old out.new (indentation depth ++ codes "\"")) }
+fn print_quote<K: Sink>(out: &mut Out, sink: &mut K, depth: u64)
+    requires { depth < 2 ^ 63 }
+    ensures { Prints out.old out.new (K.taken sink.old, K.faults sink.old) (K.taken sink.new, K.faults sink.new) (indentation depth ++ codes "\"") }
 {
     match quote_front(depth) {
-        Some(front) => out.put(front),
+        Some(front) => out.put(sink, front),
         None => {
-            out.indent(depth)?;
-            out.put(b"\"")
+            out.indent(sink, depth);
+            out.put(sink, b"\"")
         }
     }
 }
 
 /// Prints a text by its runs.
 #[tactic(auto, using(crate::proofs::Pieces::prints_then))]
-fn print_text(out: &mut Out, runs: Runs<'_, '_>, depth: u64) -> Result<(), NoMemory>
-    ensures { OnOk result (Prints out.old out.new (text_line depth (text_of runs.entry))) }
+fn print_text<K: Sink>(out: &mut Out, sink: &mut K, runs: Runs<'_, '_>, depth: u64)
+    requires { depth < 2 ^ 63 }
+    ensures { Prints out.old out.new (K.taken sink.old, K.faults sink.old) (K.taken sink.new, K.faults sink.new) (text_line depth (text_of runs.entry)) }
 {
-    print_quote(out, depth)?;
+    print_quote(out, sink, depth);
     match runs {
-        Runs::One(run) => out.put_text(run.as_str())?,
-        Runs::Several(runs) => print_runs(out, runs)?,
+        Runs::One(run) => out.put_text(sink, run.as_str()),
+        Runs::Several(runs) => print_runs(out, sink, runs),
     }
-    out.put(b"\"\n")?;
-    Ok(())
+    out.put(sink, b"\"\n");
 }
 
 #[inline(never)]
-fn print_runs(out: &mut Out, runs: &Chain<Text<'_>>) -> Result<(), NoMemory>
-    ensures { OnOk result (Prints out.old out.new (encode_utf8_all (concat runs.now))) }
+fn print_runs<K: Sink>(out: &mut Out, sink: &mut K, runs: &Chain<Text<'_>>)
+    ensures { Prints out.old out.new (K.taken sink.old, K.faults sink.old) (K.taken sink.new, K.faults sink.new) (encode_utf8_all (concat runs.now)) }
 {
     for run in runs.iter() {
-        out.put_text(run.as_str())?;
+        out.put_text(sink, run.as_str());
     }
-    Ok(())
 }
 
 /// Prints a comment.
 #[tactic(auto, using(crate::proofs::Pieces::prints_then))]
 #[inline(never)]
-fn print_comment(out: &mut Out, text: &Text<'_>, depth: u64) -> Result<(), NoMemory>
-    ensures { OnOk result (Prints out.old out.new (comment_line depth text.now)) }
+fn print_comment<K: Sink>(out: &mut Out, sink: &mut K, text: &Text<'_>, depth: u64)
+    requires { depth < 2 ^ 63 }
+    ensures { Prints out.old out.new (K.taken sink.old, K.faults sink.old) (K.taken sink.new, K.faults sink.new) (comment_line depth text.now) }
 {
-    out.indent(depth)?;
-    out.put(b"<!-- ")?;
-    out.put_text(text.as_str())?;
-    out.put(b" -->\n")?;
-    Ok(())
+    out.indent(sink, depth);
+    out.put(sink, b"<!-- ");
+    out.put_text(sink, text.as_str());
+    out.put(sink, b" -->\n");
 }
 
 /// Prints a doctype.
 #[tactic(auto, using(crate::proofs::Pieces::prints_then))]
 #[inline(never)]
-fn print_doctype(
+fn print_doctype<K: Sink>(
     out: &mut Out,
+    sink: &mut K,
     name: &Text<'_>,
     public: Option<&Text<'_>>,
     system: Option<&Text<'_>>,
     depth: u64,
-) -> Result<(), NoMemory>
-    ensures { OnOk result (Prints out.old out.new (doctype_line depth name.now (option_copied public.entry) (option_copied system.entry))) }
+)
+    requires { depth < 2 ^ 63 }
+    ensures { Prints out.old out.new (K.taken sink.old, K.faults sink.old) (K.taken sink.new, K.faults sink.new) (doctype_line depth name.now (option_copied public.entry) (option_copied system.entry)) }
 {
-    out.indent(depth)?;
-    out.put(b"<!DOCTYPE ")?;
-    out.put_text(name.as_str())?;
-    print_identifiers(out, public, system)?;
-    out.put(b">\n")?;
-    Ok(())
+    out.indent(sink, depth);
+    out.put(sink, b"<!DOCTYPE ");
+    out.put_text(sink, name.as_str());
+    print_identifiers(out, sink, public, system);
+    out.put(sink, b">\n");
 }
 
 /// Prints the public and the system identifier, where there is one of them.
 #[tactic(auto, using(crate::proofs::Pieces::prints_then))]
-fn print_identifiers(
+fn print_identifiers<K: Sink>(
     out: &mut Out,
+    sink: &mut K,
     public: Option<&Text<'_>>,
     system: Option<&Text<'_>>,
-) -> Result<(), NoMemory>
-    ensures { OnOk result (Prints out.old out.new (identifiers (option_copied public.entry) (option_copied system.entry))) }
+)
+    ensures { Prints out.old out.new (K.taken sink.old, K.faults sink.old) (K.taken sink.new, K.faults sink.new) (identifiers (option_copied public.entry) (option_copied system.entry)) }
 {
     if public.is_none() && system.is_none() {
-        return Ok(());
+        return;
     }
-    out.put(b" \"")?;
-    print_identifier(out, public)?;
-    out.put(b"\" \"")?;
-    print_identifier(out, system)?;
-    out.put(b"\"")?;
-    Ok(())
+    out.put(sink, b" \"");
+    print_identifier(out, sink, public);
+    out.put(sink, b"\" \"");
+    print_identifier(out, sink, system);
+    out.put(sink, b"\"");
 }
 
 /// Prints an identifier, and nothing for one that is absent.
-fn print_identifier(out: &mut Out, identifier: Option<&Text<'_>>) -> Result<(), NoMemory>
-    ensures { OnOk result (Prints out.old out.new (encode_utf8_all (unwrap_or (option_copied identifier.entry) []))) }
+fn print_identifier<K: Sink>(out: &mut Out, sink: &mut K, identifier: Option<&Text<'_>>)
+    ensures { Prints out.old out.new (K.taken sink.old, K.faults sink.old) (K.taken sink.new, K.faults sink.new) (encode_utf8_all (unwrap_or (option_copied identifier.entry) [])) }
 {
     match identifier {
-        None => Ok(()),
-        Some(text) => out.put_text(text.as_str()),
+        None => {}
+        Some(text) => out.put_text(sink, text.as_str()),
     }
 }
 
-/// Prints the lines of an element, before those of what stands inside it.
+/// Prints the lines of an element, before those of what stands inside it. The list for its attributes has room for them.
 #[tactic(auto, using(crate::proofs::Pieces::prints_then))]
-fn print_element(alloc: Global, out: &mut Out, tag: &Tag, depth: u64) -> Result<(), NoMemory>
-    ensures { OnOk result (Prints out.old out.new (element_lines depth tag.now)) }
-{
-    let inner = depth.checked_add(1).ok_or(NoMemory)?;
-    print_opening(out, tag, depth)?;
-    print_attributes(alloc, out, &tag.attributes, inner)?;
-    if is_template(tag) {
-        out.indent(inner)?;
-        out.put(b"content\n")?;
-    }
-    Ok(())
-}
-
-/// Prints the lines of an item, before those of what stands inside it. The document and contents have none.
-#[tactic(auto, using(crate::proofs::Pieces::prints_none))]
-pub fn print_item(
+fn print_element<'t, K: Sink>(
     alloc: Global,
     out: &mut Out,
-    view: NodeView<'_, '_>,
+    sink: &mut K,
+    list: &mut Vec<Shown<'t>>,
+    tag: &'t Tag,
     depth: u64,
-) -> Result<(), NoMemory>
-    ensures { (t : Tree) → HasTag t view.entry → OnOk result (Prints out.old out.new (lines_of t depth (shown view.entry))) }
+)
+    requires room { length tag.now.attributes ≤ vec_capacity list.old }
+    requires depth { depth < 2 ^ 62 }
+    ensures printed { Prints out.old out.new (K.taken sink.old, K.faults sink.old) (K.taken sink.new, K.faults sink.new) (element_lines depth tag.now) }
+    ensures room { vec_capacity list.old ≤ vec_capacity list.new }
+{
+    let inner = depth + 1;
+    print_opening(out, sink, tag, depth);
+    print_attributes(alloc, out, sink, list, &tag.attributes, inner);
+    if is_template(tag) {
+        out.indent(sink, inner);
+        out.put(sink, b"content\n");
+    }
+}
+
+/// Prints the lines of an item, before those of what stands inside it. The document and contents have none. The list for
+/// attributes has room for those of the item.
+#[tactic(auto, using(crate::proofs::Pieces::prints_none))]
+pub fn print_item<'t, K: Sink>(
+    alloc: Global,
+    out: &mut Out,
+    sink: &mut K,
+    list: &mut Vec<Shown<'t>>,
+    view: NodeView<'t, '_>,
+    depth: u64,
+)
+    requires room { attributes_in view ≤ vec_capacity list.old }
+    requires depth { depth < 2 ^ 62 }
+    ensures printed { (t : Tree) → HasTag t view.entry → Prints out.old out.new (K.taken sink.old, K.faults sink.old) (K.taken sink.new, K.faults sink.new) (lines_of t depth (shown view.entry)) }
+    ensures room { vec_capacity list.old ≤ vec_capacity list.new }
 {
     match view {
         NodeView::Doctype {
             name,
             public,
             system,
-        } => print_doctype(out, name, public, system, depth),
-        NodeView::Element { tag, .. } => print_element(alloc, out, tag, depth),
-        NodeView::Text { runs } => print_text(out, runs, depth),
-        NodeView::Comment { text } => print_comment(out, text, depth),
-        NodeView::Document | NodeView::Contents => Ok(()),
+        } => print_doctype(out, sink, name, public, system, depth),
+        NodeView::Element { tag, .. } => print_element(alloc, out, sink, list, tag, depth),
+        NodeView::Text { runs } => print_text(out, sink, runs, depth),
+        NodeView::Comment { text } => print_comment(out, sink, text, depth),
+        NodeView::Document | NodeView::Contents => {}
     }
 }

@@ -3,9 +3,10 @@
 
 mod attributes;
 mod items;
+mod kept;
 mod output;
 mod walk;
 
 pub use attributes::attributes_are_in_order;
 pub use hp_elements::NoMemory;
-pub use walk::print_tree;
+pub use walk::{Refusal, print_tree, write_tree};

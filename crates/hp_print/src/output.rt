@@ -1,21 +1,24 @@
-//! Where the printed text goes: it is written into memory that grows up to a limit. Where that is too small, it is counted from there on.
+//! Where the printed text goes: it is gathered in memory of one size, which goes to the sink whenever it is full.
 
-ghost use Rattle.std.specs.Prelude.{◌≡◌, ◌<◌, ◌++◌, ℕ, List, [], OnOk, length, replicate, encode_utf8_all};
+ghost use Rattle.std.specs.Prelude.{◌≡◌, ◌+◌, ◌^◌, ◌<◌, ◌≤◌, ◌++◌, [], IfOk, length, replicate, encode_utf8_all, vec_len, vec_capacity};
 ghost use Rattle.std.specs.Str.{chars};
-ghost use Rattle.hp_print.specs.Out.{Prints, is_counting};
+ghost use Rattle.hp_print.specs.Out.{Finished, IsEmpty, Prints, Starts};
 ghost use Rattle.hp_print.specs.Print.{indentation};
 
-use std::alloc::AllocError as NoMemory;
+use hp_text::{Sink, write_whole};
+use std::alloc::{AllocError as NoMemory, Global};
 
-/// What was printed so far.
+/// What was printed and isn't written yet.
 #[derive(Drop)]
 pub enum Out {
-    Counting(u64),
-    Writing(Vec<u8>),
+    /// What was gathered since the last write.
+    Gathered(Vec<u8>),
+    /// A write failed, and nothing more is written.
+    Failed,
 }
 
-/// How many bytes are written at most before they were counted.
-pub const MOST: usize = 1 << 26;
+/// How many bytes are gathered at most.
+const ROOM: usize = 1 << 16;
 
 const BLANKS: [u8; 64] = [b' '; 64];
 
@@ -24,146 +27,149 @@ const LINE: &[u8; 128] =
     b"|                                                                                                                               ";
 
 impl Out {
-    /// Whether it is counted.
-    pub fn is_counting(&self) -> bool
-        ensures { result ≡ is_counting self.now }
+    /// Nothing is printed yet. All memory that printing takes is there from now on.
+    pub fn new(alloc: Global) -> Result<Out, NoMemory>
+        ensures { IfOk result Starts }
     {
-        matches!(self, Out::Counting(_))
+        let bytes = Vec::with_capacity(alloc, ROOM)?;
+        Ok(Out::Gathered(bytes))
     }
 
     /// Prints these bytes.
+    #[tactic(auto, using(crate::proofs::Pieces::gathers, crate::proofs::Pieces::failed))]
     #[inline]
-    pub fn put(&mut self, piece: &[u8]) -> Result<(), NoMemory>
-        ensures { OnOk result (Prints self.old self.new piece.now) }
+    pub fn put<K: Sink>(&mut self, sink: &mut K, piece: &[u8])
+        ensures { Prints self.old self.new (K.taken sink.old, K.faults sink.old) (K.taken sink.new, K.faults sink.new) piece.now }
     {
         match self {
-            Out::Counting(count) => {
-                *count = count.checked_add(piece.len() as u64).ok_or(NoMemory)?;
-                Ok(())
-            }
-            Out::Writing(bytes) => {
+            Out::Gathered(bytes) => {
                 if bytes.capacity() - bytes.len() < piece.len() {
-                    return self.put_beyond(piece);
+                    self.put_beyond(sink, piece);
+                } else {
+                    append(bytes, piece);
                 }
-                bytes.extend_from_slice(piece)?;
-                Ok(())
             }
+            Out::Failed => {}
         }
     }
 
-    /// Prints these bytes where the memory is too small for them: it grows up to a limit, and from there on they are counted.
+    /// Prints these bytes where there is no room for them behind what was gathered.
     #[inline(never)]
-    fn put_beyond(&mut self, piece: &[u8]) -> Result<(), NoMemory>
-        ensures { OnOk result (Prints self.old self.new piece.now) }
+    fn put_beyond<K: Sink>(&mut self, sink: &mut K, piece: &[u8])
+        ensures { Prints self.old self.new (K.taken sink.old, K.faults sink.old) (K.taken sink.new, K.faults sink.new) piece.now }
+    {
+        self.flush(sink);
+        self.put_first(sink, piece);
+    }
+
+    /// Prints these bytes where nothing is gathered.
+    fn put_first<K: Sink>(&mut self, sink: &mut K, piece: &[u8])
+        requires { IsEmpty self.old }
+        ensures { Prints self.old self.new (K.taken sink.old, K.faults sink.old) (K.taken sink.new, K.faults sink.new) piece.now }
     {
         match self {
-            Out::Writing(bytes) if piece.len() <= MOST.saturating_sub(bytes.len()) => {
-                bytes.extend_from_slice(piece)?;
-                Ok(())
+            Out::Gathered(bytes) => {
+                if piece.len() <= bytes.capacity() - bytes.len() {
+                    append(bytes, piece);
+                } else {
+                    match write_whole(sink, piece) {
+                        Ok(()) => {}
+                        Err(_) => *self = Out::Failed,
+                    }
+                }
             }
-            _ => self.count_on(piece.len() as u64),
+            Out::Failed => {}
         }
     }
 
-    /// Counts so many bytes, and all that come. What was written is dropped.
-    #[tactic(auto, using(crate::proofs::Pieces::counts_on, crate::proofs::Pieces::counts))]
-    #[inline(never)]
-    pub fn count_on(&mut self, more: u64) -> Result<(), NoMemory>
-        ensures { OnOk result ((piece : List ℕ) → length piece ≡ more → Prints self.old self.new piece) }
+    /// Writes what was gathered.
+    fn flush<K: Sink>(&mut self, sink: &mut K)
+        ensures printed { Prints self.old self.new (K.taken sink.old, K.faults sink.old) (K.taken sink.new, K.faults sink.new) [] }
+        ensures empty { IsEmpty self.new }
     {
         match self {
-            Out::Counting(count) => {
-                *count = count.checked_add(more).ok_or(NoMemory)?;
-                Ok(())
+            Out::Gathered(bytes) => {
+                match write_whole(sink, bytes.as_slice()) {
+                    Ok(()) => bytes.clear(),
+                    Err(_) => *self = Out::Failed,
+                }
             }
-            Out::Writing(bytes) => {
-                let count = (bytes.len() as u64).checked_add(more).ok_or(NoMemory)?;
-                *self = Out::Counting(count);
-                Ok(())
-            }
+            Out::Failed => {}
         }
     }
 
-    /// Only counts from here on where that is asked for.
-    #[tactic(auto, using(crate::proofs::Pieces::prints_none))]
-    #[inline]
-    pub fn count_where(&mut self, asked: bool) -> Result<(), NoMemory>
-        ensures { OnOk result (Prints self.old self.new []) }
+    /// Writes the rest. Whether all was written.
+    #[tactic(auto, using(crate::proofs::Pieces::finished_whole, crate::proofs::Pieces::finished_part))]
+    pub fn finish<K: Sink>(&mut self, sink: &mut K) -> bool
+        ensures { Finished self.old result (K.taken sink.old, K.faults sink.old) (K.taken sink.new, K.faults sink.new) }
     {
-        if !asked {
-            return Ok(());
+        self.flush(sink);
+        match self {
+            Out::Gathered(_) => true,
+            Out::Failed => false,
         }
-        self.count_on(0)?;
-        Ok(())
     }
 
     /// Prints a text, in UTF-8.
     #[inline]
-    pub fn put_text(&mut self, text: &str) -> Result<(), NoMemory>
-        ensures { OnOk result (Prints self.old self.new (encode_utf8_all (chars text.now))) }
+    pub fn put_text<K: Sink>(&mut self, sink: &mut K, text: &str)
+        ensures { Prints self.old self.new (K.taken sink.old, K.faults sink.old) (K.taken sink.new, K.faults sink.new) (encode_utf8_all (chars text.now)) }
     {
-        self.put(text.as_bytes())?;
-        Ok(())
+        self.put(sink, text.as_bytes());
     }
 
     /// Prints so many spaces.
-    fn put_blanks(&mut self, blanks: u64) -> Result<(), NoMemory>
-        ensures { OnOk result (Prints self.old self.new (replicate blanks 32)) }
+    fn put_blanks<K: Sink>(&mut self, sink: &mut K, blanks: u64)
+        ensures { Prints self.old self.new (K.taken sink.old, K.faults sink.old) (K.taken sink.new, K.faults sink.new) (replicate blanks 32) }
     {
-        match self {
-            Out::Counting(count) => {
-                *count = count.checked_add(blanks).ok_or(NoMemory)?;
-                Ok(())
-            }
-            Out::Writing(bytes) => {
-                if ((bytes.capacity() - bytes.len()) as u64) < blanks {
-                    return self.count_on(blanks);
-                }
-                push_blanks(bytes, blanks)
-            }
+        let mut left = blanks;
+        while left > 64 {
+            self.put(sink, &BLANKS);
+            left -= 64;
         }
+        self.put(sink, &BLANKS[..left as usize]);
     }
 
     /// Prints what a line of this depth begins with.
     #[inline]
-    pub fn indent(&mut self, depth: u64) -> Result<(), NoMemory>
-        ensures { OnOk result (Prints self.old self.new (indentation depth)) }
+    pub fn indent<K: Sink>(&mut self, sink: &mut K, depth: u64)
+        requires { depth < 2 ^ 63 }
+        ensures { Prints self.old self.new (K.taken sink.old, K.faults sink.old) (K.taken sink.new, K.faults sink.new) (indentation depth) }
     {
         if depth < 64 {
-            return self.put(line_front(depth));
+            self.put(sink, line_front(depth));
+        } else {
+            self.indent_deep(sink, depth);
         }
-        self.indent_deep(depth)
     }
 
     /// The same at any depth.
     #[inline(never)]
-    fn indent_deep(&mut self, depth: u64) -> Result<(), NoMemory>
-        ensures { OnOk result (Prints self.old self.new (indentation depth)) }
+    fn indent_deep<K: Sink>(&mut self, sink: &mut K, depth: u64)
+        requires { depth < 2 ^ 63 }
+        ensures { Prints self.old self.new (K.taken sink.old, K.faults sink.old) (K.taken sink.new, K.faults sink.new) (indentation depth) }
     {
-        let blanks = depth.checked_add(depth).ok_or(NoMemory)?;
-        self.put(b"| ")?;
-        self.put_blanks(blanks)?;
-        Ok(())
+        self.put(sink, b"| ");
+        self.put_blanks(sink, depth + depth);
+    }
+}
+
+/// Appends bytes for which there is room.
+#[inline]
+fn append(bytes: &mut Vec<u8>, piece: &[u8])
+    requires { vec_len bytes.old + length piece.now ≤ vec_capacity bytes.old }
+    ensures { bytes.new.items ≡ bytes.old.items ++ piece.now }
+{
+    match bytes.extend_from_slice(piece) {
+        Ok(()) => {}
+        Err(_) => unreachable!(),
     }
 }
 
 /// What a line of a low depth begins with.
-pub fn line_front(depth: u64) -> &'static [u8]
+fn line_front(depth: u64) -> &'static [u8]
     requires { depth < 64 }
     ensures { result.now ≡ indentation depth }
 {
     &LINE[..2 + 2 * depth as usize]
-}
-
-/// Appends so many spaces.
-fn push_blanks(bytes: &mut Vec<u8>, blanks: u64) -> Result<(), NoMemory>
-    ensures { OnOk result (bytes.new.items ≡ bytes.old.items ++ replicate blanks 32) }
-{
-    let mut left = blanks;
-    while left > 64 {
-        bytes.extend_from_slice(&BLANKS)?;
-        left -= 64;
-    }
-    bytes.extend_from_slice(&BLANKS[..left as usize])?;
-    Ok(())
 }

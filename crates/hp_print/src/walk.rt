@@ -1,17 +1,21 @@
 //! The walk over the tree, with a stack of its own.
 
-ghost use Rattle.std.specs.Prelude.{◌≡◌, ◌+◌, ◌<◌, ◌≤◌, [], IfOk, OnOk, length, drop};
-ghost use Rattle.hp_arena.specs.Readers.{shown, HasTag};
-ghost use Rattle.hp_control.specs.Tree.{branch, Tree as Branches};
-ghost use Rattle.hp_arena.specs.Readers.{parent_of, place_of};
-ghost use Rattle.hp_print.specs.Out.{Has, Prints};
-ghost use Rattle.hp_print.specs.Print.{lines_of, print};
-ghost use Rattle.hp_print.specs.Stack.{IsDeep, IsMark, Pushed, Stepped, lines_at, steps_at};
+ghost use Rattle.std.specs.Prelude.{◌≡◌, ◌+◌, ◌<◌, ◌≤◌, ◌++◌, ◌∷◌, [], Err, IfOk, OnOk, length, drop, vec_len, vec_capacity};
+ghost use Rattle.std.specs.Io.KnownBytes.{append_known};
+ghost use Rattle.hp_text.specs.Device.{Rose};
+ghost use Rattle.hp_arena.specs.Readers.{parent_of, place_of, HasTag};
+ghost use Rattle.hp_control.specs.Tree.{branch};
+ghost use Rattle.hp_print.specs.Out.{Prints, TakesPart};
+ghost use Rattle.hp_print.specs.Print.{print};
+ghost use Rattle.hp_print.specs.Stack.{HasRoom, IsDeep, IsMark, Pushed, Stepped, attributes_in, lines_at, steps_at};
 
+use crate::attributes::Shown;
 use crate::items::{extra_depth, print_item};
-use crate::output::{MOST, Out};
+use crate::kept::Kept;
+use crate::output::Out;
 use hp_arena::{At, NodeView, Tree};
 use hp_elements::NoMemory;
+use hp_text::Sink;
 use std::alloc::Global;
 
 /// An item that is to be printed, with all items after it in the same list.
@@ -24,157 +28,175 @@ pub struct Mark {
     pub templates: u32,
 }
 
-/// How much memory a text is given at first for each element.
-const FOR_ELEMENT: usize = 256;
+/// Why a tree was not written whole.
+#[derive(Clone, Copy, PartialEq, Eq, Debug)]
+pub enum Refusal {
+    /// Memory was wanting, or the text would be of absurd length. Nothing was written.
+    NoMemory,
+    /// A write failed.
+    Fault,
+}
 
-/// No line is deeper in a text that is written before it was counted, since the text of a deep tree goes by the square of its depth.
-const SHALLOW: u64 = 64;
+/// A text with more levels than these above its lines is of absurd length: that of a tree goes by the square of its depth.
+const ABSURD: u64 = 1 << 34;
 
-/// The tree as text, in UTF-8. Where its length isn't usual, or its lines are deep, it is counted before it is written.
+/// The tree as text, in UTF-8.
 pub fn print_tree(alloc: Global, tree: &Tree<'_>) -> Result<Vec<u8>, NoMemory>
     ensures { IfOk result (λ text. text.items ≡ print tree.now.branches) }
 {
-    let made = first_pass(alloc, tree)?;
-    match made {
-        Out::Writing(bytes) => Ok(bytes),
-        Out::Counting(size) => print_counted(alloc, tree, size),
+    let mut text = Kept::new(alloc);
+    match write_tree(alloc, tree, &mut text) {
+        Ok(()) => Ok(text.into_bytes()),
+        Err(_) => Err(NoMemory),
     }
 }
 
-/// The text of a tree, where it fits into memory of a usual size and its lines aren't deep, and else how long it is.
-fn first_pass(alloc: Global, tree: &Tree<'_>) -> Result<Out, NoMemory>
-    ensures { IfOk result (λ out. Has out (print tree.now.branches)) }
+/// Writes the tree as text, in UTF-8. All memory that this takes is there before the first byte is written.
+pub fn write_tree<K: Sink>(alloc: Global, tree: &Tree<'_>, sink: &mut K) -> Result<(), Refusal>
+    ensures whole { OnOk result (K.taken sink.new ≡ append_known (K.taken sink.old) (print tree.now.branches)) }
+
+    // At a fault the sink took a proper first part, and its own count shows it.
+    ensures part { result ≡ Err Refusal.Fault → TakesPart (print tree.now.branches) (K.taken sink.old) (K.taken sink.new) }
+    ensures failed { result ≡ Err Refusal.Fault → Rose (K.faults sink.old) (K.faults sink.new) }
+
+    ensures nothing { result ≡ Err Refusal.NoMemory → sink.new ≡ sink.old }
 {
-    let mut text = guessed(alloc, tree.len());
-    match print_all(alloc, tree, SHALLOW, &mut text) {
-        Ok(()) => Ok(text),
-        Err(_) => {
-            text = Out::Counting(0);
-            print_all(alloc, tree, u64::MAX, &mut text)?;
-            Ok(text)
-        }
+    if tree.summed_levels() > ABSURD {
+        return Err(Refusal::NoMemory);
+    }
+    let Ok(mut stack) = marks(alloc, tree) else {
+        return Err(Refusal::NoMemory);
+    };
+    let Ok(mut list) = attribute_list(alloc, tree) else {
+        return Err(Refusal::NoMemory);
+    };
+    let Ok(mut out) = Out::new(alloc) else {
+        return Err(Refusal::NoMemory);
+    };
+    print_all(alloc, tree, &mut stack, &mut list, &mut out, sink);
+    if out.finish(sink) {
+        Ok(())
+    } else {
+        Err(Refusal::Fault)
     }
 }
 
-/// Memory for the usual text of a tree of so many elements. Where there is none, the text is counted first.
-fn guessed(alloc: Global, elements: u32) -> Out
-    ensures { Has result [] }
+/// Memory for a stack that is deep enough for the tree.
+fn marks(alloc: Global, tree: &Tree<'_>) -> Result<Vec<Mark>, NoMemory>
+    ensures items { IfOk result (λ stack. stack.items ≡ []) }
+    ensures room { IfOk result (λ stack. length tree.now.branches ≤ vec_capacity stack) }
 {
-    let size = MOST.min(4096 + FOR_ELEMENT * elements as usize);
-    match Vec::with_capacity(alloc, size) {
-        Ok(bytes) => Out::Writing(bytes),
-        Err(_) => Out::Counting(0),
-    }
+    let stack = Vec::with_capacity(alloc, tree.len() as usize)?;
+    Ok(stack)
 }
 
-/// The tree as text, in UTF-8, whose length was counted. A text of absurd length is refused before anything is written.
-#[inline(never)]
-fn print_counted(alloc: Global, tree: &Tree<'_>, size: u64) -> Result<Vec<u8>, NoMemory>
-    ensures { IfOk result (λ text. text.items ≡ print tree.now.branches) }
+/// Memory for the attributes of any element of the tree.
+fn attribute_list<'t>(alloc: Global, tree: &'t Tree<'_>) -> Result<Vec<Shown<'t>>, NoMemory>
+    ensures { IfOk result (λ list. HasRoom tree.now.branches (vec_capacity list)) }
 {
-    let mut text = Out::Writing(Vec::with_capacity(alloc, size as usize)?);
-    print_all(alloc, tree, u64::MAX, &mut text)?;
-    match text {
-        Out::Writing(bytes) => Ok(bytes),
-        Out::Counting(_) => Err(NoMemory),
-    }
+    let list = Vec::with_capacity(alloc, tree.most_attributes())?;
+    Ok(list)
 }
 
-/// Prints all items of the tree; from the first line on that is deeper than that they are only counted.
-fn print_all(alloc: Global, tree: &Tree<'_>, deepest: u64, out: &mut Out) -> Result<(), NoMemory>
-    ensures { OnOk result (Prints out.old out.new (print tree.now.branches)) }
-{
-    let _elements = tree.len();
-    let mut stack = Vec::new(alloc);
-    push_first(tree, &mut stack, 0, 0, 0)?;
-    while let Some(mark) = stack.pop() {
-        print_mark(alloc, tree, &mut stack, mark, deepest, out)?;
-    }
-    Ok(())
-}
-
-/// Prints the first item at a mark, and marks what is left there and what stands inside the item.
-fn print_mark(
+/// Prints all items of the tree.
+fn print_all<'t, K: Sink>(
     alloc: Global,
-    tree: &Tree<'_>,
+    tree: &'t Tree<'_>,
     stack: &mut Vec<Mark>,
-    mark: Mark,
-    deepest: u64,
+    list: &mut Vec<Shown<'t>>,
     out: &mut Out,
-) -> Result<(), NoMemory>
-    requires { IsMark tree.now mark }
-    ensures { OnOk result (Stepped tree.now mark stack.old.items stack.new.items out.old out.new) }
+    sink: &mut K,
+)
+    requires empty { stack.old.items ≡ [] }
+    requires room { length tree.now.branches ≤ vec_capacity stack.old }
+    requires list { HasRoom tree.now.branches (vec_capacity list.old) }
+    ensures { Prints out.old out.new (K.taken sink.old, K.faults sink.old) (K.taken sink.new, K.faults sink.new) (print tree.now.branches) }
 {
     let _elements = tree.len();
-    push_next(tree, stack, mark)?;
-    let view = tree.view(mark.at);
-    let depth = mark.level as u64 + mark.templates as u64;
-    print_at(alloc, out, view, depth, deepest)?;
-    match view {
-        NodeView::Element { id, tag } => {
-            let templates = mark.templates + extra_depth(tag);
-            push_first(tree, stack, id, mark.level + 1, templates)?;
-            Ok(())
-        }
-        _ => Ok(()),
+    push_first(tree, stack, 0, 0, 0);
+    while let Some(mark) = stack.pop() {
+        let view = step(tree, stack, mark);
+        let depth = mark.level as u64 + mark.templates as u64;
+        print_item(alloc, out, sink, list, view, depth);
     }
 }
 
-/// Prints the lines of an item, before those of what stands inside it, or counts them where they are deeper than that.
-fn print_at(
-    alloc: Global,
-    out: &mut Out,
-    view: NodeView<'_, '_>,
-    depth: u64,
-    deepest: u64,
-) -> Result<(), NoMemory>
-    ensures { (t : Branches) → HasTag t view.entry → OnOk result (Prints out.old out.new (lines_of t depth (shown view.entry))) }
+/// Takes a step over the first item at a mark: marks what is left there and what stands inside the item. What stands at the mark.
+#[inline]
+fn step<'t, 'p>(tree: &'t Tree<'p>, stack: &mut Vec<Mark>, mark: Mark) -> NodeView<'t, 'p>
+    requires mark { IsMark tree.now mark }
+    requires rising { vec_len stack.old ≤ mark.level }
+    requires room { length tree.now.branches ≤ vec_capacity stack.old }
+    ensures step { Stepped tree.now mark result stack.old.items stack.new.items }
+    ensures room { length tree.now.branches ≤ vec_capacity stack.new }
 {
-    out.count_where(depth > deepest)?;
-    print_item(alloc, out, view, depth)?;
-    Ok(())
+    let _elements = tree.len();
+    push_next(tree, stack, mark);
+    let view = tree.view(mark.at);
+    if let NodeView::Element { id, tag } = view {
+        let templates = mark.templates + extra_depth(tag);
+        push_first(tree, stack, id, mark.level + 1, templates);
+    }
+    view
+}
+
+/// Puts a mark on the stack.
+#[inline]
+fn push(stack: &mut Vec<Mark>, mark: Mark)
+    requires { vec_len stack.old < vec_capacity stack.old }
+    ensures items { stack.new.items ≡ stack.old.items ++ mark ∷ [] }
+    ensures len { vec_len stack.new ≡ vec_len stack.old + 1 }
+    ensures capacity { vec_capacity stack.old ≤ vec_capacity stack.new }
+{
+    match stack.push(mark) {
+        Ok(()) => {}
+        Err(_) => unreachable!(),
+    }
 }
 
 /// Marks the item after the one at a mark, if there is one.
-fn push_next(tree: &Tree<'_>, stack: &mut Vec<Mark>, mark: Mark) -> Result<(), NoMemory>
-    requires { IsMark tree.now mark }
-    ensures { let t = tree.now.branches in let items = drop (place_of mark.at + 1) (branch t (parent_of mark.at)).inside in OnOk result (Pushed tree.now stack.old.items stack.new.items (lines_at t mark.level mark.templates items) (steps_at t mark.level items)) }
+#[inline]
+fn push_next(tree: &Tree<'_>, stack: &mut Vec<Mark>, mark: Mark)
+    requires mark { IsMark tree.now mark }
+    requires rising { vec_len stack.old ≤ mark.level }
+    requires room { length tree.now.branches ≤ vec_capacity stack.old }
+    ensures pushed { let t = tree.now.branches in let items = drop (place_of mark.at + 1) (branch t (parent_of mark.at)).inside in Pushed tree.now stack.old.items stack.new.items (lines_at t mark.level mark.templates items) (steps_at t mark.level items) }
+    ensures len { vec_len stack.new ≤ vec_len stack.old + 1 }
+    ensures room { length tree.now.branches ≤ vec_capacity stack.new }
 {
-    match tree.next_sibling(mark.at) {
-        Some(at) => {
-            stack.push(Mark {
+    let _elements = tree.len();
+    if let Some(at) = tree.next_sibling(mark.at) {
+        push(
+            stack,
+            Mark {
                 at,
                 level: mark.level,
                 templates: mark.templates,
-            })?;
-            Ok(())
-        }
-        None => Ok(()),
+            },
+        );
     }
 }
 
 /// Marks the first item inside an element, if there is one.
-fn push_first(
-    tree: &Tree<'_>,
-    stack: &mut Vec<Mark>,
-    id: u32,
-    level: u32,
-    templates: u32,
-) -> Result<(), NoMemory>
+#[inline]
+fn push_first(tree: &Tree<'_>, stack: &mut Vec<Mark>, id: u32, level: u32, templates: u32)
     requires there { id < length tree.now.branches }
     requires deep { IsDeep tree.now.branches level id }
     requires templates { templates ≤ level }
-    ensures { let t = tree.now.branches in let items = (branch t id).inside in OnOk result (Pushed tree.now stack.old.items stack.new.items (lines_at t level templates items) (steps_at t level items)) }
+    requires rising { vec_len stack.old ≤ level }
+    requires room { length tree.now.branches ≤ vec_capacity stack.old }
+    ensures pushed { let t = tree.now.branches in let items = (branch t id).inside in Pushed tree.now stack.old.items stack.new.items (lines_at t level templates items) (steps_at t level items) }
+    ensures room { length tree.now.branches ≤ vec_capacity stack.new }
 {
-    match tree.first_inside(id) {
-        Some(at) => {
-            stack.push(Mark {
+    let _elements = tree.len();
+    if let Some(at) = tree.first_inside(id) {
+        push(
+            stack,
+            Mark {
                 at,
                 level,
                 templates,
-            })?;
-            Ok(())
-        }
-        None => Ok(()),
+            },
+        );
     }
 }

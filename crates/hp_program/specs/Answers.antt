@@ -54,6 +54,14 @@ IsPageTree bytes tree = IsTreeOf built_in (page_text bytes) tree
 abbrev pub IsPrinted : List ℕ → List ℕ → Type 0
 IsPrinted page text = (tree : Tree) × IsTreeOf built_in page tree × (text ≡ print tree)
 
+-- the printed text of the tree of a text was taken, and nothing else
+abbrev pub TakesTreeOf : List ℕ → Option (List ℕ) → Option (List ℕ) → Type 0
+TakesTreeOf page old new = (tree : Tree) × IsTreeOf built_in page tree × (new ≡ append_known old (print tree))
+
+-- the first bytes of it were taken, and not all of them
+abbrev pub TakesTreePartOf : List ℕ → Option (List ℕ) → Option (List ℕ) → Type 0
+TakesTreePartOf page old new = (tree : Tree) × IsTreeOf built_in page tree × TakesPart (print tree) old new
+
 -- the printed text of the page's tree
 abbrev pub IsPageText : List ℕ → List ℕ → Type 0
 IsPageText bytes text = IsPrinted (page_text bytes) text

@@ -11,11 +11,8 @@ use crate::gate::Gate;
 use crate::status::Status;
 use crate::words::Words;
 use hp_fragment::parse_whole;
-use hp_print::print_tree;
-use hp_text::{
-    NoMemory, PAGE_LIMIT, Page, ReadRefusal, Sink, Source, WriteFault, check_page, read_page,
-    write_whole,
-};
+use hp_print::{Refusal, write_tree};
+use hp_text::{PAGE_LIMIT, Page, ReadRefusal, Sink, Source, check_page, read_page};
 use std::alloc::Global;
 use std::mem;
 use std::sync::Wait;
@@ -34,58 +31,37 @@ fn refused(refusal: ReadRefusal) -> Status
     }
 }
 
-/// The printed tree of a page.
-fn print_page(alloc: Global, page: Page<'_>) -> Result<Vec<u8>, NoMemory>
-    ensures { IfOk result (λ text. IsPrinted (chars (text_of page.entry)) text.items) }
+/// Writes the printed tree of a page to `out`.
+fn write_page<K: Sink>(alloc: Global, page: Page<'_>, out: &mut K) -> Result<(), Refusal>
+    ensures whole { OnOk result (TakesTreeOf (chars (text_of page.entry)) (K.taken out.old) (K.taken out.new)) }
+    ensures part { result ≡ Err Refusal.Fault → TakesTreePartOf (chars (text_of page.entry)) (K.taken out.old) (K.taken out.new) }
+    ensures failed { result ≡ Err Refusal.Fault → Rose (K.faults out.old) (K.faults out.new) }
+    ensures nothing { result ≡ Err Refusal.NoMemory → out.new ≡ out.old }
 {
-    let tree = parse_whole(alloc, page)?;
-    let text = print_tree(alloc, &tree)?;
+    let Ok(tree) = parse_whole(alloc, page) else {
+        return Err(Refusal::NoMemory);
+    };
+    let outcome = write_tree(alloc, &tree, out);
     // The process ends once the text is written, and its memory goes back whole: nothing is given back piece by piece.
     mem::forget(tree);
-    Ok(text)
-}
-
-/// What is written for the bytes of a page.
-fn answer(alloc: Global, bytes: &[u8]) -> Result<Vec<u8>, Status>
-    requires { length bytes.now ≤ PAGE_LIMIT }
-    ensures tree { IfOk result (λ text. IsPageText bytes.now text.items) }
-    ensures text { OnOk result (IsText bytes.now) }
-    ensures not_utf8 { result ≡ Err Status.NotUtf8 → IsNotText bytes.now }
-    ensures refusals { IfErr result (λ status. (status ≡ Status.NotUtf8) ⊎ (status ≡ Status.NoMemory)) }
-{
-    let Ok(page) = check_page(bytes) else {
-        return Err(Status::NotUtf8);
-    };
-    match print_page(alloc, page) {
-        Ok(text) => Ok(text),
-        Err(_) => Err(Status::NoMemory),
-    }
+    outcome
 }
 
 /// The status of a write.
-fn status_of(outcome: Result<(), WriteFault>) -> Status
+fn status_of(outcome: Result<(), Refusal>) -> Status
     ensures done { (result ≡ Status.Done) ↔ IsOk outcome }
-    ensures write_fault { (result ≡ Status.WriteFault) ↔ IsErr outcome }
-    ensures answers { (result ≡ Status.Done) ⊎ (result ≡ Status.WriteFault) }
+    ensures write_fault { (result ≡ Status.WriteFault) ↔ (outcome ≡ Err Refusal.Fault) }
+    ensures no_memory { (result ≡ Status.NoMemory) ↔ (outcome ≡ Err Refusal.NoMemory) }
+    ensures answers { (result ≡ Status.Done) ⊎ (result ≡ Status.WriteFault) ⊎ (result ≡ Status.NoMemory) }
 {
     match outcome {
         Ok(()) => Status::Done,
-        Err(_) => Status::WriteFault,
+        Err(Refusal::Fault) => Status::WriteFault,
+        Err(Refusal::NoMemory) => Status::NoMemory,
     }
 }
 
-/// Writes a text to `out`.
-fn write_text<K: Sink>(text: &[u8], out: &mut K) -> Status
-    ensures answers { (result ≡ Status.Done) ⊎ (result ≡ Status.WriteFault) }
-    ensures done { result ≡ Status.Done → K.taken out.new ≡ append_known (K.taken out.old) text.now }
-    ensures write_fault { result ≡ Status.WriteFault → Rose (K.faults out.old) (K.faults out.new) }
-    ensures part { result ≡ Status.WriteFault → TakesPart text.now (K.taken out.old) (K.taken out.new) }
-{
-    status_of(write_whole(out, text))
-}
-
 /// Writes the printed tree of the page of these bytes to `out`.
-#[tactic(auto, using(crate::proofs::Written::takes_page, crate::proofs::Written::takes_page_part))]
 fn put_tree<K: Sink>(alloc: Global, bytes: &[u8], out: &mut K) -> Status
     requires { length bytes.now ≤ PAGE_LIMIT }
     ensures answers { (result ≡ Status.Done) ⊎ (result ≡ Status.WriteFault) ⊎ (result ≡ Status.NotUtf8) ⊎ (result ≡ Status.NoMemory) }
@@ -97,11 +73,10 @@ fn put_tree<K: Sink>(alloc: Global, bytes: &[u8], out: &mut K) -> Status
     ensures part { result ≡ Status.WriteFault → TakesPagePart bytes.now (K.taken out.old) (K.taken out.new) }
     ensures nothing { result ≢ Status.Done → result ≢ Status.WriteFault → out.new ≡ out.old }
 {
-    let text = match answer(alloc, bytes) {
-        Ok(text) => text,
-        Err(status) => return status,
-    };
-    write_text(&text, out)
+    match check_page(bytes) {
+        Ok(page) => status_of(write_page(alloc, page, out)),
+        Err(_) => Status::NotUtf8,
+    }
 }
 
 /// Reads the page, and writes its printed tree to `out`. The first refusal decides, in the order reading, UTF-8, writing.

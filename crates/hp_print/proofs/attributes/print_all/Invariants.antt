@@ -6,4 +6,4 @@ use Rattle.hp_print.proofs.attributes.print_all.Given as goal
 
 -- the attributes so far were printed, and the others are left
 abbrev pub invariant-loop-index : goal.invariant-loop-index
-invariant-loop-index l = (done : List ℕ) × Prints l.initial.out l.out done × (done ++ attribute_lines l.depth (attributes_of (drop l.index l.attributes)) ≡ attribute_lines l.depth (attributes_of l.attributes))
+invariant-loop-index g l = (done : List ℕ) × Prints l.initial.out l.out (g.K.Sink.taken l.initial.sink, g.K.Sink.faults l.initial.sink) (g.K.Sink.taken l.sink, g.K.Sink.faults l.sink) done × (done ++ attribute_lines l.depth (attributes_of (drop l.index l.attributes)) ≡ attribute_lines l.depth (attributes_of l.attributes))

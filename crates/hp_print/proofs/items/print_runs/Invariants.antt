@@ -6,4 +6,4 @@ use Rattle.hp_print.proofs.items.print_runs.Given as goal
 
 -- the runs so far were printed, and the others are left
 abbrev pub invariant-loop-run : goal.invariant-loop-run
-invariant-loop-run l = (done : List ℕ) × Prints l.initial.out l.out done × (done ++ encode_utf8_all (concat l.run-iterator) ≡ encode_utf8_all (concat l.runs))
+invariant-loop-run g l = (done : List ℕ) × Prints l.initial.out l.out (g.K.Sink.taken l.initial.sink, g.K.Sink.faults l.initial.sink) (g.K.Sink.taken l.sink, g.K.Sink.faults l.sink) done × (done ++ encode_utf8_all (concat l.run-iterator) ≡ encode_utf8_all (concat l.runs))

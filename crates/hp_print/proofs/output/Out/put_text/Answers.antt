@@ -2,4 +2,4 @@ use Rattle.std.proofs.lemmas.Str.{encodes-chars}
 use Rattle.hp_print.proofs.output.Out.put_text.Goals as goal
 
 pub returns : goal.returns
-returns c = rw (encodes-chars c.args.text.now c.utf8.text, ← c.as_bytes.ensures.value) c.in_ok-put.ensures
+returns g c = rw (encodes-chars c.args.text.now c.utf8.text, ← c.as_bytes.ensures.value) c.put.ensures

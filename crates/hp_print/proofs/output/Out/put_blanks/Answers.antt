@@ -1,0 +1,19 @@
+use Rattle.std.proofs.Common.{◌-◌, arith}
+use Rattle.hp_print.proofs.Blanks.{more_blanks, blanks_part}
+use Rattle.hp_print.proofs.Pieces.{prints_then, prints_as}
+use Rattle.hp_print.proofs.output.Out.put_blanks.Goals as goal
+
+pub loop-left-preserved : goal.loop-left-preserved
+loop-left-preserved g c =
+    let blanks = c.args.blanks in
+    let left = c.loop-left.left in
+    record {
+      printed = prints_as _ _ _ _ _ _ (prints_then _ _ _ _ _ _ _ _ c.loop-left.invariant.printed c.put.ensures) (more_blanks (blanks - left) (blanks - (left - 64)) 64 (omega arith));
+      at_most = omega arith;
+    }
+
+pub returns : goal.returns
+returns g c =
+    let blanks = c.args.blanks in
+    let left = c.loop-left.left in
+    prints_as _ _ _ _ _ _ (prints_then _ _ _ _ _ _ _ _ c.loop-left.invariant.printed (rw (blanks_part left (omega arith)) at c.put-2.ensures)) (more_blanks (blanks - left) blanks left (omega arith))
