@@ -138,15 +138,14 @@ fn found_at(name: &TagName<'_>, ends: &[TagName<'_>], found: usize) -> usize
     }
 }
 
-/// html and body.
-fn with_page(alloc: Global) -> Result<Pile, NoMemory>
-    ensures of { IfOk result (IsOf (text_of knowns.Body ∷ text_of knowns.Html ∷ [])) }
-    ensures count { IfOk result (λ pile. length pile.stack ≡ 2) }
+/// Piles up html and body.
+fn put_page(alloc: Global, pile: &mut Pile) -> Result<(), NoMemory>
+    requires { length pile.old.stack + 2 < 2 ^ 64 }
+    ensures of { IsOf [] pile.old → OnOk result (IsOf (text_of knowns.Body ∷ text_of knowns.Html ∷ []) pile.new) }
+    ensures count { OnOk result (length pile.new.stack ≡ length pile.old.stack + 2) }
 {
-    let mut pile = Pile::new();
     pile.put(alloc, &TagName::of_known(Known::Html))?;
-    pile.put(alloc, &TagName::of_known(Known::Body))?;
-    Ok(pile)
+    pile.put(alloc, &TagName::of_known(Known::Body))
 }
 
 /// Piles up end tags, the last one first.
@@ -173,6 +172,22 @@ fn put_open(alloc: Global, pile: &mut Pile, names: &Stack<TagName<'_>>) -> Resul
     Ok(())
 }
 
+/// Piles up html and body, end tags that aren't found in the names, and the names.
+fn put_all(
+    alloc: Global,
+    pile: &mut Pile,
+    names: &Stack<TagName<'_>>,
+    ends: &[TagName<'_>],
+) -> Result<(), NoMemory>
+    requires { length pile.old.stack + length names.now + length ends.now + 4 < 2 ^ 64 }
+    ensures of { IsOf [] pile.old → OnOk result (IsOf (with_ends names.now ends.now ++ text_of knowns.Body ∷ text_of knowns.Html ∷ []) pile.new) }
+    ensures count { OnOk result (length pile.new.stack + 2 < 2 ^ 64) }
+{
+    put_page(alloc, pile)?;
+    put_ends(alloc, pile, &ends[found_ends(names, ends)..])?;
+    put_open(alloc, pile, names)
+}
+
 /// The parts of the state in which the elements of these names are open.
 pub fn piled(
     alloc: Global,
@@ -183,8 +198,7 @@ pub fn piled(
     ensures of { IfOk result (IsOf (with_ends names.now ends.now ++ text_of knowns.Body ∷ text_of knowns.Html ∷ [])) }
     ensures count { IfOk result (λ pile. length pile.stack + 2 < 2 ^ 64) }
 {
-    let mut pile = with_page(alloc)?;
-    put_ends(alloc, &mut pile, &ends[found_ends(names, ends)..])?;
-    put_open(alloc, &mut pile, names)?;
+    let mut pile = Pile::new();
+    put_all(alloc, &mut pile, names, ends)?;
     Ok(pile)
 }

@@ -79,13 +79,21 @@ fn rest_for(name: &Name) -> Rest
     }
 }
 
+/// The text of a name.
+fn copied(alloc: Global, name: &Name) -> Result<OwnedText, NoMemory>
+    ensures { IfOk result (λ text. text ≡ name.now) }
+{
+    let mut text = OwnedText::new();
+    text.push_str(alloc, name.as_str())?;
+    Ok(text)
+}
+
 /// The lexer in the state for the text of an element of that name.
 fn lex_for(alloc: Global, after_cr: bool, name: &Name) -> Result<LexState, NoMemory>
     ensures { IfOk result (λ lex. lex ≡ spec_lex_for after_cr name.now) }
 {
+    let last_tag = copied(alloc, name)?;
     let LexState { machine, ahead } = LexState::at_rest(rest_for(name), after_cr);
-    let mut last_tag = OwnedText::new();
-    last_tag.push_str(alloc, name.as_str())?;
     Ok(LexState {
         machine: Machine {
             last_tag: Some(last_tag),
@@ -140,16 +148,27 @@ fn state_for(
     })
 }
 
+/// The state that is guessed for a text, from the text before it.
+fn guess(alloc: Global, before: &[u8], text: &[u8]) -> Result<Control, NoMemory>
+    ensures { IfOk result (λ state. state ≡ guessed before.now text.now) }
+{
+    let open = read_tags(alloc, last_bytes(before))?;
+    let closed = read_tags(alloc, text)?;
+    state_for(
+        alloc,
+        ends_in_cr(before),
+        &open.names,
+        closed.unmatched.as_slice(),
+    )
+}
+
 impl Prescan {
     /// The guess for a chunk, from the last 4,096 bytes before it and from its own text.
     pub fn new(alloc: Global, chunk: &Chunk<'_>) -> Result<Prescan, NoMemory>
         ensures state { IfOk result (λ prescan. prescan ≡ guessed (take chunk.now.from (text_of_page chunk.now.page)) (slice_range (text_of_page chunk.now.page) chunk.now.from chunk.now.to)) }
         ensures law { IfOk result (λ prescan. IsGuess chunk.now.from chunk.now.to prescan) }
     {
-        let before = chunk.before();
-        let names = read_tags(alloc, last_bytes(before))?.names;
-        let ends = read_tags(alloc, chunk.text())?.unmatched;
-        let state = state_for(alloc, ends_in_cr(before), &names, ends.as_slice())?;
+        let state = guess(alloc, chunk.before(), chunk.text())?;
         Ok(Prescan { state })
     }
 
