@@ -34,7 +34,7 @@ use Rattle.hp_steps.proofs.Stepping.{Further, Moved, batch-further, moved-so, si
 use Rattle.hp_steps.proofs.Together.{applied-append}
 use Rattle.hp_pieces.specs.Laws.{NeverAsked}
 use Rattle.hp_pieces.specs.Running.{parser_in}
-use Rattle.hp_replay.specs.Collecting.{IsKnown, control_of, edits_of}
+use Rattle.hp_replay.specs.Collecting.{control_of, edits_of}
 use Rattle.hp_replay.specs.Reading.{HasEnded, IsReady, IsWithin, Reads, ReadsOn, Took, control_in, edits_in}
 use Rattle.hp_replay.specs.declared.running.Running.{Running}
 

@@ -3,12 +3,10 @@ use Rattle.std.proofs.Common.{◌≡◌, ◌++◌, List, [], ◌∷◌, refl, ap
 use Rattle.hp_elements.specs.declared.token.Rest.{Rest}
 use Rattle.hp_elements.specs.declared.token.Token.{Token}
 use Rattle.hp_tokens.specs.Advancing.{AreRuns}
-use Rattle.hp_tokens.specs.Reading.{Unread}
 use Rattle.hp_control.specs.States.{ControlState, IsValid}
 use Rattle.hp_control.specs.Tree.{applied_all}
 use Rattle.hp_control.specs.declared.edit.Edit.{Edit}
 use Rattle.hp_views.specs.View.{split_of}
-use Rattle.hp_lexer.specs.declared.lexer.Lexer.{Lexer}
 use Rattle.hp_model.specs.AtOnce.{MakeSame, RunsAtOnce, handle_at_once}
 use Rattle.hp_model.specs.Turns.{left_by}
 use Rattle.hp_steps.specs.Handling.{AllRead, left_after, lexer_after, made_after, turned}
