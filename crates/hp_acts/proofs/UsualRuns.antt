@@ -244,6 +244,10 @@ pub carries_failed : (result : Result (Unit {0}) Refusal) (refusal : Refusal) (o
 carries_failed (Ok u) refusal old new p q is k = absurd is
 carries_failed (Err e) refusal old new p q is k = let P : Refusal → Type 0 = λ x. Carries (Err x) old new (λ v. followed_by (p v) q) in subst P (sym is) (carries_refused refusal old new p q k)
 
+-- the same plan, told otherwise
+pub carries_as : (result : Result (Unit {0}) Refusal) (old new : Sight) (p q : Split → Plan Split) → p ≡ q → Carries result old new p → Carries result old new q
+carries_as result old new p q e k = let P : (Split → Plan Split) → Type 0 = λ plan. Carries result old new plan in subst P e k
+
 -- what was found out, and then a call
 pub carries_then : {X : Type 0} (result : Result (Unit {0}) Refusal) (old mid new : Sight) (plan : Split → Plan X) (next : Split → X → Plan Split) (x : X)
     → Finds old mid plan x → Carries result mid new (λ v. next v x) → Carries result old new (λ v. followed_by (plan v) (next v))
