@@ -1,5 +1,5 @@
 -- The straight way of a usual row comes to the same as the table's.
-use Rattle.std.proofs.Common.{◌≡◌, ℕ, suc, ◌-◌, ◌<◌, true, false, List, [], ◌∷◌, Option, Some, None, Result, Ok, Err, refl, ap, sym, subst, ◌∙◌, arith}
+use Rattle.std.proofs.Common.{◌≡◌, ℕ, suc, ◌-◌, ◌<◌, true, false, List, [], ◌∷◌, Option, Some, None, Result, Ok, Err, refl, ap, sym, subst, ◌∙◌, arith, inl, inr}
 use Rattle.std.specs.Prelude.{Bool, IfSome, if◌then◌else◌, not, ◌||◌, ◌&&◌}
 use Rattle.std.specs.Result.{IsErrAnd}
 use Rattle.hp_elements.specs.Names as names
@@ -12,6 +12,7 @@ use Rattle.hp_elements.specs.declared.act.Scope.TheVariants as scope
 use Rattle.hp_elements.specs.declared.act.Which.TheVariants.{Its, Named}
 use Rattle.hp_elements.specs.declared.kinds.Kinds.TheVariants as kinds
 use Rattle.hp_elements.specs.declared.known.Known.TheVariants as known
+use Rattle.hp_elements.specs.declared.sets.SetName.TheVariants as set
 use Rattle.hp_elements.specs.declared.token.Kind.{Kind}
 use Rattle.hp_elements.specs.declared.token.Mode.{Mode}
 use Rattle.hp_elements.specs.declared.token.Mode.TheVariants as mode
@@ -28,12 +29,13 @@ use Rattle.hp_adoption.specs.LinkPlans.{close_link_plan}
 use Rattle.hp_adoption.specs.ReconPlans.{reconstruct_plan}
 use Rattle.hp_foreign.specs.Plans.{goes_on}
 use Rattle.hp_rules_body.specs.Body.{in_body}
-use Rattle.hp_rules_table.specs.TableModes.{in_cell}
+use Rattle.hp_rules_table.specs.TableModes.{in_cell, in_row, in_table_body}
 use Rattle.hp_rules_rest.specs.Whole.{every_mode_rows}
 use Rattle.hp_views.specs.ClosingPlans.{close_item_plan, close_paragraph_plan, implied_except_plan, implied_plan}
-use Rattle.hp_views.specs.FieldPlans.{frameset_plan}
+use Rattle.hp_views.specs.FieldPlans.{frameset_plan, switch_plan}
+use Rattle.hp_views.specs.ListPlans.{clear_plan, marker_plan}
 use Rattle.hp_views.specs.PlacePlans.{insert_plan}
-use Rattle.hp_views.specs.StackPlans.{in_scope_plan, through_plan}
+use Rattle.hp_views.specs.StackPlans.{in_scope_plan, pop_plan, pop_to_plan, through_plan}
 use Rattle.hp_views.specs.View.{Sight, Carries, Finds}
 use Rattle.hp_model.specs.Texts.{has_html_top}
 use Rattle.hp_model.specs.Tokens.{bare, name_of}
@@ -41,11 +43,12 @@ use Rattle.hp_acts.specs.HandlePlans.{all_turns_plan, most_turns, turns_plan, wh
 use Rattle.hp_acts.specs.Handling.{Handles, nothing_asked}
 use Rattle.hp_acts.specs.RowPlans.{Reached, Came, left, acts_plan, changed, dispatched, is_early, mode_plan, nothing_more, rules_plan, turn_plan, where_left}
 use Rattle.hp_acts.specs.Spending.{html_tag}
-use Rattle.hp_acts.specs.Usual.{IsUsual, UsesBody, block_end_by, item_end_by, paragraph_end_by, usual_acts, usual_plan}
+use Rattle.hp_acts.specs.Usual.{HasIn, HasRow, IsUsual, block_end_by, cell_end_by, item_end_by, paragraph_end_by, row_end_by, usual_acts, usual_plan}
 use Rattle.hp_acts.specs.declared.usual.Closing.TheVariants as closing
 use Rattle.hp_acts.specs.declared.usual.Opening.TheVariants as opening
+use Rattle.hp_acts.specs.declared.usual.TablePart.TheVariants as part
 use Rattle.hp_acts.specs.declared.usual.UsualRow.{UsualRow}
-use Rattle.hp_acts.specs.declared.usual.UsualRow.TheVariants.{Closes, Opens}
+use Rattle.hp_acts.specs.declared.usual.UsualRow.TheVariants.{Begins, Closes, Ends, Opens}
 use Rattle.hp_acts.proofs.PlainRuns.{follow_assoc}
 use Rattle.hp_acts.proofs.TurnRuns.{turn_on, turns_next}
 
@@ -106,6 +109,30 @@ paragraph_end_row depth t r =
     follow_assoc (in_scope_plan scope.Button (kinds.Html (text_of known.P)) r.split) (paragraph_end_by r.split) (ended r)
     ∙ ap (λ (next : Bool → Plan Came). followed_by (in_scope_plan scope.Button (kinds.Html (text_of known.P)) r.split) next) (λ i. λ b. paragraph_rest depth t r b i)
 
+table_row : (depth : ℕ) (t : Token) (r : Reached) → Same depth (Begins part.Row) t r
+table_row depth t r = three (pop_to_plan (kinds.Set set.TableBodyContext) r.split) (insert_plan false (html_tag t)) (switch_plan mode.InRow) (ended r)
+
+table_cell : (depth : ℕ) (t : Token) (r : Reached) → Same depth (Begins part.Cell) t r
+table_cell depth t r = four (pop_to_plan (kinds.Set set.TableRowContext) r.split) (insert_plan false (html_tag t)) (switch_plan mode.InCell) marker_plan (ended r)
+
+row_rest : (depth : ℕ) (t : Token) (r : Reached) (b : Bool) → followed_by (row_end_by r.split b) (ended r) ≡ acts_plan (rules_plan depth t) nothing_more false t 1 (if b then 1 else 4) (act.PopTo set.TableRowContext ∷ act.Pop ∷ act.Switch mode.InTableBody ∷ []) r
+row_rest depth t r true = three (pop_to_plan (kinds.Set set.TableRowContext) r.split) pop_plan (switch_plan mode.InTableBody) (ended r)
+row_rest depth t r false = refl
+
+table_row_end : (depth : ℕ) (t : Token) (r : Reached) → Same depth (Ends part.Row) t r
+table_row_end depth t r =
+    follow_assoc (in_scope_plan scope.Table (kinds.Html (text_of known.Tr)) r.split) (row_end_by r.split) (ended r)
+    ∙ ap (λ (next : Bool → Plan Came). followed_by (in_scope_plan scope.Table (kinds.Html (text_of known.Tr)) r.split) next) (λ i. λ b. row_rest depth t r b i)
+
+cell_rest : (depth : ℕ) (t : Token) (r : Reached) (b : Bool) → followed_by (cell_end_by (name_of t) r.split b) (ended r) ≡ acts_plan (rules_plan depth t) nothing_more false t 1 (if b then 1 else 5) (act.Implied ∷ act.Through Its ∷ act.ClearToMarker ∷ act.Switch mode.InRow ∷ []) r
+cell_rest depth t r true = four (implied_plan r.split) (through_plan (kinds.Html (name_of t)) kinds.Nothing) clear_plan (switch_plan mode.InRow) (ended r)
+cell_rest depth t r false = refl
+
+table_cell_end : (depth : ℕ) (t : Token) (r : Reached) → Same depth (Ends part.Cell) t r
+table_cell_end depth t r =
+    follow_assoc (in_scope_plan scope.Table (kinds.Html (name_of t)) r.split) (cell_end_by (name_of t) r.split) (ended r)
+    ∙ ap (λ (next : Bool → Plan Came). followed_by (in_scope_plan scope.Table (kinds.Html (name_of t)) r.split) next) (λ i. λ b. cell_rest depth t r b i)
+
 row_runs : (depth : ℕ) (row : UsualRow) (t : Token) (r : Reached) → Same depth row t r
 row_runs depth (Opens opening.Block) t r = block_row depth t r
 row_runs depth (Opens opening.Item) t r = item_row depth t r
@@ -117,6 +144,10 @@ row_runs depth (Closes closing.Item) t r = item_end_row depth t r
 row_runs depth (Closes closing.Paragraph) t r = paragraph_end_row depth t r
 row_runs depth (Closes closing.Formatting) t r = refl
 row_runs depth (Closes closing.Ordinary) t r = refl
+row_runs depth (Begins part.Row) t r = table_row depth t r
+row_runs depth (Begins part.Cell) t r = table_cell depth t r
+row_runs depth (Ends part.Row) t r = table_row_end depth t r
+row_runs depth (Ends part.Cell) t r = table_cell_end depth t r
 
 -- the row in the body, whose rules are used so deep
 body_row : (depth : ℕ) (t : Token) (r : Reached) → rules_plan (suc depth) t false mode.InBody r ≡ acts_plan (rules_plan depth t) nothing_more false t 0 0 (acts_for in_body (kind_of t)) r
@@ -127,33 +158,46 @@ cell_row : (t : Token) (r : Reached) → mode_plan t mode.InCell r ≡ acts_plan
 unfolding rules_plan every_mode_rows
 cell_row t r = refl
 
-by_body : (depth : ℕ) (row : UsualRow) (t : Token) (r : Reached) → acts_for in_body (kind_of t) ≡ usual_acts row → rules_plan (suc depth) t false mode.InBody r ≡ followed_by (usual_plan row t r.split) (ended r)
-by_body depth row t r h =
-    body_row depth t r
-    ∙ (ap (λ acts. acts_plan (rules_plan depth t) nothing_more false t 0 0 acts r) h
-    ∙ sym (row_runs depth row t r))
+row_row : (t : Token) (r : Reached) → mode_plan t mode.InRow r ≡ acts_plan (rules_plan 3 t) nothing_more false t 0 0 (acts_for in_row (kind_of t)) r
+unfolding rules_plan every_mode_rows
+row_row t r = refl
+
+section_row : (t : Token) (r : Reached) → mode_plan t mode.InTableBody r ≡ acts_plan (rules_plan 3 t) nothing_more false t 0 0 (acts_for in_table_body (kind_of t)) r
+unfolding rules_plan every_mode_rows
+section_row t r = refl
+
+acts_run : (depth : ℕ) (row : UsualRow) (t : Token) (r : Reached) (acts : List Act) → acts ≡ usual_acts row → acts_plan (rules_plan depth t) nothing_more false t 0 0 acts r ≡ followed_by (usual_plan row t r.split) (ended r)
+acts_run depth row t r acts h = ap (λ xs. acts_plan (rules_plan depth t) nothing_more false t 0 0 xs r) h ∙ sym (row_runs depth row t r)
+
+by_body : (depth : ℕ) (row : UsualRow) (t : Token) (r : Reached) → HasIn in_body t row → rules_plan (suc depth) t false mode.InBody r ≡ followed_by (usual_plan row t r.split) (ended r)
+by_body depth row t r h = body_row depth t r ∙ acts_run depth row t r (acts_for in_body (kind_of t)) h
 
 abbrev used_on : Came → Plan Came
 used_on = where_left (λ s. gives (left s))
 
--- in a cell the row goes on behind the rules of the body, and ends
-by_cell : (row : UsualRow) (t : Token) (r : Reached) → acts_for in_cell (kind_of t) ≡ act.As mode.InBody ∷ [] → acts_for in_body (kind_of t) ≡ usual_acts row → mode_plan t mode.InCell r ≡ followed_by (usual_plan row t r.split) (ended r)
-by_cell row t r used h =
+-- where its row uses the rules of the body it goes on behind them, and ends
+by_cell : (row : UsualRow) (t : Token) (r : Reached) → HasRow mode.InCell t row → mode_plan t mode.InCell r ≡ followed_by (usual_plan row t r.split) (ended r)
+by_cell row t r (inl own) = cell_row t r ∙ acts_run 3 row t r (acts_for in_cell (kind_of t)) own
+by_cell row t r (inr used) =
     cell_row t r
-    ∙ (ap (λ acts. acts_plan (rules_plan 3 t) nothing_more false t 0 0 acts r) used
-    ∙ (ap (λ p. followed_by p used_on) (by_body 2 row t r h)
+    ∙ (ap (λ acts. acts_plan (rules_plan 3 t) nothing_more false t 0 0 acts r) used.0
+    ∙ (ap (λ p. followed_by p used_on) (by_body 2 row t r used.1)
     ∙ follow_assoc (usual_plan row t r.split) (ended r) used_on))
 
-by_mode : (m : Mode) (row : UsualRow) (t : Token) (r : Reached) → UsesBody m t → acts_for in_body (kind_of t) ≡ usual_acts row → mode_plan t m r ≡ followed_by (usual_plan row t r.split) (ended r)
-by_mode mode.InBody row t r used h = by_body 3 row t r h
-by_mode mode.InCell row t r used h = by_cell row t r used h
-by_mode _ row t r used h = absurd used
+by_mode : (m : Mode) (row : UsualRow) (t : Token) (r : Reached) → HasRow m t row → mode_plan t m r ≡ followed_by (usual_plan row t r.split) (ended r)
+by_mode mode.InBody row t r h = by_body 3 row t r h
+by_mode mode.InTableBody row t r h = section_row t r ∙ acts_run 3 row t r (acts_for in_table_body (kind_of t)) h
+by_mode mode.InRow row t r h = row_row t r ∙ acts_run 3 row t r (acts_for in_row (kind_of t)) h
+by_mode mode.InCell row t r h = by_cell row t r h
+by_mode _ row t r h = absurd h
 
-not_early : (page : Option Page) (m : Mode) (t : Token) → UsesBody m t → is_early page m ≡ false
-not_early (Some page) m t used = refl
-not_early None mode.InBody t used = refl
-not_early None mode.InCell t used = refl
-not_early None _ t used = absurd used
+not_early : (page : Option Page) (m : Mode) (row : UsualRow) (t : Token) → HasRow m t row → is_early page m ≡ false
+not_early (Some page) m row t h = refl
+not_early None mode.InBody row t h = refl
+not_early None mode.InTableBody row t h = refl
+not_early None mode.InRow row t h = refl
+not_early None mode.InCell row t h = refl
+not_early None _ row t h = absurd h
 
 or_true : (a : Bool) → (a || true) ≡ true
 or_true true = refl
@@ -167,9 +211,9 @@ not_foreign k v (e ∷ es) h =
 
 usual_turn : (row : UsualRow) (t : Token) (r : Reached) → IsUsual r.split t row → turn_plan t r ≡ followed_by (usual_plan row t r.split) (ended r)
 usual_turn row t r u =
-    turn_on t r (not_early r.split.page r.split.change.mode t u.place)
+    turn_on t r (not_early r.split.page r.split.change.mode row t u.place)
     ∙ (ap (λ p. followed_by p (dispatched t r.split.change.mode r)) (not_foreign (kind_of t) r.split r.split.change.stack u.top)
-    ∙ by_mode r.split.change.mode row t r u.place u.acts)
+    ∙ by_mode r.split.change.mode row t r u.place)
 
 abbrev done_with : Split → Plan Reached
 done_with v = gives (record { split = v; handled = nothing_asked })
@@ -200,6 +244,10 @@ pub carries_failed : (result : Result (Unit {0}) Refusal) (refusal : Refusal) (o
 carries_failed (Ok u) refusal old new p q is k = absurd is
 carries_failed (Err e) refusal old new p q is k = let P : Refusal → Type 0 = λ x. Carries (Err x) old new (λ v. followed_by (p v) q) in subst P (sym is) (carries_refused refusal old new p q k)
 
+-- the same plan, told otherwise
+pub carries_as : (result : Result (Unit {0}) Refusal) (old new : Sight) (p q : Split → Plan Split) → p ≡ q → Carries result old new p → Carries result old new q
+carries_as result old new p q e k = let P : (Split → Plan Split) → Type 0 = λ plan. Carries result old new plan in subst P e k
+
 -- what was found out, and then a call
 pub carries_then : {X : Type 0} (result : Result (Unit {0}) Refusal) (old mid new : Sight) (plan : Split → Plan X) (next : Split → X → Plan Split) (x : X)
     → Finds old mid plan x → Carries result mid new (λ v. next v x) → Carries result old new (λ v. followed_by (plan v) (next v))
@@ -214,9 +262,18 @@ carries_then (Err NoMemory) old mid new plan next x f k = tt
 pub usual_acts_of : (acts other : List Act) (o : Option UsualRow) → acts ≡ other → IfSome o (λ row. acts ≡ usual_acts row) → IfSome o (λ row. other ≡ usual_acts row)
 usual_acts_of acts other o e h = subst (λ xs. IfSome o (λ row. xs ≡ usual_acts row)) e h
 
-pub usual_there : (v : Split) (t : Token) (o : Option UsualRow) → UsesBody v.change.mode t → has_html_top v.change.stack ≡ true → IfSome o (λ row. acts_for in_body (kind_of t) ≡ usual_acts row) → IfSome o (λ row. IsUsual v t row)
-usual_there v t None place top h = tt
-usual_there v t (Some row) place top h = record { place = place; top = top; acts = h }
+pub usual_there : (v : Split) (t : Token) (o : Option UsualRow) → has_html_top v.change.stack ≡ true → IfSome o (λ row. HasRow v.change.mode t row) → IfSome o (λ row. IsUsual v t row)
+usual_there v t None top h = tt
+usual_there v t (Some row) top h = record { place = h; top = top }
+
+-- a row of a cell: its own, or that of the body
+pub own_cell : (t : Token) (o : Option UsualRow) → IfSome o (λ row. HasIn in_cell t row) → IfSome o (λ row. HasRow mode.InCell t row)
+own_cell t None h = tt
+own_cell t (Some row) h = inl h
+
+pub body_cell : (t : Token) (o : Option UsualRow) → acts_for in_cell (kind_of t) ≡ act.As mode.InBody ∷ [] → IfSome o (λ row. HasIn in_body t row) → IfSome o (λ row. HasRow mode.InCell t row)
+body_cell t None used h = tt
+body_cell t (Some row) used h = inr (used, h)
 
 -- it was carried out, and nothing is asked
 pub usual_done : (old new : Sight) (row : UsualRow) (t : Token) → IsUsual old.split t row → Carries (Ok tt) old new (usual_plan row t) → Handles (Ok nothing_asked) old new (all_turns_plan t)

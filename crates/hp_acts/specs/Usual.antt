@@ -1,7 +1,8 @@
--- The usual rows of the body, by their acts, and what each of them asks and changes (13.2.6.4.7).
-use Rattle.std.specs.Prelude.{◌≡◌, ℕ, Bool, true, false, List, [], ◌∷◌}
+-- The usual rows of the body and of tables, by their acts, and what each of them asks and changes (13.2.6.4.7, 13.2.6.4.13 to
+-- 13.2.6.4.15).
+use Rattle.std.specs.Prelude.{◌≡◌, ◌⊎◌, ℕ, Bool, true, false, List, [], ◌∷◌}
 use Rattle.hp_elements.specs.Names.{text_of}
-use Rattle.hp_elements.specs.Rules.{acts_for}
+use Rattle.hp_elements.specs.Rules.{Row, acts_for}
 use Rattle.hp_elements.specs.Tokens.{kind_of}
 use Rattle.hp_elements.specs.declared.act.Act.{Act}
 use Rattle.hp_elements.specs.declared.act.Act.TheVariants as act
@@ -10,6 +11,7 @@ use Rattle.hp_elements.specs.declared.act.Test.TheVariants as test
 use Rattle.hp_elements.specs.declared.act.Which.TheVariants.{Its, Named}
 use Rattle.hp_elements.specs.declared.kinds.Kinds.TheVariants as kinds
 use Rattle.hp_elements.specs.declared.known.Known.TheVariants as known
+use Rattle.hp_elements.specs.declared.sets.SetName.TheVariants as set
 use Rattle.hp_elements.specs.declared.tag.Tag.{Tag}
 use Rattle.hp_elements.specs.declared.token.Mode.{Mode}
 use Rattle.hp_elements.specs.declared.token.Mode.TheVariants as mode
@@ -21,11 +23,12 @@ use Rattle.hp_adoption.specs.ArkPlans.{append_to_list_plan}
 use Rattle.hp_adoption.specs.LinkPlans.{close_link_plan}
 use Rattle.hp_adoption.specs.ReconPlans.{reconstruct_plan}
 use Rattle.hp_rules_body.specs.Body.{in_body}
-use Rattle.hp_rules_table.specs.TableModes.{in_cell}
+use Rattle.hp_rules_table.specs.TableModes.{in_cell, in_row, in_table_body}
 use Rattle.hp_views.specs.ClosingPlans.{close_item_plan, close_paragraph_plan, implied_except_plan, implied_plan, walk_plan}
-use Rattle.hp_views.specs.FieldPlans.{frameset_plan}
+use Rattle.hp_views.specs.FieldPlans.{frameset_plan, switch_plan}
+use Rattle.hp_views.specs.ListPlans.{clear_plan, marker_plan}
 use Rattle.hp_views.specs.PlacePlans.{insert_plan}
-use Rattle.hp_views.specs.StackPlans.{in_scope_plan, through_plan}
+use Rattle.hp_views.specs.StackPlans.{in_scope_plan, pop_plan, pop_to_plan, through_plan}
 use Rattle.hp_model.specs.Texts.{has_html_top}
 use Rattle.hp_model.specs.Tokens.{bare, name_of}
 use Rattle.hp_acts.specs.Spending.{html_tag}
@@ -33,8 +36,10 @@ use Rattle.hp_acts.specs.declared.usual.Closing.{Closing}
 use Rattle.hp_acts.specs.declared.usual.Closing.TheVariants as closing
 use Rattle.hp_acts.specs.declared.usual.Opening.{Opening}
 use Rattle.hp_acts.specs.declared.usual.Opening.TheVariants as opening
+use Rattle.hp_acts.specs.declared.usual.TablePart.{TablePart}
+use Rattle.hp_acts.specs.declared.usual.TablePart.TheVariants as part
 use Rattle.hp_acts.specs.declared.usual.UsualRow.{UsualRow}
-use Rattle.hp_acts.specs.declared.usual.UsualRow.TheVariants.{Closes, Opens}
+use Rattle.hp_acts.specs.declared.usual.UsualRow.TheVariants.{Begins, Closes, Ends, Opens}
 
 abbrev pub opening_acts : Opening → List Act
 opening_acts opening.Block = act.CloseParagraph ∷ act.Insert ∷ []
@@ -50,21 +55,37 @@ closing_acts closing.Paragraph = act.Unless (test.InScope scope.Button (Named kn
 closing_acts closing.Formatting = act.Adopt Its ∷ []
 closing_acts closing.Ordinary = act.Walk ∷ []
 
+-- the acts where a part of a table begins, and where it ends
+abbrev pub begin_acts : TablePart → List Act
+begin_acts part.Row = act.PopTo set.TableBodyContext ∷ act.Insert ∷ act.Switch mode.InRow ∷ []
+begin_acts part.Cell = act.PopTo set.TableRowContext ∷ act.Insert ∷ act.Switch mode.InCell ∷ act.Marker ∷ []
+
+abbrev pub end_acts : TablePart → List Act
+end_acts part.Row = act.If (test.InScope scope.Table (Named known.Tr)) 4 ∷ act.PopTo set.TableRowContext ∷ act.Pop ∷ act.Switch mode.InTableBody ∷ []
+end_acts part.Cell = act.If (test.InScope scope.Table Its) 5 ∷ act.Implied ∷ act.Through Its ∷ act.ClearToMarker ∷ act.Switch mode.InRow ∷ []
+
 abbrev pub usual_acts : UsualRow → List Act
 usual_acts (Opens row) = opening_acts row
 usual_acts (Closes row) = closing_acts row
+usual_acts (Begins row) = begin_acts row
+usual_acts (Ends row) = end_acts row
 
--- the rules of the body are used for the token: in the body, and in a cell where its row there only uses them
-abbrev pub UsesBody : Mode → Token → Type 0
-UsesBody mode.InBody t = Unit {0}
-UsesBody mode.InCell t = acts_for in_cell (kind_of t) ≡ act.As mode.InBody ∷ []
-UsesBody m t = ⊥
+-- the row that the token has among those
+abbrev pub HasIn : List Row → Token → UsualRow → Type 0
+HasIn rows t row = acts_for rows (kind_of t) ≡ usual_acts row
 
--- the token has that row by the rules of the body, and isn't foreign content
+-- the row that the token has in the mode; in a cell that of the body, where its own row only uses the rules of the body
+abbrev pub HasRow : Mode → Token → UsualRow → Type 0
+HasRow mode.InBody t row = HasIn in_body t row
+HasRow mode.InTableBody t row = HasIn in_table_body t row
+HasRow mode.InRow t row = HasIn in_row t row
+HasRow mode.InCell t row = HasIn in_cell t row ⊎ ((acts_for in_cell (kind_of t) ≡ act.As mode.InBody ∷ []) × HasIn in_body t row)
+HasRow m t row = ⊥
+
+-- the token has that row, and isn't foreign content
 pub record IsUsual (v : Split) (t : Token) (row : UsualRow) : Type 0 where
-  pub place : UsesBody v.change.mode t
+  pub place : HasRow v.change.mode t row
   pub top : has_html_top v.change.stack ≡ true
-  pub acts : acts_for in_body (kind_of t) ≡ usual_acts row
 
 -- a block goes into no paragraph
 abbrev pub block_plan : Tag → Split → Plan Split
@@ -125,6 +146,56 @@ closing_plan closing.Paragraph name = paragraph_end_plan
 closing_plan closing.Formatting name = adopt_plan false name
 closing_plan closing.Ordinary name = walk_plan name
 
+-- a row, or a cell, of a table begins
+abbrev pub row_after_plan : Tag → Split → Plan Split
+row_after_plan tag v = followed_by (insert_plan false tag v) (switch_plan mode.InRow)
+
+abbrev pub row_plan : Tag → Split → Plan Split
+row_plan tag v = followed_by (pop_to_plan (kinds.Set set.TableBodyContext) v) (row_after_plan tag)
+
+abbrev pub cell_begun_plan : Split → Plan Split
+cell_begun_plan v = followed_by (switch_plan mode.InCell v) marker_plan
+
+abbrev pub cell_after_plan : Tag → Split → Plan Split
+cell_after_plan tag v = followed_by (insert_plan false tag v) cell_begun_plan
+
+abbrev pub cell_plan : Tag → Split → Plan Split
+cell_plan tag v = followed_by (pop_to_plan (kinds.Set set.TableRowContext) v) (cell_after_plan tag)
+
+abbrev pub begin_plan : TablePart → Tag → Split → Plan Split
+begin_plan part.Row = row_plan
+begin_plan part.Cell = cell_plan
+
+-- it ends where it is in scope
+abbrev pub row_left_plan : Split → Plan Split
+row_left_plan v = followed_by (pop_plan v) (switch_plan mode.InTableBody)
+
+abbrev pub row_end_by : Split → Bool → Plan Split
+row_end_by v true = followed_by (pop_to_plan (kinds.Set set.TableRowContext) v) row_left_plan
+row_end_by v false = gives v
+
+abbrev pub row_end_plan : Split → Plan Split
+row_end_plan v = followed_by (in_scope_plan scope.Table (kinds.Html (text_of known.Tr)) v) (row_end_by v)
+
+abbrev pub cell_left_plan : Split → Plan Split
+cell_left_plan v = followed_by (clear_plan v) (switch_plan mode.InRow)
+
+abbrev pub cell_closed_plan : List ℕ → Split → Plan Split
+cell_closed_plan name v = followed_by (through_plan (kinds.Html name) kinds.Nothing v) cell_left_plan
+
+abbrev pub cell_end_by : List ℕ → Split → Bool → Plan Split
+cell_end_by name v true = followed_by (implied_plan v) (cell_closed_plan name)
+cell_end_by name v false = gives v
+
+abbrev pub cell_end_plan : List ℕ → Split → Plan Split
+cell_end_plan name v = followed_by (in_scope_plan scope.Table (kinds.Html name) v) (cell_end_by name v)
+
+abbrev pub end_plan : TablePart → List ℕ → Split → Plan Split
+end_plan part.Row name = row_end_plan
+end_plan part.Cell name = cell_end_plan name
+
 abbrev pub usual_plan : UsualRow → Token → Split → Plan Split
 usual_plan (Opens row) t = opening_plan row (html_tag t)
 usual_plan (Closes row) t = closing_plan row (name_of t)
+usual_plan (Begins row) t = begin_plan row (html_tag t)
+usual_plan (Ends row) t = end_plan row (name_of t)

@@ -9,6 +9,7 @@ mod plain;
 mod questions;
 mod rows;
 mod stack_acts;
+mod table_rows;
 mod token_parts;
 mod turns;
 mod usual;

@@ -1,21 +1,23 @@
-//! The usual rows of the body, carried out without the table, in the body and in cells: a short way to what it says (13.2.6.4.7).
+//! The usual rows of the body and of tables, carried out without the table of rows: a short way to what it says (13.2.6.4.7,
+//! 13.2.6.4.13 to 13.2.6.4.15).
 ghost use Rattle.std.specs.Prelude.{◌≡◌, [], ◌∷◌, false, true, IfSome};
 ghost use Rattle.hp_elements.specs.Rules.{acts_for, acts_numbered};
 ghost use Rattle.hp_elements.specs.Tokens.{kind_of};
 ghost use Rattle.hp_elements.specs.declared.act.Act.TheVariants.{As};
-ghost use Rattle.hp_elements.specs.declared.token.Mode.TheVariants.{InBody};
+ghost use Rattle.hp_elements.specs.declared.token.Mode.TheVariants.{InBody, InCell};
 ghost use Rattle.hp_elements.specs.declared.sets.Namespace.TheVariants.{Html};
 ghost use Rattle.hp_rules_body.specs.Body.{in_body};
 ghost use Rattle.hp_rules_body.specs.Table.{all_rows};
 ghost use Rattle.hp_rules_table.specs.Table.{all_rows as table_rows};
-ghost use Rattle.hp_rules_table.specs.TableModes.{in_cell};
+ghost use Rattle.hp_rules_table.specs.TableModes.{in_cell, in_row, in_table_body};
 ghost use Rattle.hp_views.specs.View.{sight, split_of, Carries};
 ghost use Rattle.hp_views.specs.PlacePlans.{insert_plan};
 ghost use Rattle.hp_acts.specs.HandlePlans.{all_turns_plan};
 ghost use Rattle.hp_acts.specs.Handling.{Handles};
-ghost use Rattle.hp_acts.specs.Usual.{IsUsual, UsesBody, block_end_by, block_end_plan, block_plan, closing_plan, formatting_plan, item_after_plan, item_end_by, item_end_plan, item_plan, link_plan, listed_plan, opening_plan, ordinary_plan, paragraph_end_by, paragraph_end_plan, usual_acts, usual_plan};
+ghost use Rattle.hp_acts.specs.Usual.{HasIn, HasRow, IsUsual, begin_plan, block_end_by, block_end_plan, block_plan, closing_plan, end_plan, formatting_plan, item_after_plan, item_end_by, item_end_plan, item_plan, link_plan, listed_plan, opening_plan, ordinary_plan, paragraph_end_by, paragraph_end_plan, usual_acts, usual_plan};
 
 use crate::plain::is_in_html;
+use crate::table_rows::{begin_cell, begin_row, end_cell, end_row};
 use crate::token_parts::{bare, into_name, into_tag};
 use crate::turns::{Handled, NOTHING};
 use hp_adoption::{adopt, append_to_list, close_link, reconstruct};
@@ -48,11 +50,20 @@ pub(crate) enum Closing {
     Ordinary,
 }
 
-/// A row of the body that many tags have.
+/// A part of a table.
+#[derive(Clone, Copy)]
+pub(crate) enum TablePart {
+    Row,
+    Cell,
+}
+
+/// A row of the rules that many tags have.
 #[derive(Clone, Copy)]
 pub(crate) enum UsualRow {
     Opens(Opening),
     Closes(Closing),
+    Begins(TablePart),
+    Ends(TablePart),
 }
 
 /// The row of that number, where it is a usual one.
@@ -77,10 +88,56 @@ fn usual_numbered(number: u16) -> Option<UsualRow>
 /// The usual row that the token has in the body.
 #[tactic(auto, using(crate::proofs::UsualRuns::usual_acts_of))]
 fn usual_in_body(token: &Token<'_>) -> Option<UsualRow>
-    ensures { IfSome result (λ row. acts_for in_body (kind_of token.now) ≡ usual_acts row) }
+    ensures { IfSome result (λ row. HasIn in_body token.now row) }
 {
     match hp_rules_body::row(Mode::InBody, token) {
         Some(number) => usual_numbered(number),
+        None => None,
+    }
+}
+
+/// The row of that number among those of tables, where it is a usual one.
+fn usual_in_tables(number: u16) -> Option<UsualRow>
+    ensures { IfSome result (λ row. acts_numbered table_rows number ≡ usual_acts row) }
+{
+    match number {
+        33 => Some(UsualRow::Begins(TablePart::Row)),
+        39 => Some(UsualRow::Begins(TablePart::Cell)),
+        40 => Some(UsualRow::Ends(TablePart::Row)),
+        45 => Some(UsualRow::Ends(TablePart::Cell)),
+        _ => None,
+    }
+}
+
+/// The usual row that the token has in a section of a table.
+#[tactic(auto, using(crate::proofs::UsualRuns::usual_acts_of))]
+fn usual_in_section(token: &Token<'_>) -> Option<UsualRow>
+    ensures { IfSome result (λ row. HasIn in_table_body token.now row) }
+{
+    match hp_rules_table::row(Mode::InTableBody, token) {
+        Some(number) => usual_in_tables(number),
+        None => None,
+    }
+}
+
+/// The usual row that the token has in a row of a table.
+#[tactic(auto, using(crate::proofs::UsualRuns::usual_acts_of))]
+fn usual_in_row(token: &Token<'_>) -> Option<UsualRow>
+    ensures { IfSome result (λ row. HasIn in_row token.now row) }
+{
+    match hp_rules_table::row(Mode::InRow, token) {
+        Some(number) => usual_in_tables(number),
+        None => None,
+    }
+}
+
+/// The usual row of its own that the token has in a cell.
+#[tactic(auto, using(crate::proofs::UsualRuns::usual_acts_of))]
+fn own_in_cell(token: &Token<'_>) -> Option<UsualRow>
+    ensures { IfSome result (λ row. HasIn in_cell token.now row) }
+{
+    match hp_rules_table::row(Mode::InCell, token) {
+        Some(number) => usual_in_tables(number),
         None => None,
     }
 }
@@ -105,15 +162,28 @@ fn is_passed_in_cell(token: &Token<'_>) -> bool
     }
 }
 
-/// Whether the rules of the body are used for the token.
+/// The usual row that the token has in a cell: its own, or that of the body, whose rules are used there.
+fn usual_in_cell(token: &Token<'_>) -> Option<UsualRow>
+    ensures { IfSome result (λ row. HasRow InCell token.now row) }
+{
+    if is_passed_in_cell(token) {
+        usual_in_body(token)
+    } else {
+        own_in_cell(token)
+    }
+}
+
+/// The usual row that the token has in the mode.
 #[inline(always)]
-fn uses_body(mode: Mode, token: &Token<'_>) -> bool
-    ensures { result ≡ true → UsesBody mode token.now }
+fn usual_in_mode(mode: Mode, token: &Token<'_>) -> Option<UsualRow>
+    ensures { IfSome result (λ row. HasRow mode token.now row) }
 {
     match mode {
-        Mode::InBody => true,
-        Mode::InCell => is_passed_in_cell(token),
-        _ => false,
+        Mode::InBody => usual_in_body(token),
+        Mode::InTableBody => usual_in_section(token),
+        Mode::InRow => usual_in_row(token),
+        Mode::InCell => usual_in_cell(token),
+        _ => None,
     }
 }
 
@@ -123,8 +193,8 @@ fn uses_body(mode: Mode, token: &Token<'_>) -> bool
 pub(crate) fn usual_row<'p, B: Below>(view: &View<'p, B>, token: &Token<'p>) -> Option<UsualRow>
     ensures { IfSome result (λ row. IsUsual (split_of view.now) token.now row) }
 {
-    if is_in_html(&view.change.stack) && uses_body(view.change.mode, token) {
-        usual_in_body(token)
+    if is_in_html(&view.change.stack) {
+        usual_in_mode(view.change.mode, token)
     } else {
         None
     }
@@ -164,6 +234,14 @@ fn carry_usual<'p, B: Below>(
         UsualRow::Closes(row) => {
             let name = into_name(alloc, token)?;
             close(alloc, view, name, row)
+        }
+        UsualRow::Begins(part) => {
+            let tag = into_tag(alloc, token)?;
+            begin(alloc, view, tag, part)
+        }
+        UsualRow::Ends(part) => {
+            let name = into_name(alloc, token)?;
+            end(alloc, view, name, part)
         }
     }
 }
@@ -205,9 +283,44 @@ fn close<'p, B: Below>(
     }
 }
 
+#[inline(always)]
+fn begin<'p, B: Below>(
+    alloc: Global,
+    view: &mut View<'p, B>,
+    tag: Tag,
+    part: TablePart,
+) -> Result<(), Refusal>
+    requires html { tag.namespace ≡ Html }
+    ensures { Carries result (sight B.heard view.old) (sight B.heard view.new) (begin_plan part tag) }
+{
+    match part {
+        TablePart::Row => begin_row(alloc, view, tag),
+        TablePart::Cell => begin_cell(alloc, view, tag),
+    }
+}
+
+#[inline(always)]
+fn end<'p, B: Below>(
+    alloc: Global,
+    view: &mut View<'p, B>,
+    name: Name,
+    part: TablePart,
+) -> Result<(), Refusal>
+    ensures { Carries result (sight B.heard view.old) (sight B.heard view.new) (end_plan part name) }
+{
+    match part {
+        TablePart::Row => end_row(alloc, view),
+        TablePart::Cell => end_cell(alloc, view, name),
+    }
+}
+
 /// Inserts an HTML element.
 #[inline(always)]
-fn insert<'p, B: Below>(alloc: Global, view: &mut View<'p, B>, tag: Tag) -> Result<(), Refusal>
+pub(crate) fn insert<'p, B: Below>(
+    alloc: Global,
+    view: &mut View<'p, B>,
+    tag: Tag,
+) -> Result<(), Refusal>
     requires html { tag.namespace ≡ Html }
     ensures { Carries result (sight B.heard view.old) (sight B.heard view.new) (insert_plan false tag) }
 {
