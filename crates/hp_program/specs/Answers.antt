@@ -1,8 +1,9 @@
 -- What a run answers, and why.
-use Rattle.std.specs.Prelude.{◌≡◌, ◌⊎◌, ℕ, ◌<◌, ◌≤◌, List, length, take, IsUtf8, Option}
+use Rattle.std.specs.Prelude.{◌≡◌, ◌⊎◌, ℕ, ◌<◌, ◌≤◌, List, length, IsUtf8, Option}
 use Rattle.std.specs.Io.KnownBytes.{append_known}
 use Rattle.hp_text.specs.declared.reading.TheConstants.{PAGE_LIMIT}
 use Rattle.hp_control.specs.Tree.{Tree}
+use Rattle.hp_print.specs.Out.{TakesPart}
 use Rattle.hp_print.specs.Print.{print}
 use Rattle.hp_names.specs.BuiltIn.{built_in}
 use Rattle.hp_run.specs.Pages.{IsTreeOf}
@@ -34,10 +35,6 @@ pub record ComesExactly (answer : Status) (cause : Type 0) (result : Status) (re
   pub only : result ≡ answer → cause
   pub always : cause → (result ≡ answer) ⊎ (result ≡ NoMemory) ⊎ ((result ≡ ReadFault) × read_rose)
 
--- the text's first bytes were taken, and not all of them
-abbrev pub TakesPart : List ℕ → Option (List ℕ) → Option (List ℕ) → Type 0
-TakesPart text old new = (n : ℕ) × (n < length text) × (new ≡ append_known old (take n text))
-
 -- the printed text of a tree was taken, and nothing else
 abbrev pub TakesTree : Option (List ℕ) → Option (List ℕ) → Type 0
 TakesTree old new = (tree : Tree) × (new ≡ append_known old (print tree))
@@ -50,10 +47,6 @@ TakesTreePart old new = (tree : Tree) × TakesPart (print tree) old new
 abbrev pub IsPageTree : List ℕ → Tree → Type 0
 IsPageTree bytes tree = IsTreeOf built_in (page_text bytes) tree
 
--- the printed text of the tree of a text
-abbrev pub IsPrinted : List ℕ → List ℕ → Type 0
-IsPrinted page text = (tree : Tree) × IsTreeOf built_in page tree × (text ≡ print tree)
-
 -- the printed text of the tree of a text was taken, and nothing else
 abbrev pub TakesTreeOf : List ℕ → Option (List ℕ) → Option (List ℕ) → Type 0
 TakesTreeOf page old new = (tree : Tree) × IsTreeOf built_in page tree × (new ≡ append_known old (print tree))
@@ -61,10 +54,6 @@ TakesTreeOf page old new = (tree : Tree) × IsTreeOf built_in page tree × (new 
 -- the first bytes of it were taken, and not all of them
 abbrev pub TakesTreePartOf : List ℕ → Option (List ℕ) → Option (List ℕ) → Type 0
 TakesTreePartOf page old new = (tree : Tree) × IsTreeOf built_in page tree × TakesPart (print tree) old new
-
--- the printed text of the page's tree
-abbrev pub IsPageText : List ℕ → List ℕ → Type 0
-IsPageText bytes text = IsPrinted (page_text bytes) text
 
 -- the printed text of the page's tree was taken, and nothing else
 abbrev pub TakesPage : List ℕ → Option (List ℕ) → Option (List ℕ) → Type 0

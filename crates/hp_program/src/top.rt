@@ -1,11 +1,10 @@
 //! The top call.
-ghost use Rattle.std.specs.Prelude.{◌≡◌, ◌≢◌, ◌⊎◌, ◌↔◌, ◌+◌, ◌≤◌, Some, Ok, Err, [], false, length, IfOk, OnOk, IfErr, IfSome, IsUtf8};
-ghost use Rattle.std.specs.Result.{IsOk, IsErr};
+ghost use Rattle.std.specs.Prelude.{◌≡◌, ◌≢◌, ◌⊎◌, ◌↔◌, ◌+◌, ◌≤◌, Some, Err, [], length, OnOk, IfSome};
+ghost use Rattle.std.specs.Result.{IsOk};
 ghost use Rattle.hp_text.specs.Device.{Rose, Gives};
-ghost use Rattle.hp_program.specs.Answers.{IsTooLarge, IsNotText, IsText, IsPageText, IsPrinted, ComesExactly, TakesPart, TakesTree, TakesTreePart, TakesPage, TakesPagePart};
+ghost use Rattle.hp_program.specs.Answers.{IsTooLarge, IsNotText, IsText, ComesExactly, TakesTree, TakesTreePart, TakesTreeOf, TakesTreePartOf, TakesPage, TakesPagePart};
 ghost use Rattle.hp_text.specs.Page.{text_of};
 ghost use Rattle.std.specs.Str.{chars};
-ghost use Rattle.std.specs.Io.KnownBytes.{append_known};
 
 use crate::gate::Gate;
 use crate::status::Status;
@@ -61,7 +60,19 @@ fn status_of(outcome: Result<(), Refusal>) -> Status
     }
 }
 
+/// Writes the printed tree of a page to `out`, and answers the status.
+fn put_page<K: Sink>(alloc: Global, page: Page<'_>, out: &mut K) -> Status
+    ensures answers { (result ≡ Status.Done) ⊎ (result ≡ Status.WriteFault) ⊎ (result ≡ Status.NoMemory) }
+    ensures done { result ≡ Status.Done → TakesTreeOf (chars (text_of page.entry)) (K.taken out.old) (K.taken out.new) }
+    ensures write_fault { result ≡ Status.WriteFault → Rose (K.faults out.old) (K.faults out.new) }
+    ensures part { result ≡ Status.WriteFault → TakesTreePartOf (chars (text_of page.entry)) (K.taken out.old) (K.taken out.new) }
+    ensures nothing { result ≡ Status.NoMemory → out.new ≡ out.old }
+{
+    status_of(write_page(alloc, page, out))
+}
+
 /// Writes the printed tree of the page of these bytes to `out`.
+#[tactic(auto, using(crate::proofs::Written::takes_page, crate::proofs::Written::takes_page_part))]
 fn put_tree<K: Sink>(alloc: Global, bytes: &[u8], out: &mut K) -> Status
     requires { length bytes.now ≤ PAGE_LIMIT }
     ensures answers { (result ≡ Status.Done) ⊎ (result ≡ Status.WriteFault) ⊎ (result ≡ Status.NotUtf8) ⊎ (result ≡ Status.NoMemory) }
@@ -74,7 +85,7 @@ fn put_tree<K: Sink>(alloc: Global, bytes: &[u8], out: &mut K) -> Status
     ensures nothing { result ≢ Status.Done → result ≢ Status.WriteFault → out.new ≡ out.old }
 {
     match check_page(bytes) {
-        Ok(page) => status_of(write_page(alloc, page, out)),
+        Ok(page) => put_page(alloc, page, out),
         Err(_) => Status::NotUtf8,
     }
 }

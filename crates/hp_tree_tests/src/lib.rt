@@ -5,3 +5,5 @@
 mod printing;
 #[cfg(test)]
 mod tree;
+#[cfg(test)]
+mod writing;

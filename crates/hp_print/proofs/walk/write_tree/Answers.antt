@@ -1,0 +1,26 @@
+use Rattle.std.proofs.Common.{subst}
+use Rattle.hp_print.specs.Out.{Outcome, Sight}
+use Rattle.hp_print.specs.Print.{print}
+use Rattle.hp_print.proofs.Pieces.{written}
+use Rattle.hp_print.proofs.walk.write_tree.Goals as goal
+
+pub returns-then-finish-clause-whole : goal.returns-then-finish-clause-whole
+returns-then-finish-clause-whole g c =
+    let start : Sight = (g.K.Sink.taken c.args.sink.now, g.K.Sink.faults c.args.sink.now) in
+    let end : Sight = (g.K.Sink.taken c.finish.new.sink, g.K.Sink.faults c.finish.new.sink) in
+    let text = print c.args.tree.now.branches in
+    subst (λ done. Outcome done start end text) c.if-finish.true (written _ _ _ _ _ _ _ c.in-Ok-new.ensures c.print_all.ensures c.finish.ensures)
+
+pub returns-clause-part : goal.returns-clause-part
+returns-clause-part g c = λ _.
+    let start : Sight = (g.K.Sink.taken c.args.sink.now, g.K.Sink.faults c.args.sink.now) in
+    let end : Sight = (g.K.Sink.taken c.finish.new.sink, g.K.Sink.faults c.finish.new.sink) in
+    let text = print c.args.tree.now.branches in
+    (subst (λ done. Outcome done start end text) c.if-finish.false (written _ _ _ _ _ _ _ c.in-Ok-new.ensures c.print_all.ensures c.finish.ensures)).part
+
+pub returns-clause-failed : goal.returns-clause-failed
+returns-clause-failed g c = λ _.
+    let start : Sight = (g.K.Sink.taken c.args.sink.now, g.K.Sink.faults c.args.sink.now) in
+    let end : Sight = (g.K.Sink.taken c.finish.new.sink, g.K.Sink.faults c.finish.new.sink) in
+    let text = print c.args.tree.now.branches in
+    (subst (λ done. Outcome done start end text) c.if-finish.false (written _ _ _ _ _ _ _ c.in-Ok-new.ensures c.print_all.ensures c.finish.ensures)).rose

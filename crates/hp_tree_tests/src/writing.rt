@@ -1,0 +1,103 @@
+//! Trees whose text goes to an output.
+
+use hp_arena::Tree;
+use hp_control::{Child, Edit, Edits, Place, Ref};
+use hp_elements::{Chain, Known, Name, Namespace, NoMemory, Tag, Text};
+use hp_print::{Refusal, print_tree, write_tree};
+use hp_text::MemorySink;
+use std::alloc::Global;
+use std::process::Abort;
+use std::test::Fail;
+
+/// Makes room for 64 edits without attributes.
+fn make_room(alloc: Global, tree: &mut Tree<'static>) -> Result<(), NoMemory> {
+    let mut edits = Edits::new();
+    for _ in 0..64 {
+        let node = Ref::Fixed(0);
+        edits.push(alloc, Edit::Detach { node })?;
+    }
+    tree.reserve(alloc, &edits)
+}
+
+/// Makes an edit.
+fn make(
+    rt: &impl Abort,
+    alloc: Global,
+    tree: &mut Tree<'static>,
+    edit: Edit<'static>,
+) -> Result<(), NoMemory> {
+    if tree.spare() < 16 {
+        make_room(alloc, tree)?;
+    }
+    let room = edit.room();
+    assert!(rt; room <= tree.spare());
+    tree.apply(edit);
+    Ok(())
+}
+
+/// Puts so many empty comments into the document, whose text takes 12 bytes for each.
+fn put_comments(
+    rt: &impl Abort,
+    alloc: Global,
+    tree: &mut Tree<'static>,
+    comments: u64,
+) -> Result<(), NoMemory> {
+    for _ in 0..comments {
+        let child = Child::Comment(Text::new());
+        let place = Place::Into(Ref::Fixed(0));
+        make(rt, alloc, tree, Edit::Put { child, place })?;
+    }
+    Ok(())
+}
+
+/// Puts so many elements into the document, each into the one before.
+fn put_elements(
+    rt: &impl Abort,
+    alloc: Global,
+    tree: &mut Tree<'static>,
+    elements: u64,
+) -> Result<(), NoMemory> {
+    for parent in 0..elements {
+        let tag = Tag {
+            namespace: Namespace::Html,
+            name: Name::of_known(Known::B),
+            attributes: Chain::new(),
+        };
+        make(rt, alloc, tree, Edit::NewElement { tag })?;
+        let child = Child::Element(Ref::Fixed(parent + 1));
+        let place = Place::Into(Ref::Fixed(parent));
+        make(rt, alloc, tree, Edit::Put { child, place })?;
+    }
+    Ok(())
+}
+
+/// What is gathered goes out behind 65,536 bytes. An output without room for all took the first part.
+#[test]
+fn an_output_that_ends_within_the_text(rt: HostRuntime) -> Result<(), Fail> {
+    let alloc = rt.alloc();
+    let mut tree = Tree::start(alloc)?;
+    put_comments(&rt, alloc, &mut tree, 10_000)?;
+    let text = print_tree(alloc, &tree)?;
+    assert_eq!(rt; text.len(), 120_000);
+    for room in [0usize, 1, 65_535, 65_536, 65_537, 100_000, 119_999] {
+        let mut out = MemorySink::new(alloc, room, &[])?;
+        assert!(rt; write_tree(alloc, &tree, &mut out) == Err(Refusal::Fault));
+        assert!(rt; out.taken() == &text[..room]);
+    }
+    let mut out = MemorySink::new(alloc, 120_000, &[])?;
+    assert!(rt; write_tree(alloc, &tree, &mut out).is_ok());
+    assert!(rt; out.taken() == text.as_slice());
+    Ok(())
+}
+
+/// The text of 200,000 elements, each in the one before, would take 40 GB.
+#[test]
+fn a_text_of_absurd_length_is_not_begun(rt: HostRuntime) -> Result<(), Fail> {
+    let alloc = rt.alloc();
+    let mut tree = Tree::start(alloc)?;
+    put_elements(&rt, alloc, &mut tree, 200_000)?;
+    let mut out = MemorySink::new(alloc, 1_000, &[])?;
+    assert!(rt; write_tree(alloc, &tree, &mut out) == Err(Refusal::NoMemory));
+    assert!(rt; out.taken().is_empty());
+    Ok(())
+}
