@@ -320,6 +320,11 @@ impl<'p> Parsing<'p> {
         leave_lexer(lexer);
         builder.into_tree()
     }
+
+    /// Gives the memory back.
+    pub fn leave(self) {
+        let _ = self.into_tree();
+    }
 }
 
 /// The lexer in the data state, before the first start tag: the last one's name counts as empty.

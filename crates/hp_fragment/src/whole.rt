@@ -16,8 +16,11 @@ pub fn parse_whole<'p>(alloc: Global, page: Page<'p>) -> Result<Tree<'p>, NoMemo
     ensures { IfOk result (λ tree. IsTreeOf built_in (chars (text_of page.entry)) tree.branches) }
 {
     let mut parsing = Parsing::of_page(alloc, page)?;
-    let done = parsing.read_all(alloc);
-    let tree = parsing.into_tree();
-    done?;
-    Ok(tree)
+    match parsing.read_all(alloc) {
+        Ok(()) => Ok(parsing.into_tree()),
+        Err(fault) => {
+            parsing.leave();
+            Err(fault)
+        }
+    }
 }
