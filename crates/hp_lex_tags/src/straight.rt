@@ -451,7 +451,7 @@ fn tell_last(alloc: Global, machine: &mut Machine, name: &Name) -> Result<(), No
 }
 
 /// The tag with this name and these attributes is whole.
-#[inline]
+#[inline(always)]
 fn finish<'p>(
     alloc: Global,
     machine: &mut Machine,
