@@ -3,7 +3,7 @@ use Rattle.std.proofs.Common.{◌≡◌, ℕ, suc, ◌-◌, ◌<◌, true, false
 use Rattle.std.specs.Prelude.{Bool, IfSome, if◌then◌else◌, not, ◌||◌, ◌&&◌}
 use Rattle.std.specs.Result.{IsErrAnd}
 use Rattle.hp_elements.specs.Names as names
-use Rattle.hp_elements.specs.Names.{text_of}
+use Rattle.hp_elements.specs.Names.{known_of, text_of}
 use Rattle.hp_elements.specs.Rules.{acts_for}
 use Rattle.hp_elements.specs.Tokens.{kind_of}
 use Rattle.hp_elements.specs.declared.act.Act.{Act}
@@ -31,7 +31,7 @@ use Rattle.hp_foreign.specs.Plans.{goes_on}
 use Rattle.hp_rules_body.specs.Body.{in_body}
 use Rattle.hp_rules_table.specs.TableModes.{in_cell, in_row, in_table_body}
 use Rattle.hp_rules_rest.specs.Whole.{every_mode_rows}
-use Rattle.hp_views.specs.ClosingPlans.{close_item_plan, close_paragraph_plan, implied_except_plan, implied_plan}
+use Rattle.hp_views.specs.ClosingPlans.{close_description_plan, close_item_plan, close_paragraph_plan, implied_except_plan, implied_plan}
 use Rattle.hp_views.specs.FieldPlans.{frameset_plan, switch_plan}
 use Rattle.hp_views.specs.ListPlans.{clear_plan, marker_plan}
 use Rattle.hp_views.specs.PlacePlans.{insert_plan}
@@ -42,8 +42,9 @@ use Rattle.hp_model.specs.Tokens.{bare, name_of}
 use Rattle.hp_acts.specs.HandlePlans.{all_turns_plan, most_turns, turns_plan, where_again}
 use Rattle.hp_acts.specs.Handling.{Handles, nothing_asked}
 use Rattle.hp_acts.specs.RowPlans.{Reached, Came, left, acts_plan, changed, dispatched, is_early, mode_plan, nothing_more, rules_plan, turn_plan, where_left}
+use Rattle.hp_acts.specs.Plans.{implied_but_plan}
 use Rattle.hp_acts.specs.Spending.{html_tag}
-use Rattle.hp_acts.specs.Usual.{HasIn, HasRow, IsUsual, block_end_by, cell_end_by, item_end_by, paragraph_end_by, row_end_by, usual_acts, usual_plan}
+use Rattle.hp_acts.specs.Usual.{HasIn, HasRow, IsUsual, block_end_by, cell_end_by, description_end_by, item_end_by, paragraph_end_by, row_end_by, usual_acts, usual_plan}
 use Rattle.hp_acts.specs.declared.usual.Closing.TheVariants as closing
 use Rattle.hp_acts.specs.declared.usual.Opening.TheVariants as opening
 use Rattle.hp_acts.specs.declared.usual.TablePart.TheVariants as part
@@ -89,6 +90,18 @@ block_end_row : (depth : ℕ) (t : Token) (r : Reached) → Same depth (Closes c
 block_end_row depth t r =
     follow_assoc (in_scope_plan scope.Default (kinds.Html (name_of t)) r.split) (block_end_by (name_of t) r.split) (ended r)
     ∙ ap (λ (next : Bool → Plan Came). followed_by (in_scope_plan scope.Default (kinds.Html (name_of t)) r.split) next) (λ i. λ b. block_rest depth t r b i)
+
+description_row : (depth : ℕ) (t : Token) (r : Reached) → Same depth (Opens opening.Description) t r
+description_row depth t r = four (frameset_plan r.split) close_description_plan close_paragraph_plan (insert_plan false (html_tag t)) (ended r)
+
+description_rest : (depth : ℕ) (t : Token) (r : Reached) (b : Bool) → followed_by (description_end_by (name_of t) r.split b) (ended r) ≡ acts_plan (rules_plan depth t) nothing_more false t 1 (if b then 1 else 3) (act.ImpliedExcept Its ∷ act.Through Its ∷ []) r
+description_rest depth t r true = follow_assoc (implied_but_plan (known_of (name_of t)) r.split) (through_plan (kinds.Html (name_of t)) kinds.Nothing) (ended r)
+description_rest depth t r false = refl
+
+description_end_row : (depth : ℕ) (t : Token) (r : Reached) → Same depth (Closes closing.Description) t r
+description_end_row depth t r =
+    follow_assoc (in_scope_plan scope.Default (kinds.Html (name_of t)) r.split) (description_end_by (name_of t) r.split) (ended r)
+    ∙ ap (λ (next : Bool → Plan Came). followed_by (in_scope_plan scope.Default (kinds.Html (name_of t)) r.split) next) (λ i. λ b. description_rest depth t r b i)
 
 item_rest : (depth : ℕ) (t : Token) (r : Reached) (b : Bool) → followed_by (item_end_by r.split b) (ended r) ≡ acts_plan (rules_plan depth t) nothing_more false t 1 (if b then 1 else 3) (act.ImpliedExcept (Named known.Li) ∷ act.Through (Named known.Li) ∷ []) r
 unfolding names.known_of
@@ -136,11 +149,13 @@ table_cell_end depth t r =
 row_runs : (depth : ℕ) (row : UsualRow) (t : Token) (r : Reached) → Same depth row t r
 row_runs depth (Opens opening.Block) t r = block_row depth t r
 row_runs depth (Opens opening.Item) t r = item_row depth t r
+row_runs depth (Opens opening.Description) t r = description_row depth t r
 row_runs depth (Opens opening.Link) t r = link_row depth t r
 row_runs depth (Opens opening.Formatting) t r = formatting_row depth t r
 row_runs depth (Opens opening.Ordinary) t r = ordinary_row depth t r
 row_runs depth (Closes closing.Block) t r = block_end_row depth t r
 row_runs depth (Closes closing.Item) t r = item_end_row depth t r
+row_runs depth (Closes closing.Description) t r = description_end_row depth t r
 row_runs depth (Closes closing.Paragraph) t r = paragraph_end_row depth t r
 row_runs depth (Closes closing.Formatting) t r = refl
 row_runs depth (Closes closing.Ordinary) t r = refl

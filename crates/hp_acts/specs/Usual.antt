@@ -1,7 +1,7 @@
 -- The usual rows of the body and of tables, by their acts, and what each of them asks and changes (13.2.6.4.7, 13.2.6.4.13 to
 -- 13.2.6.4.15).
 use Rattle.std.specs.Prelude.{◌≡◌, ◌⊎◌, ℕ, Bool, true, false, List, [], ◌∷◌}
-use Rattle.hp_elements.specs.Names.{text_of}
+use Rattle.hp_elements.specs.Names.{known_of, text_of}
 use Rattle.hp_elements.specs.Rules.{Row, acts_for}
 use Rattle.hp_elements.specs.Tokens.{kind_of}
 use Rattle.hp_elements.specs.declared.act.Act.{Act}
@@ -24,13 +24,14 @@ use Rattle.hp_adoption.specs.LinkPlans.{close_link_plan}
 use Rattle.hp_adoption.specs.ReconPlans.{reconstruct_plan}
 use Rattle.hp_rules_body.specs.Body.{in_body}
 use Rattle.hp_rules_table.specs.TableModes.{in_cell, in_row, in_table_body}
-use Rattle.hp_views.specs.ClosingPlans.{close_item_plan, close_paragraph_plan, implied_except_plan, implied_plan, walk_plan}
+use Rattle.hp_views.specs.ClosingPlans.{close_description_plan, close_item_plan, close_paragraph_plan, implied_except_plan, implied_plan, walk_plan}
 use Rattle.hp_views.specs.FieldPlans.{frameset_plan, switch_plan}
 use Rattle.hp_views.specs.ListPlans.{clear_plan, marker_plan}
 use Rattle.hp_views.specs.PlacePlans.{insert_plan}
 use Rattle.hp_views.specs.StackPlans.{in_scope_plan, pop_plan, pop_to_plan, through_plan}
 use Rattle.hp_model.specs.Texts.{has_html_top}
 use Rattle.hp_model.specs.Tokens.{bare, name_of}
+use Rattle.hp_acts.specs.Plans.{implied_but_plan}
 use Rattle.hp_acts.specs.Spending.{html_tag}
 use Rattle.hp_acts.specs.declared.usual.Closing.{Closing}
 use Rattle.hp_acts.specs.declared.usual.Closing.TheVariants as closing
@@ -44,6 +45,7 @@ use Rattle.hp_acts.specs.declared.usual.UsualRow.TheVariants.{Begins, Closes, En
 abbrev pub opening_acts : Opening → List Act
 opening_acts opening.Block = act.CloseParagraph ∷ act.Insert ∷ []
 opening_acts opening.Item = act.FramesetNotOk ∷ act.CloseItem ∷ act.CloseParagraph ∷ act.Insert ∷ []
+opening_acts opening.Description = act.FramesetNotOk ∷ act.CloseDescription ∷ act.CloseParagraph ∷ act.Insert ∷ []
 opening_acts opening.Link = act.CloseLink ∷ act.Reconstruct ∷ act.Insert ∷ act.AppendToList ∷ []
 opening_acts opening.Formatting = act.Reconstruct ∷ act.Insert ∷ act.AppendToList ∷ []
 opening_acts opening.Ordinary = act.Reconstruct ∷ act.Insert ∷ []
@@ -51,6 +53,7 @@ opening_acts opening.Ordinary = act.Reconstruct ∷ act.Insert ∷ []
 abbrev pub closing_acts : Closing → List Act
 closing_acts closing.Block = act.If (test.InScope scope.Default Its) 3 ∷ act.Implied ∷ act.Through Its ∷ []
 closing_acts closing.Item = act.If (test.InScope scope.ListItem (Named known.Li)) 3 ∷ act.ImpliedExcept (Named known.Li) ∷ act.Through (Named known.Li) ∷ []
+closing_acts closing.Description = act.If (test.InScope scope.Default Its) 3 ∷ act.ImpliedExcept Its ∷ act.Through Its ∷ []
 closing_acts closing.Paragraph = act.Unless (test.InScope scope.Button (Named known.P)) 2 ∷ act.InsertBare known.P ∷ act.CloseParagraph ∷ []
 closing_acts closing.Formatting = act.Adopt Its ∷ []
 closing_acts closing.Ordinary = act.Walk ∷ []
@@ -97,6 +100,12 @@ item_after_plan tag v = followed_by (close_item_plan v) (block_plan tag)
 abbrev pub item_plan : Tag → Split → Plan Split
 item_plan tag v = followed_by (frameset_plan v) (item_after_plan tag)
 
+abbrev pub description_after_plan : Tag → Split → Plan Split
+description_after_plan tag v = followed_by (close_description_plan v) (block_plan tag)
+
+abbrev pub description_plan : Tag → Split → Plan Split
+description_plan tag v = followed_by (frameset_plan v) (description_after_plan tag)
+
 abbrev pub listed_plan : Tag → Split → Plan Split
 listed_plan tag v = followed_by (insert_plan false tag v) (append_to_list_plan tag)
 
@@ -112,6 +121,7 @@ ordinary_plan tag v = followed_by (reconstruct_plan false v) (insert_plan false 
 abbrev pub opening_plan : Opening → Tag → Split → Plan Split
 opening_plan opening.Block = block_plan
 opening_plan opening.Item = item_plan
+opening_plan opening.Description = description_plan
 opening_plan opening.Link = link_plan
 opening_plan opening.Formatting = formatting_plan
 opening_plan opening.Ordinary = ordinary_plan
@@ -131,6 +141,13 @@ item_end_by v false = gives v
 abbrev pub item_end_plan : Split → Plan Split
 item_end_plan v = followed_by (in_scope_plan scope.ListItem (kinds.Html (text_of known.Li)) v) (item_end_by v)
 
+abbrev pub description_end_by : List ℕ → Split → Bool → Plan Split
+description_end_by name v true = followed_by (implied_but_plan (known_of name) v) (through_plan (kinds.Html name) kinds.Nothing)
+description_end_by name v false = gives v
+
+abbrev pub description_end_plan : List ℕ → Split → Plan Split
+description_end_plan name v = followed_by (in_scope_plan scope.Default (kinds.Html name) v) (description_end_by name v)
+
 -- where no p is in scope, an empty one is made
 abbrev pub paragraph_end_by : Split → Bool → Plan Split
 paragraph_end_by v true = close_paragraph_plan v
@@ -142,6 +159,7 @@ paragraph_end_plan v = followed_by (in_scope_plan scope.Button (kinds.Html (text
 abbrev pub closing_plan : Closing → List ℕ → Split → Plan Split
 closing_plan closing.Block name = block_end_plan name
 closing_plan closing.Item name = item_end_plan
+closing_plan closing.Description name = description_end_plan name
 closing_plan closing.Paragraph name = paragraph_end_plan
 closing_plan closing.Formatting name = adopt_plan false name
 closing_plan closing.Ordinary name = walk_plan name

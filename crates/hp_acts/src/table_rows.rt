@@ -11,6 +11,7 @@ use hp_views::View;
 use std::alloc::Global;
 
 /// A row begins.
+#[inline(never)]
 pub(crate) fn begin_row<'p, B: Below>(
     alloc: Global,
     view: &mut View<'p, B>,
@@ -33,6 +34,7 @@ fn enter_row<'p, B: Below>(alloc: Global, view: &mut View<'p, B>, tag: Tag) -> R
 }
 
 /// A cell begins.
+#[inline(never)]
 pub(crate) fn begin_cell<'p, B: Below>(
     alloc: Global,
     view: &mut View<'p, B>,
@@ -63,6 +65,7 @@ fn mark_cell<'p, B: Below>(alloc: Global, view: &mut View<'p, B>) -> Result<(), 
 }
 
 /// A row ends.
+#[inline(never)]
 pub(crate) fn end_row<'p, B: Below>(alloc: Global, view: &mut View<'p, B>) -> Result<(), Refusal>
     ensures { Carries result (sight B.heard view.old) (sight B.heard view.new) row_end_plan }
 {
@@ -97,6 +100,7 @@ fn leave_row<'p, B: Below>(alloc: Global, view: &mut View<'p, B>) -> Result<(), 
 }
 
 /// A cell ends.
+#[inline(never)]
 pub(crate) fn end_cell<'p, B: Below>(
     alloc: Global,
     view: &mut View<'p, B>,

@@ -1,6 +1,7 @@
 //! The usual rows of the body and of tables, carried out without the table of rows: a short way to what it says (13.2.6.4.7,
 //! 13.2.6.4.13 to 13.2.6.4.15).
 ghost use Rattle.std.specs.Prelude.{◌≡◌, [], ◌∷◌, false, true, IfSome};
+ghost use Rattle.hp_elements.specs.Names.{known_of};
 ghost use Rattle.hp_elements.specs.Rules.{acts_for, acts_numbered};
 ghost use Rattle.hp_elements.specs.Tokens.{kind_of};
 ghost use Rattle.hp_elements.specs.declared.act.Act.TheVariants.{As};
@@ -14,7 +15,8 @@ ghost use Rattle.hp_views.specs.View.{sight, split_of, Carries};
 ghost use Rattle.hp_views.specs.PlacePlans.{insert_plan};
 ghost use Rattle.hp_acts.specs.HandlePlans.{all_turns_plan};
 ghost use Rattle.hp_acts.specs.Handling.{Handles};
-ghost use Rattle.hp_acts.specs.Usual.{HasIn, HasRow, IsUsual, begin_plan, block_end_by, block_end_plan, block_plan, closing_plan, end_plan, formatting_plan, item_after_plan, item_end_by, item_end_plan, item_plan, link_plan, listed_plan, opening_plan, ordinary_plan, paragraph_end_by, paragraph_end_plan, usual_acts, usual_plan};
+ghost use Rattle.hp_acts.specs.Plans.{implied_but_plan};
+ghost use Rattle.hp_acts.specs.Usual.{HasIn, HasRow, IsUsual, begin_plan, block_end_by, block_end_plan, block_plan, closing_plan, description_after_plan, description_end_by, description_end_plan, description_plan, end_plan, formatting_plan, item_after_plan, item_end_by, item_end_plan, item_plan, link_plan, listed_plan, opening_plan, ordinary_plan, paragraph_end_by, paragraph_end_plan, usual_acts, usual_plan};
 
 use crate::plain::is_in_html;
 use crate::table_rows::{begin_cell, begin_row, end_cell, end_row};
@@ -33,6 +35,8 @@ pub(crate) enum Opening {
     Block,
     /// A list item.
     Item,
+    /// A term or its description.
+    Description,
     /// A link.
     Link,
     /// A formatting element.
@@ -45,6 +49,7 @@ pub(crate) enum Opening {
 pub(crate) enum Closing {
     Block,
     Item,
+    Description,
     Paragraph,
     Formatting,
     Ordinary,
@@ -73,9 +78,11 @@ fn usual_numbered(number: u16) -> Option<UsualRow>
     match number {
         12 => Some(UsualRow::Opens(Opening::Block)),
         16 => Some(UsualRow::Opens(Opening::Item)),
+        17 => Some(UsualRow::Opens(Opening::Description)),
         20 => Some(UsualRow::Closes(Closing::Block)),
         22 => Some(UsualRow::Closes(Closing::Paragraph)),
         23 => Some(UsualRow::Closes(Closing::Item)),
+        24 => Some(UsualRow::Closes(Closing::Description)),
         26 => Some(UsualRow::Opens(Opening::Link)),
         28 => Some(UsualRow::Opens(Opening::Formatting)),
         29 => Some(UsualRow::Closes(Closing::Formatting)),
@@ -259,6 +266,7 @@ fn open<'p, B: Below>(
     match row {
         Opening::Block => open_block(alloc, view, tag),
         Opening::Item => open_item(alloc, view, tag),
+        Opening::Description => open_description(alloc, view, tag),
         Opening::Link => open_link(alloc, view, tag),
         Opening::Formatting => open_formatting(alloc, view, tag),
         Opening::Ordinary => open_ordinary(alloc, view, tag),
@@ -277,6 +285,7 @@ fn close<'p, B: Below>(
     match row {
         Closing::Block => close_block(alloc, view, name),
         Closing::Item => close_item(alloc, view),
+        Closing::Description => close_description(alloc, view, name),
         Closing::Paragraph => close_paragraph(alloc, view),
         Closing::Formatting => adopt(alloc, view, false, name),
         Closing::Ordinary => view.walk(alloc, name),
@@ -335,6 +344,7 @@ fn open_block<'p, B: Below>(alloc: Global, view: &mut View<'p, B>, tag: Tag) -> 
     insert(alloc, view, tag)
 }
 
+#[inline(always)]
 fn open_item<'p, B: Below>(alloc: Global, view: &mut View<'p, B>, tag: Tag) -> Result<(), Refusal>
     requires html { tag.namespace ≡ Html }
     ensures { Carries result (sight B.heard view.old) (sight B.heard view.new) (item_plan tag) }
@@ -357,6 +367,34 @@ fn open_item_after<'p, B: Below>(
     open_block(alloc, view, tag)
 }
 
+#[inline(never)]
+fn open_description<'p, B: Below>(
+    alloc: Global,
+    view: &mut View<'p, B>,
+    tag: Tag,
+) -> Result<(), Refusal>
+    requires html { tag.namespace ≡ Html }
+    ensures { Carries result (sight B.heard view.old) (sight B.heard view.new) (description_plan tag) }
+{
+    view.frameset_not_ok(alloc)?;
+    open_description_after(alloc, view, tag)
+}
+
+/// Closes the term or description before, and opens this one.
+#[inline(always)]
+fn open_description_after<'p, B: Below>(
+    alloc: Global,
+    view: &mut View<'p, B>,
+    tag: Tag,
+) -> Result<(), Refusal>
+    requires html { tag.namespace ≡ Html }
+    ensures { Carries result (sight B.heard view.old) (sight B.heard view.new) (description_after_plan tag) }
+{
+    view.close_description(alloc)?;
+    open_block(alloc, view, tag)
+}
+
+#[inline(always)]
 fn open_link<'p, B: Below>(alloc: Global, view: &mut View<'p, B>, tag: Tag) -> Result<(), Refusal>
     requires html { tag.namespace ≡ Html }
     ensures { Carries result (sight B.heard view.old) (sight B.heard view.new) (link_plan tag) }
@@ -392,6 +430,7 @@ fn insert_listed<'p, B: Below>(
     append_to_list(alloc, view, listed)
 }
 
+#[inline(always)]
 fn open_ordinary<'p, B: Below>(
     alloc: Global,
     view: &mut View<'p, B>,
@@ -404,6 +443,7 @@ fn open_ordinary<'p, B: Below>(
     insert(alloc, view, tag)
 }
 
+#[inline(always)]
 fn close_block<'p, B: Below>(
     alloc: Global,
     view: &mut View<'p, B>,
@@ -434,6 +474,7 @@ fn end_block<'p, B: Below>(
     }
 }
 
+#[inline(always)]
 fn close_item<'p, B: Below>(alloc: Global, view: &mut View<'p, B>) -> Result<(), Refusal>
     ensures { Carries result (sight B.heard view.old) (sight B.heard view.new) item_end_plan }
 {
@@ -456,6 +497,51 @@ fn end_item<'p, B: Below>(
         view.through_named(alloc, Name::of_known(Known::Li))
     } else {
         Ok(())
+    }
+}
+
+#[inline(never)]
+fn close_description<'p, B: Below>(
+    alloc: Global,
+    view: &mut View<'p, B>,
+    name: Name,
+) -> Result<(), Refusal>
+    ensures { Carries result (sight B.heard view.old) (sight B.heard view.new) (description_end_plan name) }
+{
+    let goals = Kinds::Html(name.copy(alloc)?);
+    let is_open = view.in_scope(alloc, Scope::Default, goals)?;
+    end_description(alloc, view, name, is_open)
+}
+
+/// Closes the term or description with what its end implies, where it is in scope.
+#[inline(always)]
+fn end_description<'p, B: Below>(
+    alloc: Global,
+    view: &mut View<'p, B>,
+    name: Name,
+    is_open: bool,
+) -> Result<(), Refusal>
+    ensures { Carries result (sight B.heard view.old) (sight B.heard view.new) (λ v. description_end_by name v is_open) }
+{
+    if is_open {
+        implied_but(alloc, view, &name)?;
+        view.through(alloc, Kinds::Html(name), Kinds::Nothing)
+    } else {
+        Ok(())
+    }
+}
+
+/// Generates implied end tags, but not that of the name.
+fn implied_but<'p, B: Below>(
+    alloc: Global,
+    view: &mut View<'p, B>,
+    name: &Name,
+) -> Result<(), Refusal>
+    ensures { Carries result (sight B.heard view.old) (sight B.heard view.new) (implied_but_plan (known_of name.now)) }
+{
+    match name.known() {
+        Some(known) => view.implied_except(alloc, known),
+        None => view.implied(alloc),
     }
 }
 
