@@ -3,100 +3,14 @@ ghost use Rattle.std.specs.Prelude.{◌≡◌, not};
 ghost use Rattle.hp_lexer.specs.Standing.{is_answered};
 
 use crate::cases::{CASES, Case};
+use crate::teller::{Teller, show};
 use hp_elements::{CharClass, Known, Name, Token};
 use hp_lexer::{Asked, Cursor, Lexer, NoMemory, Step};
 use hp_tokens::ORIGIN;
 use std::alloc::Global;
+use std::mem;
+use std::process::Abort;
 use std::test::Fail;
-
-/// Tells tokens, one behind the other: runs in brackets, other tokens with the place where they began.
-#[derive(Drop)]
-struct Teller {
-    text: String,
-    in_run: bool,
-    /// Whether places are told.
-    places: bool,
-    /// Whether texts and tags are read without the table, where they can be.
-    straight: bool,
-}
-
-impl Teller {
-    fn end_run(&mut self) -> Result<(), NoMemory> {
-        if self.in_run {
-            self.text.push(']')?;
-            self.in_run = false;
-        }
-        Ok(())
-    }
-
-    fn tell_part(&mut self, part: &Option<hp_elements::Text<'_>>) -> Result<(), NoMemory> {
-        match part {
-            None => self.text.push('-'),
-            Some(part) => {
-                let part = part.as_str();
-                write!(self.text, "({part})")?;
-                Ok(())
-            }
-        }
-    }
-
-    fn tell(&mut self, token: &Token<'_>) -> Result<(), NoMemory> {
-        if let Token::Characters { text, .. } = token {
-            if !self.in_run {
-                self.text.push('[')?;
-                self.in_run = true;
-            }
-            self.text.push_str(text.as_str())?;
-            return Ok(());
-        }
-        self.end_run()?;
-        match token {
-            Token::Characters { .. } => Ok(()),
-            Token::Start { self_closing, tag } => {
-                let name = tag.name.as_str();
-                write!(self.text, "<{name}")?;
-                for attribute in tag.attributes.iter() {
-                    let name = attribute.name.as_str();
-                    let value = attribute.value.as_str();
-                    write!(self.text, " {name}={value}")?;
-                }
-                self.text.push_str(if *self_closing { "/>" } else { ">" })
-            }
-            Token::EndTag { name } => {
-                let name = name.as_str();
-                write!(self.text, "</{name}>")?;
-                Ok(())
-            }
-            Token::Comment { text } => {
-                let text = text.as_str();
-                write!(self.text, "<!--{text}-->")?;
-                Ok(())
-            }
-            Token::Doctype { doctype } => {
-                let parts = doctype.parts();
-                self.text.push_str("<!")?;
-                self.tell_part(&parts.name)?;
-                self.text.push(' ')?;
-                self.tell_part(&parts.public)?;
-                self.text.push(' ')?;
-                self.tell_part(&parts.system)?;
-                self.text
-                    .push_str(if parts.force_quirks { " quirks>" } else { ">" })
-            }
-            Token::EndOfInput => self.text.push('$'),
-        }
-    }
-
-    fn tell_place(&mut self, token: &Token<'_>, began: u64) -> Result<(), NoMemory> {
-        if let Token::Characters { .. } = token {
-            return Ok(());
-        }
-        if self.places {
-            write!(self.text, "@{began}")?;
-        }
-        Ok(())
-    }
-}
 
 /// Reads a text or a tag without the table and tells it, and answers whether there was one.
 fn tell_straight(
@@ -112,28 +26,69 @@ fn tell_straight(
         Some(text) => Some(text),
         None => lexer.next_reference(input),
     };
-    if let Some(text) = text {
-        teller.tell(&Token::Characters {
+    let token = match text {
+        Some(text) => Some(Token::Characters {
             class: CharClass::Other,
             text,
-        })?;
-        return Ok(true);
+        }),
+        None => lexer.next_tag(alloc, input)?,
+    };
+    let Some(token) = token else {
+        return Ok(false);
+    };
+    let told = teller.tell(&token, lexer.rested.saturating_sub(ORIGIN));
+    mem::forget(token);
+    told?;
+    Ok(true)
+}
+
+/// How a text is read.
+#[derive(Clone, Copy)]
+struct Manner {
+    /// Whether there is an adjusted current node outside the HTML namespace.
+    foreign: bool,
+    /// Whether texts and tags are read without the table, where they can be.
+    straight: bool,
+}
+
+/// Tells the next tokens, or answers a question; and answers whether the text is used up.
+fn tell_next(
+    alloc: Global,
+    lexer: &mut Lexer,
+    manner: Manner,
+    input: &mut Cursor<'_>,
+    teller: &mut Teller,
+) -> Result<bool, NoMemory> {
+    if is_asking(lexer) || lexer.lex.ahead.len_bytes() > input.place() {
+        return Err(NoMemory);
     }
-    match lexer.next_tag(alloc, input)? {
-        None => Ok(false),
-        Some(token) => {
-            teller.tell(&token)?;
-            teller.tell_place(&token, lexer.rested.saturating_sub(ORIGIN))?;
-            Ok(true)
+    let done = match lexer.next(alloc, input)? {
+        Step::AtCut => return Ok(true),
+        Step::AskCdata => {
+            lexer.answer_cdata(manner.foreign);
+            Ok(())
         }
-    }
+        Step::AskLastTag => {
+            let name = Name::of_known(Known::Script);
+            let told = lexer.answer_last_tag(alloc, &name);
+            mem::forget(name);
+            told
+        }
+        Step::Tokens { began, tokens } => {
+            let told = teller.tell_all(tokens.as_slice(), began);
+            mem::forget(tokens);
+            told
+        }
+    };
+    done?;
+    Ok(false)
 }
 
 /// Tells the tokens of a piece of a text.
 fn tell_piece(
     alloc: Global,
     lexer: &mut Lexer,
-    foreign: bool,
+    manner: Manner,
     piece: &str,
     teller: &mut Teller,
 ) -> Result<(), NoMemory> {
@@ -142,22 +97,11 @@ fn tell_piece(
     }
     let mut input = Cursor::of_str(piece);
     for _ in 0..1000 {
-        if teller.straight && tell_straight(alloc, lexer, &mut input, teller)? {
+        if manner.straight && tell_straight(alloc, lexer, &mut input, teller)? {
             continue;
         }
-        if is_asking(lexer) || lexer.lex.ahead.len_bytes() > input.place() {
-            return Err(NoMemory);
-        }
-        match lexer.next(alloc, &mut input)? {
-            Step::AtCut => return Ok(()),
-            Step::AskCdata => lexer.answer_cdata(foreign),
-            Step::AskLastTag => lexer.answer_last_tag(alloc, &Name::of_known(Known::Script))?,
-            Step::Tokens { began, tokens } => {
-                for token in tokens.as_slice() {
-                    teller.tell(token)?;
-                    teller.tell_place(token, began)?;
-                }
-            }
+        if tell_next(alloc, lexer, manner, &mut input, teller)? {
+            return Ok(());
         }
     }
     Err(NoMemory)
@@ -176,7 +120,12 @@ fn is_asking(lexer: &Lexer) -> bool
 /// A lexer that goes on from the state of another.
 fn resumed(alloc: Global, lexer: &Lexer) -> Result<Lexer, NoMemory> {
     match lexer.asked {
-        Asked::Nothing => Lexer::from_state(alloc, &lexer.state(alloc)?),
+        Asked::Nothing => {
+            let state = lexer.state(alloc)?;
+            let next = Lexer::from_state(alloc, &state);
+            mem::forget(state);
+            next
+        }
         _ => Err(NoMemory),
     }
 }
@@ -184,16 +133,37 @@ fn resumed(alloc: Global, lexer: &Lexer) -> Result<Lexer, NoMemory> {
 /// Tells the tokens of the end of input.
 fn tell_end(alloc: Global, lexer: Lexer, teller: &mut Teller) -> Result<(), NoMemory> {
     if lexer.lex.ahead.len_bytes() > ORIGIN {
+        mem::forget(lexer);
         return Err(NoMemory);
     }
     match lexer.asked {
         Asked::Nothing => {
-            for token in lexer.finish(alloc)?.as_slice() {
-                teller.tell(token)?;
-            }
-            teller.end_run()
+            let tokens = lexer.finish(alloc)?;
+            let told = teller.tell_last(tokens.as_slice());
+            mem::forget(tokens);
+            told
         }
-        _ => Err(NoMemory),
+        _ => {
+            mem::forget(lexer);
+            Err(NoMemory)
+        }
+    }
+}
+
+/// Tells the tokens of a last piece, and of the end of input.
+fn tell_rest(
+    alloc: Global,
+    mut lexer: Lexer,
+    manner: Manner,
+    piece: &str,
+    teller: &mut Teller,
+) -> Result<(), NoMemory> {
+    match tell_piece(alloc, &mut lexer, manner, piece, teller) {
+        Ok(()) => tell_end(alloc, lexer, teller),
+        Err(fault) => {
+            mem::forget(lexer);
+            Err(fault)
+        }
     }
 }
 
@@ -207,18 +177,16 @@ fn lexed(
     straight: bool,
 ) -> Result<String, NoMemory> {
     let (rest, foreign, text, _) = *case;
-    let mut teller = Teller {
-        text: String::new(alloc),
-        in_run: false,
-        places,
-        straight,
-    };
+    let manner = Manner { foreign, straight };
+    let mut teller = Teller::new(alloc, places);
     let mut lexer = Lexer::at_rest(rest, false);
     let (first, second) = text.split_at_checked(cut).unwrap_or((text, ""));
-    tell_piece(alloc, &mut lexer, foreign, first, &mut teller)?;
-    let mut next = resumed(alloc, &lexer)?;
-    tell_piece(alloc, &mut next, foreign, second, &mut teller)?;
-    tell_end(alloc, next, &mut teller)?;
+    let next = match tell_piece(alloc, &mut lexer, manner, first, &mut teller) {
+        Ok(()) => resumed(alloc, &lexer),
+        Err(fault) => Err(fault),
+    };
+    mem::forget(lexer);
+    tell_rest(alloc, next?, manner, second, &mut teller)?;
     Ok(teller.text)
 }
 
@@ -227,32 +195,45 @@ fn agrees(alloc: Global, case: &Case, straight: bool) -> Result<bool, NoMemory> 
     Ok(lexed(alloc, case, case.2.len(), true, straight)?.as_str() == case.3)
 }
 
+/// Whether the tokens of a text that is cut there, without their places, are those that are wanted.
+fn is_lexed(
+    alloc: Global,
+    case: &Case,
+    cut: usize,
+    straight: bool,
+    wanted: &str,
+) -> Result<bool, NoMemory> {
+    Ok(lexed(alloc, case, cut, false, straight)?.as_str() == wanted)
+}
+
 /// Whether the tokens of a text that is cut there are those of the text in one piece.
 fn agrees_cut(alloc: Global, case: &Case, cut: usize) -> Result<bool, NoMemory> {
     let whole = lexed(alloc, case, case.2.len(), false, false)?;
-    Ok(
-        lexed(alloc, case, cut, false, true)?.as_str() == whole.as_str()
-            && lexed(alloc, case, cut, false, false)?.as_str() == whole.as_str(),
-    )
+    let straight = is_lexed(alloc, case, cut, true, whole.as_str());
+    let by_rows = is_lexed(alloc, case, cut, false, whole.as_str());
+    mem::forget(whole);
+    Ok(straight? && by_rows?)
 }
 
-#[test]
-fn lexes_as_the_standard_says(rt: HostRuntime) -> Result<(), Fail> {
-    for case in CASES {
-        let text = case.2;
-        assert!(rt; agrees(rt.alloc(), case, false)?, "{text}");
-        assert!(rt; agrees(rt.alloc(), case, true)?, "{text} straight");
+/// Compares a text, whole and cut at each place.
+fn compare_case(rt: &impl Abort, alloc: Global, case: &Case) -> Result<(), NoMemory> {
+    let text = case.2;
+    show(rt, agrees(alloc, case, false)?, text, text.len());
+    show(rt, agrees(alloc, case, true)?, text, text.len());
+    for (cut, _) in text.char_indices() {
+        show(rt, agrees_cut(alloc, case, cut)?, text, cut);
+    }
+    Ok(())
+}
+
+fn compare_all(rt: &impl Abort, alloc: Global, cases: &[Case]) -> Result<(), NoMemory> {
+    for case in cases {
+        compare_case(rt, alloc, case)?;
     }
     Ok(())
 }
 
 #[test]
-fn lexes_the_same_cut_at_each_place(rt: HostRuntime) -> Result<(), Fail> {
-    for case in CASES {
-        let text = case.2;
-        for (cut, _) in text.char_indices() {
-            assert!(rt; agrees_cut(rt.alloc(), case, cut)?, "{text} cut at {cut}");
-        }
-    }
-    Ok(())
+fn lexes_as_the_standard_says_whole_and_cut_at_each_place(rt: HostRuntime) -> Result<(), Fail> {
+    Ok(compare_all(&rt, rt.alloc(), CASES)?)
 }

@@ -13,3 +13,5 @@ mod names;
 mod raw;
 #[cfg(test)]
 mod tags;
+#[cfg(test)]
+mod teller;

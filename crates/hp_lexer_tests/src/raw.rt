@@ -1,8 +1,11 @@
 //! The tokens of short texts, whole and cut at each place, as an independent lexer gives them.
-use hp_elements::{Rest, Token, Tokens};
+use crate::teller::{Teller, show};
+use hp_elements::{Rest, Tokens};
 use hp_lex_raw::{advance, at_end, is_here};
 use hp_tokens::{Cursor, LexState, Machine, NoMemory, ORIGIN, OwnedText, State, Turn};
 use std::alloc::Global;
+use std::mem;
+use std::process::Abort;
 use std::test::Fail;
 
 /// A state, the last start tag's name (behind `?`, the lexer is told it once it asks), a text, and its tokens: runs in
@@ -301,54 +304,16 @@ const CASES: &[Case] = &[
     ),
 ];
 
-/// Tells tokens, one behind the other.
-#[derive(Drop)]
-struct Teller {
-    text: String,
-    in_run: bool,
-}
-
-impl Teller {
-    fn end_run(&mut self) -> Result<(), NoMemory> {
-        if self.in_run {
-            self.text.push(']')?;
-            self.in_run = false;
-        }
-        Ok(())
-    }
-
-    fn tell(&mut self, token: &Token<'_>, began: u64) -> Result<(), NoMemory> {
-        match token {
-            Token::Characters { text, .. } => {
-                if !self.in_run {
-                    self.text.push('[')?;
-                    self.in_run = true;
-                }
-                self.text.push_str(text.as_str())
-            }
-            Token::EndTag { name } => {
-                self.end_run()?;
-                let name = name.as_str();
-                write!(self.text, "</{name}>@{began}")
-            }
-            Token::EndOfInput => {
-                self.end_run()?;
-                self.text.push('$')
-            }
-            _ => self.text.push_str("other"),
-        }
-    }
-
-    fn tell_state(&mut self, state: State) -> Result<(), NoMemory> {
-        self.end_run()?;
-        self.text.push_str(match state {
-            State::Data => " to data",
-            State::BeforeAttributeName => " to attributes",
-            State::SelfClosingStartTag => " to slash",
-            State::CharacterReference => " to reference",
-            _ => " to another state",
-        })
-    }
+/// Tells the state in which another part of the lexer goes on.
+fn tell_state(teller: &mut Teller, state: State) -> Result<(), NoMemory> {
+    teller.end_run()?;
+    teller.text.push_str(match state {
+        State::Data => " to data",
+        State::BeforeAttributeName => " to attributes",
+        State::SelfClosingStartTag => " to slash",
+        State::CharacterReference => " to reference",
+        _ => " to another state",
+    })
 }
 
 /// One lexing of a text that is handed over in pieces.
@@ -368,13 +333,26 @@ impl Run {
         }
         Ok(Run {
             state,
-            teller: Teller {
-                text: String::new(alloc),
-                in_run: false,
-            },
+            teller: Teller::new(alloc, true),
             rested: ORIGIN,
             start: 0,
         })
+    }
+
+    /// Makes one move and tells its tokens, where the state is one of this part's.
+    fn step(&mut self, alloc: Global, input: &mut Cursor<'_>) -> Result<Option<Turn>, NoMemory> {
+        let state = &mut self.state;
+        if !is_here(state.machine.state) || state.ahead.len_bytes() > input.place() {
+            tell_state(&mut self.teller, state.machine.state)?;
+            return Ok(None);
+        }
+        let mut tokens = Tokens::new();
+        let turn = advance(alloc, state, input, &mut self.rested, &mut tokens);
+        let began = self.rested.wrapping_sub(ORIGIN).wrapping_add(self.start);
+        let told = self.teller.tell_all(tokens.as_slice(), began);
+        mem::forget(tokens);
+        told?;
+        Ok(Some(turn?))
     }
 
     /// Lexes a piece, and answers whether the state is still one of this part's.
@@ -384,24 +362,15 @@ impl Run {
         }
         let mut input = Cursor::of_str(piece);
         for _ in 0..1000 {
-            let state = &mut self.state;
-            if !is_here(state.machine.state) || state.ahead.len_bytes() > input.place() {
-                self.teller.tell_state(state.machine.state)?;
-                return Ok(false);
-            }
-            let mut tokens = Tokens::new();
-            match advance(alloc, state, &mut input, &mut self.rested, &mut tokens)? {
-                Turn::NeedsMore => break,
-                Turn::AskLastTag => {
+            match self.step(alloc, &mut input)? {
+                None => return Ok(false),
+                Some(Turn::NeedsMore) => break,
+                Some(Turn::AskLastTag) => {
                     self.teller.end_run()?;
                     self.teller.text.push('?')?;
-                    tell(alloc, &mut state.machine, last.trim_start_matches('?'))?;
+                    tell(alloc, &mut self.state.machine, last.trim_start_matches('?'))?;
                 }
-                Turn::Emitted | Turn::Moved | Turn::AskCdata => {}
-            }
-            let began = self.rested.wrapping_sub(ORIGIN).wrapping_add(self.start);
-            for token in tokens.as_slice() {
-                self.teller.tell(token, began)?;
+                Some(Turn::Emitted | Turn::Moved | Turn::AskCdata) => {}
             }
         }
         self.rested = self.rested.wrapping_sub(piece.len() as u64);
@@ -414,9 +383,23 @@ impl Run {
             return Ok(());
         }
         let mut tokens: Tokens<'static> = Tokens::new();
-        let _ = at_end(alloc, &mut self.state, &mut tokens)?;
-        for token in tokens.as_slice() {
-            self.teller.tell(token, 0)?;
+        let ended = at_end(alloc, &mut self.state, &mut tokens);
+        let told = self.teller.tell_last(tokens.as_slice());
+        mem::forget(tokens);
+        let _ = ended?;
+        told
+    }
+
+    /// Lexes a text in two pieces.
+    fn lex_both(
+        &mut self,
+        alloc: Global,
+        last: &str,
+        first: &str,
+        second: &str,
+    ) -> Result<(), NoMemory> {
+        if self.lex(alloc, last, first)? && self.lex(alloc, last, second)? {
+            self.end(alloc)?;
         }
         Ok(())
     }
@@ -435,28 +418,31 @@ fn agrees(alloc: Global, case: &Case, cut: usize) -> Result<bool, NoMemory> {
     let (rest, last, text, wanted) = *case;
     let mut run = Run::new(alloc, rest, last)?;
     let (first, second) = text.split_at_checked(cut).unwrap_or((text, ""));
-    if run.lex(alloc, last, first)? && run.lex(alloc, last, second)? {
-        run.end(alloc)?;
-    }
-    Ok(run.teller.text.as_str() == wanted)
+    let lexed = run.lex_both(alloc, last, first, second);
+    let well = run.teller.text.as_str() == wanted;
+    mem::forget(run);
+    lexed?;
+    Ok(well)
 }
 
-#[test]
-fn lexes_as_the_standard_says(rt: HostRuntime) -> Result<(), Fail> {
-    for case in CASES {
-        let text = case.2;
-        assert!(rt; agrees(rt.alloc(), case, text.len())?, "{text}");
+/// Compares a text, whole and cut at each place.
+fn compare_case(rt: &impl Abort, alloc: Global, case: &Case) -> Result<(), NoMemory> {
+    let text = case.2;
+    show(rt, agrees(alloc, case, text.len())?, text, text.len());
+    for (cut, _) in text.char_indices() {
+        show(rt, agrees(alloc, case, cut)?, text, cut);
+    }
+    Ok(())
+}
+
+fn compare_all(rt: &impl Abort, alloc: Global, cases: &[Case]) -> Result<(), NoMemory> {
+    for case in cases {
+        compare_case(rt, alloc, case)?;
     }
     Ok(())
 }
 
 #[test]
-fn lexes_the_same_cut_at_each_place(rt: HostRuntime) -> Result<(), Fail> {
-    for case in CASES {
-        let text = case.2;
-        for (cut, _) in text.char_indices() {
-            assert!(rt; agrees(rt.alloc(), case, cut)?, "{text} cut at {cut}");
-        }
-    }
-    Ok(())
+fn lexes_as_the_standard_says_whole_and_cut_at_each_place(rt: HostRuntime) -> Result<(), Fail> {
+    Ok(compare_all(&rt, rt.alloc(), CASES)?)
 }

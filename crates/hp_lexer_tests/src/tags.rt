@@ -1,9 +1,12 @@
 //! The tokens of short texts, whole and cut at each place, as an independent lexer gives them.
-use hp_elements::{Rest, Token, Tokens};
+use crate::teller::{Teller, show};
+use hp_elements::{Rest, Tokens};
 use hp_lex_tags::{advance, at_end, is_here, next_tag};
 use hp_names::Names;
 use hp_tokens::{Cursor, LexState, NoMemory, ORIGIN, Turn};
 use std::alloc::Global;
+use std::mem;
+use std::process::Abort;
 use std::test::Fail;
 
 /// A text, and its tokens: runs in brackets, tags with the place where they began.
@@ -108,60 +111,6 @@ const CASES: &[Case] = &[
     ),
 ];
 
-/// Tells tokens, one behind the other.
-#[derive(Drop)]
-struct Teller {
-    text: String,
-    in_run: bool,
-}
-
-impl Teller {
-    fn end_run(&mut self) -> Result<(), NoMemory> {
-        if self.in_run {
-            self.text.push(']')?;
-            self.in_run = false;
-        }
-        Ok(())
-    }
-
-    fn tell(&mut self, token: &Token<'_>, began: u64) -> Result<(), NoMemory> {
-        match token {
-            Token::Characters { text, .. } => {
-                if !self.in_run {
-                    self.text.push('[')?;
-                    self.in_run = true;
-                }
-                self.text.push_str(text.as_str())?;
-                return Ok(());
-            }
-            Token::Start { self_closing, tag } => {
-                self.end_run()?;
-                let name = tag.name.as_str();
-                write!(self.text, "<{name}")?;
-                for attribute in tag.attributes.iter() {
-                    let name = attribute.name.as_str();
-                    let value = attribute.value.as_str();
-                    write!(self.text, " {name}={value}")?;
-                }
-                let end = if *self_closing { "/" } else { "" };
-                write!(self.text, "{end}>@{began}")?;
-            }
-            Token::EndTag { name } => {
-                self.end_run()?;
-                let name = name.as_str();
-                write!(self.text, "</{name}>@{began}")?;
-            }
-            Token::EndOfInput => {
-                self.end_run()?;
-                self.text.push('$')?;
-            }
-            Token::Comment { .. } => self.text.push_str("comment")?,
-            Token::Doctype { .. } => self.text.push_str("doctype")?,
-        }
-        Ok(())
-    }
-}
-
 /// One lexing of a text that is handed over in pieces.
 #[derive(Drop)]
 struct Run {
@@ -179,14 +128,16 @@ impl Run {
         Run {
             state: LexState::at_rest(Rest::Data, false),
             names: Names::built_in(),
-            teller: Teller {
-                text: String::new(alloc),
-                in_run: false,
-            },
+            teller: Teller::new(alloc, true),
             rested: ORIGIN,
             start: 0,
             straight,
         }
+    }
+
+    /// The place in the text where the last token began.
+    fn began(&self) -> u64 {
+        self.rested.wrapping_sub(ORIGIN).wrapping_add(self.start)
     }
 
     /// Reads a tag straight, if one comes next.
@@ -196,10 +147,28 @@ impl Run {
         }
         let state = &mut self.state;
         if let Some(tag) = next_tag(alloc, &self.names, state, input, &mut self.rested)? {
-            let began = self.rested.wrapping_sub(ORIGIN).wrapping_add(self.start);
-            self.teller.tell(&tag, began)?;
+            let began = self.began();
+            let told = self.teller.tell(&tag, began);
+            mem::forget(tag);
+            told?;
         }
         Ok(())
+    }
+
+    /// Makes one move and tells its tokens, where the state is one of this part's.
+    fn step(&mut self, alloc: Global, input: &mut Cursor<'_>) -> Result<Option<Turn>, NoMemory> {
+        let state = &mut self.state;
+        if !is_here(state.machine.state) || state.ahead.len_bytes() > input.place() {
+            return Ok(None);
+        }
+        let mut tokens = Tokens::new();
+        let rested = &mut self.rested;
+        let turn = advance(alloc, state, input, &self.names, rested, &mut tokens);
+        let began = self.began();
+        let told = self.teller.tell_all(tokens.as_slice(), began);
+        mem::forget(tokens);
+        told?;
+        Ok(Some(turn?))
     }
 
     /// Lexes a piece, and answers whether the state is still one of this part's.
@@ -210,19 +179,10 @@ impl Run {
         let mut input = Cursor::of_str(piece);
         for _ in 0..1000 {
             self.read_tag(alloc, &mut input)?;
-            let state = &mut self.state;
-            if !is_here(state.machine.state) || state.ahead.len_bytes() > input.place() {
-                return Ok(false);
-            }
-            let mut tokens = Tokens::new();
-            let rested = &mut self.rested;
-            match advance(alloc, state, &mut input, &self.names, rested, &mut tokens)? {
-                Turn::NeedsMore => break,
-                Turn::Emitted | Turn::Moved | Turn::AskCdata | Turn::AskLastTag => {}
-            }
-            let began = self.rested.wrapping_sub(ORIGIN).wrapping_add(self.start);
-            for token in tokens.as_slice() {
-                self.teller.tell(token, began)?;
+            match self.step(alloc, &mut input)? {
+                None => return Ok(false),
+                Some(Turn::NeedsMore) => break,
+                Some(Turn::Emitted | Turn::Moved | Turn::AskCdata | Turn::AskLastTag) => {}
             }
         }
         self.rested = self.rested.wrapping_sub(piece.len() as u64);
@@ -235,9 +195,17 @@ impl Run {
             return Ok(());
         }
         let mut tokens: Tokens<'static> = Tokens::new();
-        let _ = at_end(alloc, &mut self.state, &self.names, &mut tokens)?;
-        for token in tokens.as_slice() {
-            self.teller.tell(token, 0)?;
+        let ended = at_end(alloc, &mut self.state, &self.names, &mut tokens);
+        let told = self.teller.tell_last(tokens.as_slice());
+        mem::forget(tokens);
+        let _ = ended?;
+        told
+    }
+
+    /// Lexes a text in two pieces.
+    fn lex_both(&mut self, alloc: Global, first: &str, second: &str) -> Result<(), NoMemory> {
+        if self.lex(alloc, first)? && self.lex(alloc, second)? {
+            self.end(alloc)?;
         }
         Ok(())
     }
@@ -248,35 +216,37 @@ fn agrees(alloc: Global, case: &Case, cut: usize, straight: bool) -> Result<bool
     let (text, wanted) = *case;
     let mut run = Run::new(alloc, straight);
     let (first, second) = text.split_at_checked(cut).unwrap_or((text, ""));
-    if run.lex(alloc, first)? && run.lex(alloc, second)? {
-        run.end(alloc)?;
-    }
-    Ok(run.teller.text.as_str() == wanted)
+    let lexed = run.lex_both(alloc, first, second);
+    let well = run.teller.text.as_str() == wanted;
+    mem::forget(run);
+    lexed?;
+    Ok(well)
 }
 
-#[test]
-fn lexes_as_the_standard_says(rt: HostRuntime) -> Result<(), Fail> {
-    for case in CASES {
-        let text = case.0;
-        assert!(rt; agrees(rt.alloc(), case, text.len(), false)?, "{text}");
-        assert!(rt;
-            agrees(rt.alloc(), case, text.len(), true)?,
-            "{text} straight"
-        );
+/// Compares a text, whole and cut at each place.
+fn compare_case(rt: &impl Abort, alloc: Global, case: &Case) -> Result<(), NoMemory> {
+    let text = case.0;
+    show(
+        rt,
+        agrees(alloc, case, text.len(), false)?,
+        text,
+        text.len(),
+    );
+    show(rt, agrees(alloc, case, text.len(), true)?, text, text.len());
+    for (cut, _) in text.char_indices() {
+        show(rt, agrees(alloc, case, cut, cut % 2 == 0)?, text, cut);
+    }
+    Ok(())
+}
+
+fn compare_all(rt: &impl Abort, alloc: Global, cases: &[Case]) -> Result<(), NoMemory> {
+    for case in cases {
+        compare_case(rt, alloc, case)?;
     }
     Ok(())
 }
 
 #[test]
-fn lexes_the_same_cut_at_each_place(rt: HostRuntime) -> Result<(), Fail> {
-    for case in CASES {
-        let text = case.0;
-        for (cut, _) in text.char_indices() {
-            assert!(rt;
-                agrees(rt.alloc(), case, cut, cut % 2 == 0)?,
-                "{text} cut at {cut}"
-            );
-        }
-    }
-    Ok(())
+fn lexes_as_the_standard_says_whole_and_cut_at_each_place(rt: HostRuntime) -> Result<(), Fail> {
+    Ok(compare_all(&rt, rt.alloc(), CASES)?)
 }
