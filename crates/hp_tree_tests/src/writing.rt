@@ -83,6 +83,21 @@ fn with_elements(rt: &impl Abort, alloc: Global, elements: u32) -> Result<Tree<'
     Ok(tree)
 }
 
+/// An output with so much room, which is too little, takes the first part of the text.
+fn assert_part(
+    rt: &impl Abort,
+    alloc: Global,
+    tree: &Tree<'_>,
+    text: &[u8],
+    room: usize,
+) -> Result<(), Fail> {
+    let mut out = MemorySink::new(alloc, room, &[])?;
+    assert!(rt; write_tree(alloc, tree, &mut out) == Err(Refusal::Fault));
+    assert!(rt; room <= text.len());
+    assert!(rt; out.taken() == &text[..room]);
+    Ok(())
+}
+
 /// What is gathered goes out behind 65,536 bytes. An output without room for all took the first part.
 #[test]
 fn an_output_that_ends_within_the_text(rt: HostRuntime) -> Result<(), Fail> {
@@ -91,9 +106,7 @@ fn an_output_that_ends_within_the_text(rt: HostRuntime) -> Result<(), Fail> {
     let text = print_tree(alloc, &tree)?;
     assert_eq!(rt; text.len(), 120_000);
     for room in [0usize, 1, 65_535, 65_536, 65_537, 100_000, 119_999] {
-        let mut out = MemorySink::new(alloc, room, &[])?;
-        assert!(rt; write_tree(alloc, &tree, &mut out) == Err(Refusal::Fault));
-        assert!(rt; out.taken() == &text[..room]);
+        assert_part(&rt, alloc, &tree, &text, room)?;
     }
     let mut out = MemorySink::new(alloc, 120_000, &[])?;
     assert!(rt; write_tree(alloc, &tree, &mut out).is_ok());
