@@ -1,14 +1,19 @@
 //! The top call.
-ghost use Rattle.std.specs.Prelude.{◌≡◌, ◌≢◌, ◌⊎◌, ◌↔◌, ◌+◌, ◌≤◌, Some, Err, [], length, OnOk, IfSome};
+ghost use Rattle.std.specs.Prelude.{◌≡◌, ◌≢◌, ◌⊎◌, ◌↔◌, ◌+◌, ◌≤◌, Some, Err, [], length, OnOk, IfSome, IfNone};
 ghost use Rattle.std.specs.Result.{IsOk};
 ghost use Rattle.hp_text.specs.Device.{Rose, Gives};
 ghost use Rattle.hp_program.specs.Answers.{IsTooLarge, IsNotText, IsText, ComesExactly, TakesTree, TakesTreePart, TakesTreeOf, TakesTreePartOf, TakesPage, TakesPagePart};
 ghost use Rattle.hp_text.specs.Page.{text_of};
+ghost use Rattle.hp_text.specs.Text.{without_mark};
+ghost use Rattle.hp_print.specs.Out.{TakesPart};
+ghost use Rattle.hp_print.specs.Print.{print};
+ghost use Rattle.std.specs.Io.KnownBytes.{append_known};
 ghost use Rattle.std.specs.Str.{chars};
 
 use crate::gate::Gate;
 use crate::status::Status;
 use crate::words::Words;
+use hp_arena::Tree;
 use hp_fragment::parse_whole;
 use hp_print::{Refusal, write_tree};
 use hp_text::{PAGE_LIMIT, Page, ReadRefusal, Sink, Source, check_page, read_page};
@@ -30,6 +35,19 @@ fn refused(refusal: ReadRefusal) -> Status
     }
 }
 
+/// Writes a tree as text to `out`.
+fn write_parsed<K: Sink>(alloc: Global, tree: Tree<'_>, out: &mut K) -> Result<(), Refusal>
+    ensures whole { OnOk result (K.taken out.new ≡ append_known (K.taken out.old) (print tree.entry.branches)) }
+    ensures part { result ≡ Err Refusal.Fault → TakesPart (print tree.entry.branches) (K.taken out.old) (K.taken out.new) }
+    ensures failed { result ≡ Err Refusal.Fault → Rose (K.faults out.old) (K.faults out.new) }
+    ensures nothing { result ≡ Err Refusal.NoMemory → out.new ≡ out.old }
+{
+    let outcome = write_tree(alloc, &tree, out);
+    // The process ends once the text is written, and its memory goes back whole: nothing is given back piece by piece.
+    mem::forget(tree);
+    outcome
+}
+
 /// Writes the printed tree of a page to `out`.
 fn write_page<K: Sink>(alloc: Global, page: Page<'_>, out: &mut K) -> Result<(), Refusal>
     ensures whole { OnOk result (TakesTreeOf (chars (text_of page.entry)) (K.taken out.old) (K.taken out.new)) }
@@ -37,13 +55,10 @@ fn write_page<K: Sink>(alloc: Global, page: Page<'_>, out: &mut K) -> Result<(),
     ensures failed { result ≡ Err Refusal.Fault → Rose (K.faults out.old) (K.faults out.new) }
     ensures nothing { result ≡ Err Refusal.NoMemory → out.new ≡ out.old }
 {
-    let Ok(tree) = parse_whole(alloc, page) else {
-        return Err(Refusal::NoMemory);
-    };
-    let outcome = write_tree(alloc, &tree, out);
-    // The process ends once the text is written, and its memory goes back whole: nothing is given back piece by piece.
-    mem::forget(tree);
-    outcome
+    match parse_whole(alloc, page) {
+        Ok(tree) => write_parsed(alloc, tree, out),
+        Err(_) => Err(Refusal::NoMemory),
+    }
 }
 
 /// The status of a write.
@@ -71,6 +86,19 @@ fn put_page<K: Sink>(alloc: Global, page: Page<'_>, out: &mut K) -> Status
     status_of(write_page(alloc, page, out))
 }
 
+/// The page of these bytes; `None` where they are no text.
+fn page_of(bytes: &[u8]) -> Option<Page<'_>>
+    requires { length bytes.now ≤ PAGE_LIMIT }
+    ensures text { IfSome result (λ page. text_of page ≡ without_mark bytes.now) }
+    ensures is_text { IfSome result (λ _. IsText bytes.now) }
+    ensures no_text { IfNone result (IsNotText bytes.now) }
+{
+    match check_page(bytes) {
+        Ok(page) => Some(page),
+        Err(_) => None,
+    }
+}
+
 /// Writes the printed tree of the page of these bytes to `out`.
 #[tactic(auto, using(crate::proofs::Written::takes_page, crate::proofs::Written::takes_page_part))]
 fn put_tree<K: Sink>(alloc: Global, bytes: &[u8], out: &mut K) -> Status
@@ -84,9 +112,9 @@ fn put_tree<K: Sink>(alloc: Global, bytes: &[u8], out: &mut K) -> Status
     ensures part { result ≡ Status.WriteFault → TakesPagePart bytes.now (K.taken out.old) (K.taken out.new) }
     ensures nothing { result ≢ Status.Done → result ≢ Status.WriteFault → out.new ≡ out.old }
 {
-    match check_page(bytes) {
-        Ok(page) => put_page(alloc, page, out),
-        Err(_) => Status::NotUtf8,
+    match page_of(bytes) {
+        Some(page) => put_page(alloc, page, out),
+        None => Status::NotUtf8,
     }
 }
 
