@@ -112,8 +112,8 @@ broke_past old s t piece n empty less took rose = record {
 pub finished_whole : (old : Out) (new : Vec ℕ Global) (s t : Sight) → Prints old (Gathered new) s t [] → new.items ≡ [] → Finished old true s t
 finished_whole old new s t prints empty = record {
   outcome = λ start bytes has.
-    let waits : Waits start t new.items (bytes ++ []) = prints.after start bytes has in
-    waits.taken ∙ ap (append_known start.0) (all_gone waits.gone new.items (bytes ++ []) empty waits.whole ∙ append-nil bytes);
+      let waits : Waits start t new.items (bytes ++ []) = prints.after start bytes has in
+      waits.taken ∙ ap (append_known start.0) (all_gone waits.gone new.items (bytes ++ []) empty waits.whole ∙ append-nil bytes);
 }
 
 pub finished_part : (old : Out) (s t : Sight) → Prints old Failed s t [] → Finished old false s t
