@@ -17,7 +17,7 @@ pub enum Status {
     ReadFault,
     /// The tree could not be written to its end. The first part of it was.
     WriteFault,
-    /// Memory ran out.
+    /// Memory ran out, or the tree's text would be of absurd length: 34 GB of indentation and more.
     NoMemory,
 }
 
