@@ -51,7 +51,7 @@ pub fn print_tree(alloc: Global, tree: &Tree<'_>) -> Result<Vec<u8>, NoMemory>
     }
 }
 
-/// Writes the tree as text, in UTF-8. All memory that this takes is there before the first byte is written.
+/// Writes the tree as text, in UTF-8. All memory that this needs is there before the first byte is written.
 pub fn write_tree<K: Sink>(alloc: Global, tree: &Tree<'_>, sink: &mut K) -> Result<(), Refusal>
     ensures whole { OnOk result (K.taken sink.new ≡ append_known (K.taken sink.old) (print tree.now.branches)) }
 
