@@ -2,6 +2,7 @@ pub mod OrderLemmas
 pub mod TableLemmas
 pub mod SearchLemmas
 pub mod RowLemmas
+pub mod ClosedLemmas
 pub mod LawLemmas
 pub mod NumericLemmas
 pub mod OpenLemmas

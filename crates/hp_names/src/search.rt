@@ -1,17 +1,59 @@
 //! The search in a table of names that rise by their bytes.
-ghost use Rattle.std.specs.Prelude.{◌≡◌, ◌≤◌, IsTrue, length};
+ghost use Rattle.std.specs.Prelude.{◌≡◌, ◌≤◌, Some, IfSome, IsTrue, length};
 ghost use Rattle.hp_names.specs.Order as order;
-ghost use Rattle.hp_names.specs.References.{rises};
+ghost use Rattle.hp_names.specs.References.{is_table, rises};
 ghost use Rattle.hp_names.specs.Table.{name_at, reference_of, references};
 ghost use Rattle.hp_names.specs.Search.{StandsAt};
 ghost use Rattle.hp_names.specs.Longest as spec;
 
 use crate::names::Found;
-use crate::table::Row;
+use crate::table::{PLACES, Row};
+
+/// The longest name that the text begins with.
+pub(crate) fn longest(bytes: &[u8], rows: &[Row], text: &[u8]) -> Option<Found>
+    requires { IsTrue (is_table (references bytes.now rows.now)) }
+    ensures { result ≡ spec.longest (references bytes.now rows.now) text.now }
+{
+    match usual(bytes, rows, text) {
+        Some(found) => Some(found),
+        None => searched(bytes, rows, text),
+    }
+}
+
+/// The longest name, where it is the usual one for the text's first two bytes: that one ends with a semicolon, so no longer name
+/// begins with it.
+#[inline]
+fn usual(bytes: &[u8], rows: &[Row], text: &[u8]) -> Option<Found>
+    requires { IsTrue (is_table (references bytes.now rows.now)) }
+    ensures { IfSome result (λ found. spec.longest (references bytes.now rows.now) text.now ≡ Some found) }
+{
+    let at = usual_place(text);
+    if at >= rows.len() {
+        return None;
+    }
+    let row = &rows[at];
+    if !begins(text, name_of(bytes, row)) {
+        return None;
+    }
+    let found = found_of(bytes, row);
+    if !found.ends_with_semicolon {
+        return None;
+    }
+    Some(found)
+}
+
+#[inline]
+fn usual_place(text: &[u8]) -> usize {
+    if text.len() < 2 {
+        return usize::MAX;
+    }
+    usize::from(PLACES[(usize::from(text[0]) * 27 + usize::from(text[1])) % 256])
+}
 
 /// The longest name that the text begins with. A name that the text begins with is the last name up to the text, or else within
 /// what that name and the text have in common.
-pub(crate) fn longest(bytes: &[u8], rows: &[Row], text: &[u8]) -> Option<Found>
+#[inline(never)]
+fn searched(bytes: &[u8], rows: &[Row], text: &[u8]) -> Option<Found>
     requires { IsTrue (rises (references bytes.now rows.now)) }
     ensures { result ≡ spec.longest (references bytes.now rows.now) text.now }
 {

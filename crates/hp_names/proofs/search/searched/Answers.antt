@@ -4,7 +4,7 @@ use Rattle.hp_names.specs.Order as order
 use Rattle.hp_names.specs.Longest as spec
 use Rattle.hp_names.specs.Table.{references}
 use Rattle.hp_names.proofs.RowLemmas.{rows-none, rows-found, rows-shared, rows-shorter}
-use Rattle.hp_names.proofs.search.longest.Goals as goal
+use Rattle.hp_names.proofs.search.searched.Goals as goal
 
 pub returns-then-at-eq0 : goal.returns-then-at-eq0
 returns-then-at-eq0 c =
