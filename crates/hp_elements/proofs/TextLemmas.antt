@@ -63,6 +63,13 @@ same_texts r xs ys cs ds e u v p q = (
 pub short_is : (bytes text array : List ℕ) → bytes ≡ text → take (length bytes) array ≡ bytes → take (length text) array ≡ text
 short_is bytes text array v e = ap (λ (xs : List ℕ). take (length xs) array) (sym v) ∙ (e ∙ v)
 
+-- one text and then another, put behind it
+pub short_both : (front back bytes more short longer : List ℕ) → bytes ≡ front → more ≡ back → take (length bytes) short ≡ bytes → take (length front + length more) longer ≡ take (length front) short ++ more
+    → take (length front + length back) longer ≡ front ++ back
+short_both front back bytes more short longer v w e h =
+    ap (λ (xs : List ℕ). take (length front + length xs) longer) (sym w)
+    ∙ (h ∙ (ap (λ (xs : List ℕ). xs ++ more) (short_is bytes front short v e) ∙ ap (λ (xs : List ℕ). front ++ xs) w))
+
 pub chars-encode : (c : ℕ) → IsScalar c → chars (encode c) ≡ c ∷ []
 chars-encode c s =
     chars_past_char (encode c) [] c (IsUtf8-encode c s) (sym (append-nil (encode c))) ∙ ap (λ (xs : List ℕ). c ∷ xs) chars-nil

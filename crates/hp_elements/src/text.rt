@@ -182,8 +182,9 @@ impl<'p> Text<'p> {
         self.push_str(alloc, c.encode_utf8(&mut buffer))
     }
 
-    /// Appends the next text where that takes no memory and no copy: where this one is empty, or is a part of the page and the
-    /// bytes that stand behind it there are those of the next text. Otherwise nothing changes, and the next text comes back.
+    /// Appends the next text where that takes no memory: where this one is empty, where it is a part of the page and the bytes
+    /// that stand behind it there are those of the next text, or where both are so short that they fit into the value itself.
+    /// Otherwise nothing changes, and the next text comes back.
     pub fn join(&mut self, next: Text<'p>) -> Option<Text<'p>>
         ensures joined { IfNone result (self.new ≡ self.old ++ next.entry) }
         ensures kept { IfSome result (λ back. (back ≡ next.entry) × (self.new ≡ self.old)) }
@@ -197,6 +198,10 @@ impl<'p> Text<'p> {
             && let Some(left) = spare_behind(*spare, bytes, next.as_str())
         {
             *spare = left;
+            return None;
+        }
+        if let Some(both) = both_here(self.as_str(), next.as_str()) {
+            *self = both;
             return None;
         }
         Some(next)
@@ -227,6 +232,21 @@ fn put_behind(bytes: &[u8; SHORT], len: u8, more: &[u8]) -> [u8; SHORT]
     let mut longer = *bytes;
     longer[from..from + more.len()].copy_from_slice(more);
     longer
+}
+
+/// One text and then another, where both fit into the value itself.
+#[inline]
+fn both_here<'p>(front: &str, back: &str) -> Option<Text<'p>>
+    ensures { IfSome result (λ both. both ≡ chars front.now ++ chars back.now) }
+{
+    if front.len() > SHORT || back.len() > SHORT - front.len() {
+        return None;
+    }
+    let len = front.len() as u8;
+    let longer = put_behind(&short_bytes(front.as_bytes()), len, back.as_bytes());
+    Some(Text {
+        place: Place::Here(len + back.len() as u8, longer),
+    })
 }
 
 /// A text of its own: one text and then another.
