@@ -545,8 +545,7 @@ fn leave(
 fn read_name(alloc: Global, input: &mut Cursor<'_>) -> Result<Name, NoMemory>
     ensures { IfOk result (λ name. NameTaken input.old name input.new) }
 {
-    let name = Name::from_lowered(alloc, input.take_run::<TagNameBytes>())?;
-    Ok(name)
+    Name::from_lowered(alloc, input.take_run::<TagNameBytes>())
 }
 
 /// A start tag, of which `<` comes next and then a letter; `None` where the rows go on.
@@ -562,7 +561,7 @@ fn read_start_tag<'p>(
     requires opens { opens_start_tag input.old.text ≡ true }
     ensures { IfOk result (TagRead names.now machine.old input.old machine.new input.new) }
 {
-    let _ = input.take_byte(b'<');
+    input.skip_ascii(1);
     let name = read_name(alloc, input)?;
     if input.take_byte(b'>') {
         let bare = finish(alloc, machine, name, Chain::new(), false)?;
@@ -621,8 +620,8 @@ fn read_end_tag<'p>(
     requires opens { opens_end_tag input.old.text ≡ true }
     ensures { IfOk result (TagRead names.now machine.old input.old machine.new input.new) }
 {
-    let _ = input.take_byte(b'<');
-    let _ = input.take_byte(b'/');
+    input.skip_ascii(1);
+    input.skip_ascii(1);
     let name = read_name(alloc, input)?;
     if input.take_byte(b'>') {
         machine.enter(State::Data);
