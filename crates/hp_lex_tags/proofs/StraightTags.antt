@@ -1,6 +1,6 @@
 -- A usual tag as a whole.
 use Rattle.std.proofs.Common.{◌≡◌, ℕ, ◌-◌, ◌≤◌, List, [], ◌∷◌, ◌++◌, Bool, true, false, ◌&&◌, not, cond, refl, ap, ◌∙◌, sym, subst, arith, Option, None, Some, eqb-true, append-nil}
-use Rattle.std.specs.Prelude.{◌==◌, sum_by, ◌≢◌}
+use Rattle.std.specs.Prelude.{◌==◌, ◌+◌, drop, nat_lt, sum_by}
 use Rattle.std.specs.Char.{len_utf8}
 use Rattle.std.proofs.lemmas.Bool.{and_parts, not-true}
 use Rattle.hp_names.specs.References.{Reference}
@@ -14,7 +14,7 @@ use Rattle.hp_tokens.specs.declared.building.Building.{Building}
 use Rattle.hp_tokens.specs.declared.building.Building.TheVariants.{Nothing, StartTag, EndTag}
 use Rattle.hp_tokens.specs.declared.machine.Machine.{Machine}
 use Rattle.hp_tokens.specs.declared.lexing.LexState.{LexState}
-use Rattle.hp_tokens.specs.Reading.{Unread, first, Reads}
+use Rattle.hp_tokens.specs.Reading.{Unread, first, Reads, IsAsciiFront, ReadsAscii}
 use Rattle.hp_tokens.specs.States.{enter, uses_token, uses_buffer, uses_return, uses_value, is_resting}
 use Rattle.hp_tokens.specs.Parts.{finished_tag}
 use Rattle.hp_tokens.specs.Moves.{Lexing, standing, move}
@@ -30,10 +30,21 @@ use Rattle.hp_lex_tags.specs.Straight.{tagging, within, standing_at, tag_of, is_
 use Rattle.hp_lex_tags.proofs.StraightMoves.{emits_here}
 use Rattle.hp_lex_tags.proofs.StraightParts.{named_tag, over_tag_name, over_end_name, starts, ends, alone-rest}
 
--- what has to come next was taken
-pub took : (b : Bool) (x : ℕ) (old new : Unread) → first old.text ≡ Some x → (b ≡ true → Reads old x new) → (b ≡ false → (new ≡ old) × (first old.text ≢ Some x)) → Reads old x new
-took true x old new e taken left = taken refl
-took false x old new e taken left = absurd ((left refl).1 e)
+-- what comes next, if it is ASCII, may be skipped
+pub ascii_front : (x : ℕ) (text : List ℕ) → first text ≡ Some x → nat_lt x 128 ≡ true → IsAsciiFront 1 text
+ascii_front x [] e low = cc
+ascii_front x (c ∷ cs) e low = let same : c ≡ x = cc in record { within = omega arith; ascii = ap (λ (y : ℕ). nat_lt y 128 && true) same ∙ ap (λ (b : Bool). b && true) low }
+
+begins_with : (x : ℕ) (text : List ℕ) → first text ≡ Some x → text ≡ x ∷ drop 1 text
+begins_with x [] e = cc
+begins_with x (c ∷ cs) e = let same : c ≡ x = cc in ap (λ (y : ℕ). y ∷ cs) same
+
+-- and then it was taken
+pub skipped : (x : ℕ) (old new : Unread) → first old.text ≡ Some x → len_utf8 x ≡ 1 → ReadsAscii 1 old new → Reads old x new
+skipped x old new e one reads = record {
+  text = begins_with x old.text e ∙ ap (λ (xs : List ℕ). x ∷ xs) (sym reads.text);
+  place = reads.place ∙ ap (λ (k : ℕ). old.place + k) (sym one);
+}
 
 pub start_first : (text : List ℕ) → opens_start_tag text ≡ true → first text ≡ Some 60
 start_first [] h = cc

@@ -7,7 +7,7 @@ ghost use Rattle.hp_names.specs.References.{Reference};
 ghost use Rattle.hp_tokens.specs.declared.state.State.TheVariants as states;
 ghost use Rattle.hp_tokens.specs.declared.building.Building.TheVariants as building;
 ghost use Rattle.hp_tokens.specs.Reading.{opens_start_tag, opens_end_tag};
-ghost use Rattle.hp_tokens.specs.Parts.{added, finished_tag};
+ghost use Rattle.hp_tokens.specs.Parts.{added, joined, finished_tag};
 ghost use Rattle.hp_tokens.specs.Advancing.{held, lexing};
 ghost use Rattle.hp_lex_tags.specs.Tags.{TagTurned};
 ghost use Rattle.hp_lex_tags.specs.Usual.{ReferenceTaken};
@@ -97,6 +97,22 @@ fn owned(alloc: Global, text: &str) -> Result<OwnedText, NoMemory>
     Ok(own)
 }
 
+/// An attribute goes behind the others, unless one of them has its name. The first one needs no look at the others.
+#[inline(always)]
+fn join(
+    alloc: Global,
+    attributes: &mut Chain<Attribute>,
+    attribute: Attribute,
+) -> Result<(), NoMemory>
+    ensures { OnOk result (attributes.new ≡ joined attributes.old attribute) }
+{
+    if !attributes.is_empty() {
+        return add(alloc, attributes, attribute);
+    }
+    attributes.push(alloc, attribute)?;
+    Ok(())
+}
+
 /// The attribute read last goes behind the finished ones.
 #[inline(always)]
 fn fold(alloc: Global, reading: &mut Reading) -> Result<(), NoMemory>
@@ -105,7 +121,7 @@ fn fold(alloc: Global, reading: &mut Reading) -> Result<(), NoMemory>
     match reading.last.take() {
         Some(ReadAttribute { name, value }) => {
             let space = AttributeSpace::Plain;
-            add(
+            join(
                 alloc,
                 &mut reading.attributes,
                 Attribute { space, name, value },
@@ -116,7 +132,7 @@ fn fold(alloc: Global, reading: &mut Reading) -> Result<(), NoMemory>
 }
 
 /// The attribute with that name and value is the one read last.
-#[inline]
+#[inline(always)]
 fn keep(alloc: Global, reading: &mut Reading, name: Name, value: &str) -> Result<(), NoMemory>
     ensures { OnOk result (reading.new ≡ record reading.old { last = Some (record { name = name; value = chars value.now }) }) }
 {
@@ -279,8 +295,24 @@ fn read_quoted<R: Run>(
     Ok(way)
 }
 
+/// A value in single quotes, behind the first of them.
+#[inline(never)]
+fn read_single_quoted(
+    alloc: Global,
+    names: &Names,
+    reading: &mut Reading,
+    name: Name,
+    input: &mut Cursor<'_>,
+) -> Result<Way, NoMemory>
+    ensures { IfOk result (Arrives names.now states.AttributeValueSingleQuoted (naming reading.old name []) input.old reading.new input.new) }
+{
+    let state = State::AttributeValueSingleQuoted;
+    let way = read_quoted::<SingleQuotedText>(alloc, names, reading, name, input, b'\'', state)?;
+    Ok(way)
+}
+
 /// A value without quotes.
-#[inline]
+#[inline(never)]
 fn read_unquoted(
     alloc: Global,
     names: &Names,
@@ -324,10 +356,7 @@ fn read_value(
         return Ok(double);
     }
     if input.take_byte(b'\'') {
-        let state = State::AttributeValueSingleQuoted;
-        let single = read_quoted::<SingleQuotedText>(
-            alloc, names, reading, name, input, b'\'', state,
-        )?;
+        let single = read_single_quoted(alloc, names, reading, name, input)?;
         return Ok(single);
     }
     if begins_value(input) {
@@ -473,29 +502,6 @@ fn finish<'p>(
     Ok(Token::Start { self_closing, tag })
 }
 
-/// The tag is whole.
-#[inline]
-fn whole<'p>(
-    alloc: Global,
-    machine: &mut Machine,
-    mut reading: Reading,
-    self_closing: bool,
-) -> Result<Token<'p>, NoMemory>
-    requires clear { machine.old.after_cr ≡ false }
-    ensures token { IfOk result (λ token. token ≡ tokens.Start self_closing (finished_tag (tag_of reading))) }
-    ensures machine { OnOk result (machine.new ≡ tagging (Some reading.name) states.Data building.Nothing) }
-{
-    fold(alloc, &mut reading)?;
-    let token = finish(
-        alloc,
-        machine,
-        reading.name,
-        reading.attributes,
-        self_closing,
-    )?;
-    Ok(token)
-}
-
 /// The attribute as one under construction.
 fn under_construction(
     alloc: Global,
@@ -539,8 +545,7 @@ fn leave(
 fn read_name(alloc: Global, input: &mut Cursor<'_>) -> Result<Name, NoMemory>
     ensures { IfOk result (λ name. NameTaken input.old name input.new) }
 {
-    let name = Name::from_lowered(alloc, input.take_run::<TagNameBytes>())?;
-    Ok(name)
+    Name::from_lowered(alloc, input.take_run::<TagNameBytes>())
 }
 
 /// A start tag, of which `<` comes next and then a letter; `None` where the rows go on.
@@ -556,7 +561,7 @@ fn read_start_tag<'p>(
     requires opens { opens_start_tag input.old.text ≡ true }
     ensures { IfOk result (TagRead names.now machine.old input.old machine.new input.new) }
 {
-    let _ = input.take_byte(b'<');
+    input.skip_ascii(1);
     let name = read_name(alloc, input)?;
     if input.take_byte(b'>') {
         let bare = finish(alloc, machine, name, Chain::new(), false)?;
@@ -570,7 +575,14 @@ fn read_start_tag<'p>(
     let way = read_rest(alloc, names, &mut reading, input)?;
     match way {
         Way::Whole { self_closing } => {
-            let token = whole(alloc, machine, reading, self_closing)?;
+            fold(alloc, &mut reading)?;
+            let token = finish(
+                alloc,
+                machine,
+                reading.name,
+                reading.attributes,
+                self_closing,
+            )?;
             Ok(Some(token))
         }
         Way::At(state) => {
@@ -608,8 +620,8 @@ fn read_end_tag<'p>(
     requires opens { opens_end_tag input.old.text ≡ true }
     ensures { IfOk result (TagRead names.now machine.old input.old machine.new input.new) }
 {
-    let _ = input.take_byte(b'<');
-    let _ = input.take_byte(b'/');
+    input.skip_ascii(1);
+    input.skip_ascii(1);
     let name = read_name(alloc, input)?;
     if input.take_byte(b'>') {
         machine.enter(State::Data);

@@ -1,13 +1,10 @@
 use Rattle.std.proofs.Common.{refl}
 use Rattle.std.proofs.lemmas.Str.{chars-nil}
-use Rattle.hp_lex_tags.proofs.StraightParts.{double_quoted, single_quoted, double_opened, single_later, unquoted_later, value_later}
+use Rattle.hp_lex_tags.proofs.StraightParts.{double_quoted, double_opened, single_later, unquoted_later, value_later}
 use Rattle.hp_lex_tags.proofs.straight.read_value.Goals as goal
 
 pub read_quoted-requires-clause-quoted : goal.read_quoted-requires-clause-quoted
 read_quoted-requires-clause-quoted c = double_quoted
-
-pub read_quoted-requires-then-take_byte-2-clause-quoted : goal.read_quoted-requires-then-take_byte-2-clause-quoted
-read_quoted-requires-then-take_byte-2-clause-quoted c = single_quoted
 
 pub returns-then-take_byte : goal.returns-then-take_byte
 returns-then-take_byte c =
@@ -16,7 +13,7 @@ returns-then-take_byte c =
 
 pub returns-then-take_byte-2 : goal.returns-then-take_byte-2
 returns-then-take_byte-2 c =
-    single_later c.args.names.now c.args.reading.now c.read_quoted-then-take_byte-2.new.reading c.args.name c.args.input.now c.take_byte.new.self c.take_byte-2.new.self c.read_quoted-then-take_byte-2.new.input c.in_ok-single.single
+    single_later c.args.names.now c.args.reading.now c.read_single_quoted.new.reading c.args.name c.args.input.now c.take_byte.new.self c.take_byte-2.new.self c.read_single_quoted.new.input c.in_ok-single.single
     (c.if-take_byte.ensures.left refl).0 (c.if-take_byte-2.ensures.taken refl) c.in_ok-single.ensures
 
 pub returns-then-begins_value : goal.returns-then-begins_value
