@@ -1,4 +1,5 @@
 pub mod EveryName
+pub mod LetterLemmas
 pub mod Lowering
 pub mod NameLemmas
 pub mod SetLemmas

@@ -96,14 +96,12 @@ impl<T: Drop> Chain<T> {
         ensures err { OnErr result (self.new ≡ self.old) }
         ensures returned { IfErr result (λ failed. failed.value ≡ item) }
     {
+        if self.cells.is_none() {
+            self.cells = Some(LinkedList::new(alloc));
+        }
         match &mut self.cells {
             Some(cells) => cells.push_back(item),
-            None => {
-                let mut cells = LinkedList::new(alloc);
-                let answer = cells.push_back(item);
-                self.cells = Some(cells);
-                answer
-            }
+            None => unreachable!(),
         }
     }
 

@@ -6,6 +6,7 @@ ghost use Rattle.hp_elements.specs.Slots.{slot_of, slots};
 ghost use Rattle.hp_elements.specs.declared.known.Known.{Known};
 
 use crate::known::Known;
+use crate::letters::lower_case;
 use crate::slots::SLOTS;
 
 /// No known name has more bytes than this.
@@ -88,7 +89,7 @@ fn lowered_at(text: &[u8], at: usize) -> usize
     ensures value { result ≡ slice_index (lowered text.now) at }
     ensures byte { result < 256 }
 {
-    text[at].to_ascii_lowercase() as usize
+    lower_case(text[at]) as usize
 }
 
 /// Whether a text is the other one once its ASCII upper case letters are lowered.
@@ -99,7 +100,7 @@ pub(crate) fn lowers_to(text: &[u8], to: &[u8]) -> bool
         return false;
     }
     for i in 0..text.len() {
-        if text[i].to_ascii_lowercase() != to[i] {
+        if lower_case(text[i]) != to[i] {
             return false;
         }
     }

@@ -7,6 +7,7 @@ mod duplicate;
 mod find;
 mod kinds;
 mod known;
+mod letters;
 mod list;
 mod name;
 mod places;

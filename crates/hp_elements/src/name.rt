@@ -130,9 +130,9 @@ impl Name {
         ensures { IfOk result (λ name. name ≡ lowered (chars text.now)) }
     {
         if text.len() <= SHORT {
-            let mut bytes: [u8; SHORT] = short_bytes(text.as_bytes());
+            let mut bytes: [u8; 16] = short_bytes(text.as_bytes());
             bytes.make_ascii_lowercase();
-            let spelling = Spelling::Short(text.len() as u8, bytes);
+            let spelling = Spelling::Short(text.len() as u8, front_of(&bytes));
             return Ok(Name { spelling });
         }
         let mut own = String::from_str(alloc, text)?;
@@ -188,4 +188,14 @@ impl Name {
         };
         Ok(Name { spelling })
     }
+}
+
+/// The first bytes of so many that their letters are lowered at once.
+#[inline]
+fn front_of(bytes: &[u8; 16]) -> [u8; SHORT]
+    ensures { result ≡ take 14 bytes.now }
+{
+    let mut front = [0; SHORT];
+    front.copy_from_slice(&bytes[..SHORT]);
+    front
 }

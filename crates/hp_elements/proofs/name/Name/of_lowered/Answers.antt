@@ -1,16 +1,22 @@
-use Rattle.std.proofs.Common.{◌≡◌, List, ℕ, length, take, ◌∙◌, ap, sym, subst, string_bytes}
+use Rattle.std.proofs.Common.{◌≡◌, ◌≤◌, List, ℕ, length, map, take, ◌∙◌, ap, sym, subst, string_bytes}
+use Rattle.std.specs.Char.{to_ascii_lowercase}
 use Rattle.std.specs.Str.{chars, IsUtf8}
+use Rattle.std.proofs.lemmas.List.{take-take}
 use Rattle.hp_elements.specs.Names.{known_of, lowered}
 use Rattle.hp_elements.proofs.NameLemmas.{other_chars, lowered_front}
 use Rattle.hp_elements.proofs.Lowering.{lowered_utf8, lowered_chars}
 use Rattle.hp_elements.proofs.TextLemmas.{short_is}
 use Rattle.hp_elements.proofs.name.Name.of_lowered.Goals as goal
 
+front_lowered : (text now array array' front : List ℕ) → now ≡ text → take (length now) array ≡ now → array' ≡ map to_ascii_lowercase array → front ≡ take 14 array' → length text ≤ 14 → take (length text) front ≡ map to_ascii_lowercase text
+front_lowered text now array array' front v e m f fits =
+    ap (λ (xs : List ℕ). take (length text) xs) f ∙ (take-take (length text) 14 array' fits ∙ lowered_front text array array' (short_is now text array v e) m)
+
 pub invariant_of-result : goal.invariant_of-result
 invariant_of-result c =
     let text = c.args.text.now in
-    let e : take (length text) c.make_ascii_lowercase.new.self ≡ lowered text =
-    lowered_front text c.short_bytes-bytes.result c.make_ascii_lowercase.new.self (short_is c.as_bytes.result.now text c.short_bytes-bytes.result c.as_bytes.ensures.value c.short_bytes-bytes.ensures) c.make_ascii_lowercase.ensures.after in (
+    let e : take (length text) c.front_of.result ≡ lowered text =
+    front_lowered text c.as_bytes.result.now c.short_bytes-bytes.result c.make_ascii_lowercase.new.self c.front_of.result c.as_bytes.ensures.value c.short_bytes-bytes.ensures c.make_ascii_lowercase.ensures.after c.front_of.ensures c.if-text-le-SHORT.true in (
       c.if-text-le-SHORT.true,
       subst (λ (xs : List ℕ). IsUtf8 xs) (sym e) (lowered_utf8 text c.utf8.text),
       ap (λ (xs : List ℕ). known_of (chars xs)) e ∙ other_chars (lowered text) (lowered_utf8 text c.utf8.text) c.requires,
@@ -19,8 +25,8 @@ invariant_of-result c =
 pub returns-then-text-le-SHORT : goal.returns-then-text-le-SHORT
 returns-then-text-le-SHORT c =
     let text = c.args.text.now in
-    let e : take (length text) c.make_ascii_lowercase.new.self ≡ lowered text =
-    lowered_front text c.short_bytes-bytes.result c.make_ascii_lowercase.new.self (short_is c.as_bytes.result.now text c.short_bytes-bytes.result c.as_bytes.ensures.value c.short_bytes-bytes.ensures) c.make_ascii_lowercase.ensures.after in
+    let e : take (length text) c.front_of.result ≡ lowered text =
+    front_lowered text c.as_bytes.result.now c.short_bytes-bytes.result c.make_ascii_lowercase.new.self c.front_of.result c.as_bytes.ensures.value c.short_bytes-bytes.ensures c.make_ascii_lowercase.ensures.after c.front_of.ensures c.if-text-le-SHORT.true in
     ap chars e ∙ lowered_chars text c.utf8.text
 
 pub invariant_of-result-2 : goal.invariant_of-result-2
