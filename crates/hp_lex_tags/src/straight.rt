@@ -118,6 +118,9 @@ fn join(
 fn fold(alloc: Global, reading: &mut Reading) -> Result<(), NoMemory>
     ensures { OnOk result (reading.new ≡ record reading.old { attributes = added reading.old.attributes (begun reading.old.last); last = None }) }
 {
+    if let None = &reading.last {
+        return Ok(());
+    }
     match reading.last.take() {
         Some(ReadAttribute { name, value }) => {
             let space = AttributeSpace::Plain;
