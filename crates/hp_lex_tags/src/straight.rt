@@ -118,6 +118,9 @@ fn join(
 fn fold(alloc: Global, reading: &mut Reading) -> Result<(), NoMemory>
     ensures { OnOk result (reading.new ≡ record reading.old { attributes = added reading.old.attributes (begun reading.old.last); last = None }) }
 {
+    if let None = &reading.last {
+        return Ok(());
+    }
     match reading.last.take() {
         Some(ReadAttribute { name, value }) => {
             let space = AttributeSpace::Plain;
@@ -479,27 +482,28 @@ fn tell_last(alloc: Global, machine: &mut Machine, name: &Name) -> Result<(), No
     }
 }
 
-/// The tag with this name and these attributes is whole.
+/// The machine stands behind the start tag with this name.
 #[inline(always)]
-fn finish<'p>(
-    alloc: Global,
-    machine: &mut Machine,
-    name: Name,
-    attributes: Chain<Attribute>,
-    self_closing: bool,
-) -> Result<Token<'p>, NoMemory>
+fn stand_behind(alloc: Global, machine: &mut Machine, name: &Name) -> Result<(), NoMemory>
     requires clear { machine.old.after_cr ≡ false }
-    ensures token { IfOk result (λ token. token ≡ tokens.Start self_closing (record { namespace = namespaces.Html; name = name; attributes = attributes })) }
-    ensures machine { OnOk result (machine.new ≡ tagging (Some name) states.Data building.Nothing) }
+    ensures { OnOk result (machine.new ≡ tagging (Some name.now) states.Data building.Nothing) }
 {
-    tell_last(alloc, machine, &name)?;
+    tell_last(alloc, machine, name)?;
     machine.enter(State::Data);
+    Ok(())
+}
+
+/// The start tag with this name and these attributes.
+#[inline(always)]
+fn start_tag<'p>(name: Name, attributes: Chain<Attribute>, self_closing: bool) -> Token<'p>
+    ensures { result ≡ tokens.Start self_closing (record { namespace = namespaces.Html; name = name; attributes = attributes }) }
+{
     let tag = Tag {
         namespace: Namespace::Html,
         name,
         attributes,
     };
-    Ok(Token::Start { self_closing, tag })
+    Token::Start { self_closing, tag }
 }
 
 /// The attribute as one under construction.
@@ -564,8 +568,8 @@ fn read_start_tag<'p>(
     input.skip_ascii(1);
     let name = read_name(alloc, input)?;
     if input.take_byte(b'>') {
-        let bare = finish(alloc, machine, name, Chain::new(), false)?;
-        return Ok(Some(bare));
+        stand_behind(alloc, machine, &name)?;
+        return Ok(Some(start_tag(name, Chain::new(), false)));
     }
     let mut reading = Reading {
         name,
@@ -576,14 +580,8 @@ fn read_start_tag<'p>(
     match way {
         Way::Whole { self_closing } => {
             fold(alloc, &mut reading)?;
-            let token = finish(
-                alloc,
-                machine,
-                reading.name,
-                reading.attributes,
-                self_closing,
-            )?;
-            Ok(Some(token))
+            stand_behind(alloc, machine, &reading.name)?;
+            Ok(Some(start_tag(reading.name, reading.attributes, self_closing)))
         }
         Way::At(state) => {
             leave(alloc, machine, reading, state)?;

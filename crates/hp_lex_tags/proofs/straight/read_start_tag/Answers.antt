@@ -23,10 +23,10 @@ returns-then-take_byte c =
     start_whole c.args.names.now c.args.machine.now c.requires.data c.requires.clear c.args.input.now c.skip_ascii.new.self
     (skipped 60 c.args.input.now c.skip_ascii.new.self (start_first c.args.input.now.text c.requires.opens) refl c.skip_ascii.ensures)
     c.requires.opens c.read_name.new.input (bare c.in_ok-name.name []) c.in_ok-name.ensures refl
-    c.finish.new.machine c.take_byte.new.self (bare c.in_ok-name.name []) false c.in_ok-bare.bare
+    c.stand_behind.new.machine c.take_byte.new.self (bare c.in_ok-name.name []) false c.start_tag.result
     (closes_on TagName (bare c.in_ok-name.name []) c.read_name.new.input c.take_byte.new.self refl (c.if-take_byte.ensures.taken refl))
-    (c.in_ok-bare.ensures.token ∙ ap (λ (xs : List Attribute). Start false (record { namespace = Html; name = c.in_ok-name.name; attributes = xs })) c.new.ensures)
-    c.in_ok-bare.ensures.machine
+    (c.start_tag.ensures ∙ ap (λ (xs : List Attribute). Start false (record { namespace = Html; name = c.in_ok-name.name; attributes = xs })) c.new.ensures)
+    c.in_ok-stand_behind.ensures
 
 pub leave-requires-clause-alone : goal.leave-requires-clause-alone
 leave-requires-clause-alone c =
@@ -42,10 +42,10 @@ returns-in-Whole c =
     (skipped 60 c.args.input.now c.skip_ascii.new.self (start_first c.args.input.now.text c.requires.opens) refl c.skip_ascii.ensures)
     c.requires.opens c.take_byte.new.self (record { name = c.in_ok-name.name; attributes = c.new-2.result; last = None }) (named_at c.skip_ascii.new.self c.read_name.new.input c.take_byte.new.self c.in_ok-name.name (c.if-take_byte.ensures.left refl).0 c.in_ok-name.ensures)
     (ap (λ (xs : List Attribute). bare c.in_ok-name.name xs) c.new-2.ensures)
-    c.finish-in-Whole.new.machine c.read_rest.new.input c.read_rest.new.reading c.in-Whole.self_closing c.in_ok-token-in-Whole.token
+    c.stand_behind-in-Whole.new.machine c.read_rest.new.input c.read_rest.new.reading c.in-Whole.self_closing c.start_tag-in-Whole.result
     (arrives_as c.args.names.now TagName (StartTag (tag_of (bare c.in_ok-name.name c.new-2.result))) c.take_byte.new.self c.read_rest.new.input c.read_rest.new.reading c.in_ok-way.way (way.Whole c.in-Whole.self_closing) c.in-Whole.is c.in_ok-way.ensures)
-    (c.in_ok-token-in-Whole.ensures.token ∙ ap (λ (r : Reading). Start c.in-Whole.self_closing (record { namespace = Html; name = r.name; attributes = r.attributes })) c.in_ok-fold-in-Whole.ensures)
-    (c.in_ok-token-in-Whole.ensures.machine ∙ ap (λ (r : Reading). tagging (Some r.name) Data Nothing) c.in_ok-fold-in-Whole.ensures)
+    (c.start_tag-in-Whole.ensures ∙ ap (λ (r : Reading). Start c.in-Whole.self_closing (record { namespace = Html; name = r.name; attributes = r.attributes })) c.in_ok-fold-in-Whole.ensures)
+    (c.in_ok-stand_behind-in-Whole.ensures ∙ ap (λ (r : Reading). tagging (Some r.name) Data Nothing) c.in_ok-fold-in-Whole.ensures)
 
 pub returns-in-At : goal.returns-in-At
 returns-in-At c =
