@@ -14,6 +14,7 @@ pub enum Walk {
 }
 
 /// Walks down to the first element that is a goal or a stop.
+#[inline(always)]
 pub fn element_walk(stack: &OpenElements, goals: &Kinds, stops: &Kinds) -> Walk
     ensures walk { result ≡ walk_of goals.now stops.now stack.now }
     ensures within { IsWithin result stack.now }
