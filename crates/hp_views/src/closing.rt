@@ -112,6 +112,7 @@ impl<'p, B: Below> View<'p, B> {
     }
 
     /// Whether the first element that is the item or a barrier is the item.
+    #[inline(always)]
     fn is_item(&mut self, alloc: Global, item: Known) -> Result<bool, Refusal>
         ensures { Answers result (sight B.heard self.old) (sight B.heard self.new) (is_item_plan (kinds.Html (text_of item))) }
     {

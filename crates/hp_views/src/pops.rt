@@ -95,6 +95,7 @@ impl<'p, B: Below> View<'p, B> {
     }
 
     /// Pops up to and with the first of the goals, unless a stop stands above it.
+    #[inline(always)]
     pub fn through(&mut self, alloc: Global, goals: Kinds, stops: Kinds) -> Result<(), Refusal>
         ensures { Meets result (sight B.heard self.old) (sight B.heard self.new) (through_step goals stops) }
     {
