@@ -336,6 +336,7 @@ pub(crate) fn insert<'p, B: Below>(
     view.insert(alloc, false, tag, Point::No)
 }
 
+#[inline(always)]
 fn open_block<'p, B: Below>(alloc: Global, view: &mut View<'p, B>, tag: Tag) -> Result<(), Refusal>
     requires html { tag.namespace ≡ Html }
     ensures { Carries result (sight B.heard view.old) (sight B.heard view.new) (block_plan tag) }
@@ -367,7 +368,7 @@ fn open_item_after<'p, B: Below>(
     open_block(alloc, view, tag)
 }
 
-#[inline(never)]
+#[inline(always)]
 fn open_description<'p, B: Below>(
     alloc: Global,
     view: &mut View<'p, B>,
@@ -381,7 +382,7 @@ fn open_description<'p, B: Below>(
 }
 
 /// Closes the term or description before, and opens this one.
-#[inline(always)]
+#[inline(never)]
 fn open_description_after<'p, B: Below>(
     alloc: Global,
     view: &mut View<'p, B>,
@@ -403,6 +404,7 @@ fn open_link<'p, B: Below>(alloc: Global, view: &mut View<'p, B>, tag: Tag) -> R
     open_formatting(alloc, view, tag)
 }
 
+#[inline(always)]
 fn open_formatting<'p, B: Below>(
     alloc: Global,
     view: &mut View<'p, B>,

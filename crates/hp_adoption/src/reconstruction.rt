@@ -94,6 +94,7 @@ fn renew_down<'p, B: Below>(
 
 /// Makes the elements anew of the entries after the last one that is a marker or open; `fostering` says that they may not stand
 /// in a table. Where an older entry would be made anew, it crosses.
+#[inline(always)]
 pub fn reconstruct<'p, B: Below>(
     alloc: Global,
     view: &mut View<'p, B>,

@@ -56,6 +56,7 @@ pub fn push_within<T: Drop>(items: &mut Vec<T>, item: T)
 }
 
 /// A list of this one text, in a cell that was made before.
+#[inline(always)]
 fn take_cell<'p>(cells: &mut Vec<Chain<Text<'p>>>, text: Text<'p>) -> Chain<Text<'p>>
     requires some { 0 < vec_len cells.old }
     requires cell { All IsCell cells.old.items }

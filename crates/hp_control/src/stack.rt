@@ -64,6 +64,7 @@ impl<T: Drop> Stack<T> {
     }
 
     /// Takes the top `count` items off.
+    #[inline(always)]
     pub fn drop_top(&mut self, count: usize)
         requires { count ≤ length self.old }
         ensures { self.new ≡ drop count self.old }

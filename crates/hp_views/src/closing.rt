@@ -39,6 +39,7 @@ fn implied_but(name: Known) -> SetName
 
 impl<'p, B: Below> View<'p, B> {
     /// Generates implied end tags.
+    #[inline(always)]
     pub fn implied(&mut self, alloc: Global) -> Result<(), Refusal>
         ensures { Meets result (sight B.heard self.old) (sight B.heard self.new) implied_step }
     {
@@ -46,6 +47,7 @@ impl<'p, B: Below> View<'p, B> {
     }
 
     /// Generates implied end tags, but not that of the name.
+    #[inline(always)]
     pub fn implied_except(&mut self, alloc: Global, name: Known) -> Result<(), Refusal>
         ensures { Meets result (sight B.heard self.old) (sight B.heard self.new) (implied_except_step name) }
     {
@@ -60,6 +62,7 @@ impl<'p, B: Below> View<'p, B> {
     }
 
     /// Pops up to and with the first HTML element of the name, where one is open.
+    #[inline(always)]
     pub fn through_named(&mut self, alloc: Global, name: Name) -> Result<(), Refusal>
         ensures { Meets result (sight B.heard self.old) (sight B.heard self.new) (through_named_step name) }
     {
@@ -109,6 +112,7 @@ impl<'p, B: Below> View<'p, B> {
     }
 
     /// Whether the first element that is the item or a barrier is the item.
+    #[inline(always)]
     fn is_item(&mut self, alloc: Global, item: Known) -> Result<bool, Refusal>
         ensures { Answers result (sight B.heard self.old) (sight B.heard self.new) (is_item_plan (kinds.Html (text_of item))) }
     {
@@ -117,6 +121,7 @@ impl<'p, B: Below> View<'p, B> {
     }
 
     /// Closes a list item that a new one ends.
+    #[inline(always)]
     pub fn close_item(&mut self, alloc: Global) -> Result<(), Refusal>
         ensures { Meets result (sight B.heard self.old) (sight B.heard self.new) close_item_step }
     {

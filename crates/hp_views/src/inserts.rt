@@ -35,6 +35,7 @@ impl<'p, B: Below> View<'p, B> {
     }
 
     /// A child at the appropriate place.
+    #[inline(always)]
     pub fn put(&mut self, alloc: Global, fostering: bool, child: Child<'p>) -> Result<(), Refusal>
         ensures { Meets result (sight B.heard self.old) (sight B.heard self.new) (put_step fostering child.entry) }
     {
@@ -59,6 +60,7 @@ impl<'p, B: Below> View<'p, B> {
     }
 
     /// Makes an element for the tag, puts it into a place and pushes it.
+    #[inline(never)]
     fn insert_at(
         &mut self,
         alloc: Global,
@@ -84,6 +86,7 @@ impl<'p, B: Below> View<'p, B> {
 
     /// Inserts an element for the tag at the appropriate place (13.2.6.1). `point` is the integration point that it is; an
     /// HTML element is none.
+    #[inline(always)]
     pub fn insert(
         &mut self,
         alloc: Global,

@@ -57,6 +57,7 @@ impl<'p, B: Below> View<'p, B> {
     }
 
     /// Pops while the current node is of these kinds.
+    #[inline(always)]
     pub fn pop_run(&mut self, alloc: Global, names: Kinds) -> Result<(), Refusal>
         ensures { Meets result (sight B.heard self.old) (sight B.heard self.new) (pop_run_step names) }
     {
@@ -94,6 +95,7 @@ impl<'p, B: Below> View<'p, B> {
     }
 
     /// Pops up to and with the first of the goals, unless a stop stands above it.
+    #[inline(always)]
     pub fn through(&mut self, alloc: Global, goals: Kinds, stops: Kinds) -> Result<(), Refusal>
         ensures { Meets result (sight B.heard self.old) (sight B.heard self.new) (through_step goals stops) }
     {

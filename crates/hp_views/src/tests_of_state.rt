@@ -53,6 +53,7 @@ ghost use Rattle.hp_views.specs.Asking.{ask_last_tag, ask_seen};
 
 impl<'p, B: Below> View<'p, B> {
     /// Whether a goal stands above each stop.
+    #[inline(always)]
     pub fn is_seen(&mut self, alloc: Global, goals: Kinds, stops: Kinds) -> Result<bool, Refusal>
         ensures { Answers result (sight B.heard self.old) (sight B.heard self.new) (seen_plan goals stops) }
     {
@@ -67,6 +68,7 @@ impl<'p, B: Below> View<'p, B> {
     }
 
     /// Whether an element of these kinds is in that scope (13.2.4.2).
+    #[inline(always)]
     pub fn in_scope(&mut self, alloc: Global, scope: Scope, goals: Kinds) -> Result<bool, Refusal>
         ensures { Answers result (sight B.heard self.old) (sight B.heard self.new) (in_scope_plan scope goals) }
     {

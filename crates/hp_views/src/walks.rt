@@ -14,6 +14,7 @@ pub enum Walk {
 }
 
 /// Walks down to the first element that is a goal or a stop.
+#[inline(always)]
 pub fn element_walk(stack: &OpenElements, goals: &Kinds, stops: &Kinds) -> Walk
     ensures walk { result ≡ walk_of goals.now stops.now stack.now }
     ensures within { IsWithin result stack.now }
@@ -72,6 +73,7 @@ pub fn element_walk_from(stack: &OpenElements, from: usize, goals: &Kinds, stops
 }
 
 /// Walks down to the first element that is not of these kinds.
+#[inline(always)]
 pub fn run_of_walk(stack: &OpenElements, names: &Kinds) -> Walk
     ensures walk { result ≡ run_walk names.now stack.now }
     ensures within { IsWithin result stack.now }
@@ -151,6 +153,7 @@ pub fn marker_walk(list: &Stack<FormattingEntry>) -> Walk
 }
 
 /// Walks down to the last entry of that name, or to the last marker.
+#[inline(always)]
 pub fn name_walk(list: &Stack<FormattingEntry>, name: &Name) -> Walk
     ensures walk { result ≡ entry_walk name.now list.now }
     ensures within { IsWithin result list.now }
