@@ -109,6 +109,13 @@ impl<'p> Text<'p> {
     pub fn of_char(c: char) -> Text<'p>
         ensures { result ≡ c ∷ [] }
     {
+        if c.is_ascii() {
+            let mut bytes = [0; SHORT];
+            bytes[0] = c as u8;
+            return Text {
+                place: Place::Here(1, bytes),
+            };
+        }
         let mut buffer = [0; 4];
         let text = c.encode_utf8(&mut buffer);
         Text {
