@@ -334,6 +334,11 @@ pub single_later : (names : List Reference) (reading new : Reading) (name : List
 single_later names reading new name old looked mid last w e taken h =
     let P : Unread → Type 0 = λ u. Reads u 39 mid in single_opened names reading new name old mid last w (subst P e taken) h
 
+pub other_later : (names : List Reference) (reading new : Reading) (name : List ℕ) (old looked last : Unread) (w : Way) → looked ≡ old
+    → Arrives names BeforeAttributeValue (naming reading name []) looked new last w → Arrives names BeforeAttributeValue (naming reading name []) old new last w
+other_later names reading new name old looked last w e h =
+    let P : Unread → Type 0 = λ u. Arrives names BeforeAttributeValue (naming reading name []) u new last w in subst P e h
+
 pub unquoted_later : (names : List Reference) (reading new : Reading) (name : List ℕ) (old looked again last : Unread) (w : Way) → looked ≡ old → again ≡ looked
     → (first old.text ≡ Some 34 → ⊥) → (first looked.text ≡ Some 39 → ⊥) → BeginsBy (none_of unquoted_stops) again.text
     → Arrives names AttributeValueUnquoted (naming reading name []) again new last w → Arrives names BeforeAttributeValue (naming reading name []) old new last w

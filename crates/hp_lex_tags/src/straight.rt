@@ -1,12 +1,12 @@
 // The usual tag, read straight from the page: what the rows do code point by code point, at once.
-ghost use Rattle.std.specs.Prelude.{◌≡◌, ◌≤◌, ◌<◌, ℕ, List, [], Some, None, OnOk, IfOk, IfSome, IfNone, true, false, refl};
+ghost use Rattle.std.specs.Prelude.{◌≡◌, ◌≢◌, ◌≤◌, ◌<◌, ℕ, List, [], Some, None, OnOk, IfOk, IfSome, IfNone, true, false, refl};
 ghost use Rattle.hp_elements.specs.declared.token.Token.TheVariants as tokens;
 ghost use Rattle.hp_elements.specs.declared.sets.Namespace.TheVariants as namespaces;
 ghost use Rattle.std.specs.Str.{chars};
 ghost use Rattle.hp_names.specs.References.{Reference};
 ghost use Rattle.hp_tokens.specs.declared.state.State.TheVariants as states;
 ghost use Rattle.hp_tokens.specs.declared.building.Building.TheVariants as building;
-ghost use Rattle.hp_tokens.specs.Reading.{opens_start_tag, opens_end_tag};
+ghost use Rattle.hp_tokens.specs.Reading.{first, opens_start_tag, opens_end_tag};
 ghost use Rattle.hp_tokens.specs.Parts.{added, joined, finished_tag};
 ghost use Rattle.hp_tokens.specs.Advancing.{held, lexing};
 ghost use Rattle.hp_lex_tags.specs.Tags.{TagTurned};
@@ -299,7 +299,7 @@ fn read_quoted<R: Run>(
 }
 
 /// A value in single quotes, behind the first of them.
-#[inline(never)]
+#[inline]
 fn read_single_quoted(
     alloc: Global,
     names: &Names,
@@ -315,7 +315,7 @@ fn read_single_quoted(
 }
 
 /// A value without quotes.
-#[inline(never)]
+#[inline]
 fn read_unquoted(
     alloc: Global,
     names: &Names,
@@ -340,6 +340,30 @@ fn begins_value(input: &Cursor<'_>) -> bool
     }
 }
 
+/// The value of an attribute, behind its `=`, where it is not in double quotes.
+#[inline(never)]
+fn read_other_value(
+    alloc: Global,
+    names: &Names,
+    reading: &mut Reading,
+    name: Name,
+    input: &mut Cursor<'_>,
+) -> Result<Way, NoMemory>
+    requires other { first input.old.text ≢ Some 34 }
+    ensures { IfOk result (Arrives names.now states.BeforeAttributeValue (naming reading.old name []) input.old reading.new input.new) }
+{
+    if input.take_byte(b'\'') {
+        let single = read_single_quoted(alloc, names, reading, name, input)?;
+        return Ok(single);
+    }
+    if begins_value(input) {
+        let unquoted = read_unquoted(alloc, names, reading, name, input)?;
+        return Ok(unquoted);
+    }
+    keep(alloc, reading, name, "")?;
+    Ok(Way::Left(State::BeforeAttributeValue))
+}
+
 /// The value of an attribute, behind its `=`.
 #[inline]
 fn read_value(
@@ -358,16 +382,8 @@ fn read_value(
         )?;
         return Ok(double);
     }
-    if input.take_byte(b'\'') {
-        let single = read_single_quoted(alloc, names, reading, name, input)?;
-        return Ok(single);
-    }
-    if begins_value(input) {
-        let unquoted = read_unquoted(alloc, names, reading, name, input)?;
-        return Ok(unquoted);
-    }
-    keep(alloc, reading, name, "")?;
-    Ok(Way::Left(State::BeforeAttributeValue))
+    let other = read_other_value(alloc, names, reading, name, input)?;
+    Ok(other)
 }
 
 /// Whether the next code point begins the name of an attribute.
@@ -567,15 +583,15 @@ fn read_start_tag<'p>(
 {
     input.skip_ascii(1);
     let name = read_name(alloc, input)?;
-    if input.take_byte(b'>') {
-        stand_behind(alloc, machine, &name)?;
-        return Ok(Some(start_tag(name, Chain::new(), false)));
-    }
     let mut reading = Reading {
         name,
         attributes: Chain::new(),
         last: None,
     };
+    if input.take_byte(b'>') {
+        stand_behind(alloc, machine, &reading.name)?;
+        return Ok(Some(start_tag(reading.name, reading.attributes, false)));
+    }
     let way = read_rest(alloc, names, &mut reading, input)?;
     match way {
         Way::Whole { self_closing } => {
@@ -596,9 +612,9 @@ fn read_start_tag<'p>(
 
 /// The end tag is left to the rows, behind its name.
 #[inline(never)]
-fn leave_end_tag(alloc: Global, machine: &mut Machine, name: &Name) -> Result<(), NoMemory>
+fn leave_end_tag(alloc: Global, machine: &mut Machine, name: Name) -> Result<(), NoMemory>
     requires clear { machine.old.after_cr ≡ false }
-    ensures { OnOk result (machine.new ≡ tagging machine.old.last_tag states.TagName (building.EndTag name.now)) }
+    ensures { OnOk result (machine.new ≡ tagging machine.old.last_tag states.TagName (building.EndTag name)) }
 {
     machine.enter(State::TagName);
     machine.building = Building::EndTag(owned(alloc, name.as_str())?);
@@ -625,7 +641,7 @@ fn read_end_tag<'p>(
         machine.enter(State::Data);
         return Ok(Some(Token::EndTag { name }));
     }
-    leave_end_tag(alloc, machine, &name)?;
+    leave_end_tag(alloc, machine, name)?;
     Ok(None)
 }
 

@@ -1,6 +1,7 @@
-use Rattle.std.proofs.Common.{refl}
-use Rattle.std.proofs.lemmas.Str.{chars-nil}
-use Rattle.hp_lex_tags.proofs.StraightParts.{double_quoted, double_opened, single_later, unquoted_later, value_later}
+use Rattle.std.proofs.Common.{◌≡◌, refl, subst, sym, Some}
+use Rattle.std.specs.Prelude.{◌≢◌}
+use Rattle.hp_tokens.specs.Reading.{Unread, first}
+use Rattle.hp_lex_tags.proofs.StraightParts.{double_quoted, double_opened, other_later}
 use Rattle.hp_lex_tags.proofs.straight.read_value.Goals as goal
 
 pub read_quoted-requires-clause-quoted : goal.read_quoted-requires-clause-quoted
@@ -11,18 +12,12 @@ returns-then-take_byte c =
     double_opened c.args.names.now c.args.reading.now c.read_quoted.new.reading c.args.name c.args.input.now c.take_byte.new.self c.read_quoted.new.input c.in_ok-double.double
     (c.if-take_byte.ensures.taken refl) c.in_ok-double.ensures
 
-pub returns-then-take_byte-2 : goal.returns-then-take_byte-2
-returns-then-take_byte-2 c =
-    single_later c.args.names.now c.args.reading.now c.read_single_quoted.new.reading c.args.name c.args.input.now c.take_byte.new.self c.take_byte-2.new.self c.read_single_quoted.new.input c.in_ok-single.single
-    (c.if-take_byte.ensures.left refl).0 (c.if-take_byte-2.ensures.taken refl) c.in_ok-single.ensures
-
-pub returns-then-begins_value : goal.returns-then-begins_value
-returns-then-begins_value c =
-    unquoted_later c.args.names.now c.args.reading.now c.read_unquoted.new.reading c.args.name c.args.input.now c.take_byte.new.self c.take_byte-2.new.self c.read_unquoted.new.input c.in_ok-unquoted.unquoted
-    (c.if-take_byte.ensures.left refl).0 (c.if-take_byte-2.ensures.left refl).0 (c.if-take_byte.ensures.left refl).1 (c.if-take_byte-2.ensures.left refl).1
-    (c.if-begins_value.ensures refl) c.in_ok-unquoted.ensures
+pub read_other_value-requires : goal.read_other_value-requires
+read_other_value-requires c =
+    let P : Unread → Type 0 = λ u. first u.text ≢ Some 34 in
+    record { other = subst P (sym (c.if-take_byte.ensures.left refl).0) (c.if-take_byte.ensures.left refl).1 }
 
 pub returns : goal.returns
 returns c =
-    value_later c.args.reading.now c.keep.new.reading c.args.name _ c.args.input.now c.take_byte.new.self c.take_byte-2.new.self
-    (c.if-take_byte.ensures.left refl).0 (c.if-take_byte-2.ensures.left refl).0 chars-nil c.in_ok-keep.ensures
+    other_later c.args.names.now c.args.reading.now c.read_other_value.new.reading c.args.name c.args.input.now c.take_byte.new.self c.read_other_value.new.input c.in_ok-other.other
+    (c.if-take_byte.ensures.left refl).0 c.in_ok-other.ensures
