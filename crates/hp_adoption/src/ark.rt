@@ -60,7 +60,6 @@ fn equal_entries(list: &Stack<FormattingEntry>, tag: &Tag) -> Equal
 }
 
 /// How many older entries are equal to the tag.
-#[inline(never)]
 fn older_equals<'p, B: Below>(
     alloc: Global,
     view: &mut View<'p, B>,
@@ -78,7 +77,6 @@ fn older_equals<'p, B: Below>(
 }
 
 /// Of three entries that are equal, so many of them older, the earliest goes.
-#[inline(never)]
 fn make_room_by<'p, B: Below>(
     alloc: Global,
     view: &mut View<'p, B>,

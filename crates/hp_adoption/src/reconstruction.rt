@@ -33,6 +33,7 @@ ghost use Rattle.hp_adoption.specs.ReconPlans.{is_found};
 ghost use Rattle.hp_views.specs.Walks.{id_walk};
 
 /// Walks down the list to the last entry that is a marker or open.
+#[inline(always)]
 fn stale_walk(change: &Change) -> Walk
     ensures walk { result ≡ spec_stale_walk change.now.stack change.now.formatting }
     ensures within { IsWithin result change.now.formatting }

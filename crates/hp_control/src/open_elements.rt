@@ -125,7 +125,6 @@ impl OpenElements {
 
     /// Puts an element on top. At an `Err`, which comes only for want of memory, the stack is as before.
     #[tactic(auto, using(crate::proofs::EndLemmas::ends_pushed, crate::proofs::EndLemmas::ends_first, crate::proofs::EndLemmas::ends_dropped))]
-    #[inline(always)]
     pub fn push(&mut self, alloc: Global, element: OpenElement) -> Result<(), NoMemory>
         ensures ok { OnOk result (self.new ≡ element ∷ self.old) }
         ensures err { OnErr result (self.new ≡ self.old) }
