@@ -583,15 +583,15 @@ fn read_start_tag<'p>(
 {
     input.skip_ascii(1);
     let name = read_name(alloc, input)?;
+    if input.take_byte(b'>') {
+        stand_behind(alloc, machine, &name)?;
+        return Ok(Some(start_tag(name, Chain::new(), false)));
+    }
     let mut reading = Reading {
         name,
         attributes: Chain::new(),
         last: None,
     };
-    if input.take_byte(b'>') {
-        stand_behind(alloc, machine, &reading.name)?;
-        return Ok(Some(start_tag(reading.name, reading.attributes, false)));
-    }
     let way = read_rest(alloc, names, &mut reading, input)?;
     match way {
         Way::Whole { self_closing } => {

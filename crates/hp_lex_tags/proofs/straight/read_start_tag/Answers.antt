@@ -30,39 +30,39 @@ returns-then-take_byte c =
 
 pub leave-requires-clause-alone : goal.leave-requires-clause-alone
 leave-requires-clause-alone c =
-    between_alone c.in-At.state (arrives_as c.args.names.now TagName (StartTag (tag_of (bare c.in_ok-name.name c.new.result))) c.take_byte.new.self c.read_rest.new.input c.read_rest.new.reading c.in_ok-way.way (way.At c.in-At.state) c.in-At.is c.in_ok-way.ensures).1
+    between_alone c.in-At.state (arrives_as c.args.names.now TagName (StartTag (tag_of (bare c.in_ok-name.name c.new-2.result))) c.take_byte.new.self c.read_rest.new.input c.read_rest.new.reading c.in_ok-way.way (way.At c.in-At.state) c.in-At.is c.in_ok-way.ensures).1
 
 pub leave-requires-in-Left-clause-alone : goal.leave-requires-in-Left-clause-alone
 leave-requires-in-Left-clause-alone c =
-    (arrives_as c.args.names.now TagName (StartTag (tag_of (bare c.in_ok-name.name c.new.result))) c.take_byte.new.self c.read_rest.new.input c.read_rest.new.reading c.in_ok-way.way (way.Left c.in-Left.state) c.in-Left.is c.in_ok-way.ensures).1
+    (arrives_as c.args.names.now TagName (StartTag (tag_of (bare c.in_ok-name.name c.new-2.result))) c.take_byte.new.self c.read_rest.new.input c.read_rest.new.reading c.in_ok-way.way (way.Left c.in-Left.state) c.in-Left.is c.in_ok-way.ensures).1
 
 pub returns-in-Whole : goal.returns-in-Whole
 returns-in-Whole c =
     start_whole c.args.names.now c.args.machine.now c.requires.data c.requires.clear c.args.input.now c.skip_ascii.new.self
     (skipped 60 c.args.input.now c.skip_ascii.new.self (start_first c.args.input.now.text c.requires.opens) refl c.skip_ascii.ensures)
-    c.requires.opens c.take_byte.new.self (record { name = c.in_ok-name.name; attributes = c.new.result; last = None }) (named_at c.skip_ascii.new.self c.read_name.new.input c.take_byte.new.self c.in_ok-name.name (c.if-take_byte.ensures.left refl).0 c.in_ok-name.ensures)
-    (ap (λ (xs : List Attribute). bare c.in_ok-name.name xs) c.new.ensures)
+    c.requires.opens c.take_byte.new.self (record { name = c.in_ok-name.name; attributes = c.new-2.result; last = None }) (named_at c.skip_ascii.new.self c.read_name.new.input c.take_byte.new.self c.in_ok-name.name (c.if-take_byte.ensures.left refl).0 c.in_ok-name.ensures)
+    (ap (λ (xs : List Attribute). bare c.in_ok-name.name xs) c.new-2.ensures)
     c.stand_behind-in-Whole.new.machine c.read_rest.new.input c.read_rest.new.reading c.in-Whole.self_closing c.start_tag-in-Whole.result
-    (arrives_as c.args.names.now TagName (StartTag (tag_of (bare c.in_ok-name.name c.new.result))) c.take_byte.new.self c.read_rest.new.input c.read_rest.new.reading c.in_ok-way.way (way.Whole c.in-Whole.self_closing) c.in-Whole.is c.in_ok-way.ensures)
+    (arrives_as c.args.names.now TagName (StartTag (tag_of (bare c.in_ok-name.name c.new-2.result))) c.take_byte.new.self c.read_rest.new.input c.read_rest.new.reading c.in_ok-way.way (way.Whole c.in-Whole.self_closing) c.in-Whole.is c.in_ok-way.ensures)
     (c.start_tag-in-Whole.ensures ∙ ap (λ (r : Reading). Start c.in-Whole.self_closing (record { namespace = Html; name = r.name; attributes = r.attributes })) c.in_ok-fold-in-Whole.ensures)
     (c.in_ok-stand_behind-in-Whole.ensures ∙ ap (λ (r : Reading). tagging (Some r.name) Data Nothing) c.in_ok-fold-in-Whole.ensures)
 
 pub returns-in-At : goal.returns-in-At
 returns-in-At c =
-    let h = arrives_as c.args.names.now TagName (StartTag (tag_of (bare c.in_ok-name.name c.new.result))) c.take_byte.new.self c.read_rest.new.input c.read_rest.new.reading c.in_ok-way.way (way.At c.in-At.state) c.in-At.is c.in_ok-way.ensures in
+    let h = arrives_as c.args.names.now TagName (StartTag (tag_of (bare c.in_ok-name.name c.new-2.result))) c.take_byte.new.self c.read_rest.new.input c.read_rest.new.reading c.in_ok-way.way (way.At c.in-At.state) c.in-At.is c.in_ok-way.ensures in
     start_left c.args.names.now c.args.machine.now c.requires.data c.requires.clear c.args.input.now c.skip_ascii.new.self
     (skipped 60 c.args.input.now c.skip_ascii.new.self (start_first c.args.input.now.text c.requires.opens) refl c.skip_ascii.ensures)
-    c.requires.opens c.take_byte.new.self (record { name = c.in_ok-name.name; attributes = c.new.result; last = None }) (named_at c.skip_ascii.new.self c.read_name.new.input c.take_byte.new.self c.in_ok-name.name (c.if-take_byte.ensures.left refl).0 c.in_ok-name.ensures)
-    (ap (λ (xs : List Attribute). bare c.in_ok-name.name xs) c.new.ensures)
+    c.requires.opens c.take_byte.new.self (record { name = c.in_ok-name.name; attributes = c.new-2.result; last = None }) (named_at c.skip_ascii.new.self c.read_name.new.input c.take_byte.new.self c.in_ok-name.name (c.if-take_byte.ensures.left refl).0 c.in_ok-name.ensures)
+    (ap (λ (xs : List Attribute). bare c.in_ok-name.name xs) c.new-2.ensures)
     c.leave.new.machine c.read_rest.new.input c.read_rest.new.reading c.in-At.state h.0 (between_alone c.in-At.state h.1) c.in_ok-leave-in-At.ensures
 
 pub returns : goal.returns
 returns c =
-    let h = arrives_as c.args.names.now TagName (StartTag (tag_of (bare c.in_ok-name.name c.new.result))) c.take_byte.new.self c.read_rest.new.input c.read_rest.new.reading c.in_ok-way.way (way.Left c.in-Left.state) c.in-Left.is c.in_ok-way.ensures in
+    let h = arrives_as c.args.names.now TagName (StartTag (tag_of (bare c.in_ok-name.name c.new-2.result))) c.take_byte.new.self c.read_rest.new.input c.read_rest.new.reading c.in_ok-way.way (way.Left c.in-Left.state) c.in-Left.is c.in_ok-way.ensures in
     start_left c.args.names.now c.args.machine.now c.requires.data c.requires.clear c.args.input.now c.skip_ascii.new.self
     (skipped 60 c.args.input.now c.skip_ascii.new.self (start_first c.args.input.now.text c.requires.opens) refl c.skip_ascii.ensures)
-    c.requires.opens c.take_byte.new.self (record { name = c.in_ok-name.name; attributes = c.new.result; last = None }) (named_at c.skip_ascii.new.self c.read_name.new.input c.take_byte.new.self c.in_ok-name.name (c.if-take_byte.ensures.left refl).0 c.in_ok-name.ensures)
-    (ap (λ (xs : List Attribute). bare c.in_ok-name.name xs) c.new.ensures)
+    c.requires.opens c.take_byte.new.self (record { name = c.in_ok-name.name; attributes = c.new-2.result; last = None }) (named_at c.skip_ascii.new.self c.read_name.new.input c.take_byte.new.self c.in_ok-name.name (c.if-take_byte.ensures.left refl).0 c.in_ok-name.ensures)
+    (ap (λ (xs : List Attribute). bare c.in_ok-name.name xs) c.new-2.ensures)
     c.leave-in-Left.new.machine c.read_rest.new.input c.read_rest.new.reading c.in-Left.state h.0 h.1 c.in_ok-leave-in-Left.ensures
 
 pub skip_ascii-requires : goal.skip_ascii-requires
