@@ -139,7 +139,7 @@ fn attribute(known: Known) -> Attribute {
     }
 }
 
-/// A part of the page `one two`.
+/// A part of a page that begins with `one two`.
 #[derive(Clone, Copy)]
 enum Part {
     One,
@@ -147,14 +147,17 @@ enum Part {
     Two,
     /// Its first letter.
     Letter,
+    /// What doesn't fit into a text's own value.
+    Long,
 }
 
 fn text_of(part: Part) -> Text<'static> {
-    let page = "one two";
+    let page = "one two, and more than one value holds";
     match part {
         Part::One => Text::of_page(page, 0, 3),
         Part::Two => Text::of_page(page, 3, 7),
         Part::Letter => Text::of_page(page, 0, 1),
+        Part::Long => Text::of_page(page, 7, 38),
     }
 }
 
@@ -217,10 +220,12 @@ const EVERY_EDIT: &[Step] = &[
     Step::New,
     Step::Put(1, 0),
     Step::Put(2, 1),
-    // Two texts side by side in the page become one run, a third one a second run of the same text.
+    // Two texts side by side in the page become one run, a short one behind them a part of it, a long one a second run of the same
+    // text.
     Step::Text(Part::One, 1),
     Step::Text(Part::Two, 1),
     Step::Text(Part::Letter, 1),
+    Step::Text(Part::Long, 1),
     Step::Inside(
         1,
         Counts {
