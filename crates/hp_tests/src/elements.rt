@@ -35,8 +35,8 @@ fn texts_side_by_side_join(rt: HostRuntime) -> Result<(), Fail> {
     let mut text = Text::of_page(page, 0, 3);
     assert!(rt; text.join(Text::of_page(page, 3, 7)).is_none());
     assert_eq!(rt; text.as_str(), "one two");
-    match text.join(Text::of_page(page, 8, 12)) {
-        Some(apart) => assert_eq!(rt; apart.as_str(), " and"),
+    match text.join(Text::of_page(page, 12, 42)) {
+        Some(apart) => assert_eq!(rt; apart.as_str(), " twenty-three code points more"),
         None => panic!(rt; "these texts stand apart"),
     }
     assert_eq!(rt; text.as_str(), "one two");
@@ -44,6 +44,8 @@ fn texts_side_by_side_join(rt: HostRuntime) -> Result<(), Fail> {
     own.push(rt.alloc(), '!')?;
     own.push_str(rt.alloc(), " And then some more words.")?;
     assert_eq!(rt; own.as_str(), "one two! And then some more words.");
+    assert!(rt; text.join(Text::of_page(page, 8, 12)).is_none());
+    assert_eq!(rt; text.as_str(), "one two and");
     let taken = Text::of_owned(rt.alloc(), String::from_str(rt.alloc(), page)?)?;
     assert_eq!(rt; taken.as_str(), page);
     assert_eq!(rt; Text::from_str(rt.alloc(), "é€")?.len_bytes(), 5);
