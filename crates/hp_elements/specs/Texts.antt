@@ -8,7 +8,7 @@ use Rattle.hp_elements.specs.declared.text.Place.TheVariants.{Page, Here, Owned}
 abbrev pub placed_bytes : Place → List ℕ
 placed_bytes (Page spare bytes) = take (length bytes.now - spare) bytes.now
 placed_bytes (Here len bytes) = take len bytes
-placed_bytes (Owned text) = string_bytes text.value
+placed_bytes (Owned text) = string_bytes text
 
 abbrev pub placed : Place → List ℕ
 placed place = chars (placed_bytes place)
@@ -16,5 +16,5 @@ placed place = chars (placed_bytes place)
 -- its bytes are there, and are UTF-8
 abbrev pub IsPlaced : Place → Type 0
 IsPlaced (Page spare bytes) = (spare ≤ length bytes.now) × IsUtf8 (take (length bytes.now - spare) bytes.now)
-IsPlaced (Here len bytes) = (len ≤ 22) × IsUtf8 (take len bytes)
+IsPlaced (Here len bytes) = (len ≤ 30) × IsUtf8 (take len bytes)
 IsPlaced (Owned text) = Unit {0}

@@ -1,9 +1,12 @@
 //! The names that a rule, a set or a respelling names.
-ghost use Rattle.std.specs.Prelude.{◌≡◌, ◌↔◌, IsTrue, map, slice_get};
+ghost use Rattle.std.specs.Prelude.{◌≡◌, ◌↔◌, ◌==◌, IsTrue, map, slice_get};
+ghost use Rattle.std.specs.Cmp.Rules.{comparing};
+ghost use Rattle.std.specs.Ordering.{on};
+ghost use Rattle.std.proofs.Common.{rules};
 ghost use Rattle.hp_elements.specs.Names.{text_of, index_of, every};
 
 /// A name that the rules name, in the spelling that its elements or attributes have. Names of elements come first.
-#[derive(Clone, Copy, PartialEq, Eq)]
+#[derive(Clone, Copy)]
 pub enum Known {
     A,
     Address,
@@ -763,6 +766,21 @@ impl Known {
     {
         self.index() == other.index()
     }
+}
+
+impl PartialEq for Known {
+    ghost eq = { on index_of ◌==◌ };
+
+    ghost laws = { Prim.search (comparing, rules) };
+
+    /// By the places, which the many names would compare one by one.
+    fn eq(&self, other: &Known) -> bool {
+        self.index() == other.index()
+    }
+}
+
+impl Eq for Known {
+    ghost laws = { Prim.search (comparing, rules) };
 }
 
 /// The name at a place of a table.

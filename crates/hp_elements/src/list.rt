@@ -206,6 +206,14 @@ impl<T: Drop> List<T> {
         if let Items::Many(items) = &mut self.items {
             return items.truncate(len);
         }
+        self.truncate_few(len);
+    }
+
+    /// The same where the list has no items on the heap.
+    #[inline(never)]
+    fn truncate_few(&mut self, len: usize)
+        ensures { self.new ≡ take len self.old }
+    {
         let items = mem::replace(&mut self.items, Items::Empty);
         self.items = truncated(items, len);
     }

@@ -1,5 +1,6 @@
 //! The name of an element or an attribute.
-ghost use Rattle.std.specs.Prelude.{◌≡◌, ◌≤◌, None, IfOk, ◌↔◌, IsTrue, length, take, IsUtf8, string_bytes};
+ghost use Rattle.std.specs.Prelude.{◌≡◌, ◌≤◌, None, IfOk, ◌↔◌, IsTrue, length, map, take, IsUtf8, string_bytes};
+ghost use Rattle.std.specs.Char.{to_ascii_lowercase};
 ghost use Rattle.std.specs.Str.{chars};
 
 use crate::known::Known;
@@ -131,7 +132,7 @@ impl Name {
     {
         if text.len() <= SHORT {
             let mut bytes: [u8; 16] = short_bytes(text.as_bytes());
-            bytes.make_ascii_lowercase();
+            lower_all(&mut bytes);
             let spelling = Spelling::Short(text.len() as u8, front_of(&bytes));
             return Ok(Name { spelling });
         }
@@ -188,6 +189,14 @@ impl Name {
         };
         Ok(Name { spelling })
     }
+}
+
+/// Lowers the ASCII upper case letters of so many bytes that it is done at once.
+#[inline(never)]
+fn lower_all(bytes: &mut [u8; 16])
+    ensures { bytes.new ≡ map to_ascii_lowercase bytes.old }
+{
+    bytes.make_ascii_lowercase();
 }
 
 /// The first bytes of so many that their letters are lowered at once.

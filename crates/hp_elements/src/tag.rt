@@ -58,7 +58,23 @@ impl Attribute {
 
 impl Tag {
     /// A tag that equals this one.
+    #[inline]
     pub fn copy(&self, alloc: Global) -> Result<Tag, AllocError>
+        ensures { IfOk result (λ copy. copy ≡ self.now) }
+    {
+        match self.name.known() {
+            Some(known) if self.attributes.is_empty() => Ok(Tag {
+                namespace: self.namespace,
+                name: Name::of_known(known),
+                attributes: Chain::new(),
+            }),
+            _ => self.copy_all(alloc),
+        }
+    }
+
+    /// The same, also for a tag with attributes or of a name that is no known one.
+    #[inline(never)]
+    fn copy_all(&self, alloc: Global) -> Result<Tag, AllocError>
         ensures { IfOk result (λ copy. copy ≡ self.now) }
     {
         let name = self.name.copy(alloc)?;

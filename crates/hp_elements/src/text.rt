@@ -9,7 +9,7 @@ use std::marker::Model;
 use std::str::from_utf8_unchecked;
 
 /// How many bytes a text has at most that stands in the value itself.
-const SHORT: usize = 22;
+const SHORT: usize = 30;
 
 /// Where the code points of a text stand.
 #[derive(Drop)]
@@ -18,7 +18,7 @@ enum Place<'p> {
     Page(u32, &'p [u8]),
     /// Here, in the first so many bytes.
     Here(u8, [u8; SHORT]),
-    Owned(Box<String>),
+    Owned(String),
 }
 
 /// A text: a part of the page, or code points of its own. A `Text<'static>` owns them.
@@ -140,7 +140,7 @@ impl<'p> Text<'p> {
             return Text::from_str(alloc, text.as_str());
         }
         Ok(Text {
-            place: Place::Owned(Box::new(alloc, text)?),
+            place: Place::Owned(text),
         })
     }
 
@@ -226,13 +226,13 @@ fn copied<'p>(alloc: Global, text: &str) -> Result<Place<'p>, AllocError>
         return Ok(Place::Here(text.len() as u8, short_bytes(text.as_bytes())));
     }
     let text = String::from_str(alloc, text)?;
-    Ok(Place::Owned(Box::new(alloc, text)?))
+    Ok(Place::Owned(text))
 }
 
 /// The first so many bytes, and more behind them.
 #[inline]
 fn put_behind(bytes: &[u8; SHORT], len: u8, more: &[u8]) -> [u8; SHORT]
-    requires { len + length more.now ≤ 22 }
+    requires { len + length more.now ≤ 30 }
     ensures { take (len + length more.now) result ≡ take len bytes.now ++ more.now }
 {
     let from = len as usize;

@@ -7,9 +7,9 @@ use Rattle.hp_elements.proofs.text.Text.push_str.Goals as goal
 
 pub returns-in-Owned-clause-ok : goal.returns-in-Owned-clause-ok
 returns-in-Owned-clause-ok c =
-    pushed_text c.push_str.result (string_bytes c.deref_mut.result.now) c.args.more.now (string_bytes c.push_str.new.self) c.args.self.now
-    (IsUtf8-string_bytes c.deref_mut.result.now) c.push_str.ensures.bytes
-    (ap (λ s. chars (string_bytes s)) c.deref_mut.ensures.value ∙ (sym (ap placed c.in-Owned.is) ∙ c.self.view_is))
+    pushed_text c.push_str.result (string_bytes c.in-Owned.text) c.args.more.now (string_bytes c.push_str.new.self) c.args.self.now
+    (IsUtf8-string_bytes c.in-Owned.text) c.push_str.ensures.bytes
+    (sym (ap placed c.in-Owned.is) ∙ c.self.view_is)
 
 behind : (len : ℕ) (bytes more now new : List ℕ) → now ≡ more → take (len + length now) new ≡ take len bytes ++ now → take (len + length more) new ≡ take len bytes ++ more
 behind len bytes more now new e h = ap (λ (xs : List ℕ). take (len + length xs) new) (sym e) ∙ (h ∙ ap (λ (xs : List ℕ). take len bytes ++ xs) e)
