@@ -8,3 +8,4 @@ pub mod FineRows
 pub mod PlainRuns
 pub mod WholeTexts
 pub mod Searching
+pub mod Blocks

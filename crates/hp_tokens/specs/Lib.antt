@@ -10,3 +10,4 @@ pub mod Advancing
 pub mod Valid
 pub mod Plain
 pub mod PlainLaws
+pub mod Blocks

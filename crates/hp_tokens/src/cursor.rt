@@ -2,9 +2,9 @@
 ghost use Rattle.std.specs.Prelude.{◌≡◌, ℕ, List, [], ◌∷◌, ◌++◌, length, drop, take, IsUtf8, ◌+◌, ◌<◌, ◌≤◌, ◌^◌, MatchOption, true, false, slice_index, Bool};
 ghost use Rattle.std.specs.List.{list_all};
 
-use crate::plain::WholeDataText;
+use crate::stops::four_stops_len;
 use hp_elements::Text;
-use memchr::{memchr, memchr3};
+use memchr::memchr3;
 use std::marker::Model;
 
 /// The place of a text's first byte. Places count from here, so that the few code points that stood before a text, and
@@ -23,6 +23,14 @@ pub trait Run {
     ghost high: { (c : ℕ) → 128 ≤ c → passes c ≡ true };
 
     ghost no_cr: { passes 13 ≡ false };
+}
+
+/// A test of bytes whose runs are found by whole vectors.
+pub trait LongRun: Run {
+    /// How many bytes from `at` on pass.
+    fn run_len(bytes: &[u8], at: usize) -> usize
+        requires { at ≤ length bytes.now }
+        ensures { PassesFrom Self.passes bytes.now at result };
 }
 
 /// A cursor over a text.
@@ -196,6 +204,18 @@ impl<'p> Cursor<'p> {
         &self.text[from..self.at]
     }
 
+    /// The same, for runs of which most are long.
+    #[inline(always)]
+    pub fn take_long_run<R: LongRun>(&mut self) -> &'p str
+        ensures run { ReadsRun R.passes self.old (chars result.now) self.new }
+        ensures stops { StopsRun R.passes self.new }
+    {
+        let count = R::run_len(self.text.as_bytes(), self.at);
+        let from = self.at;
+        self.at += count;
+        &self.text[from..self.at]
+    }
+
     /// Takes the run of code points at the front that pass, as a part of the text, in which nothing is copied.
     #[inline(always)]
     pub fn take_text<R: Run>(&mut self) -> Text<'p>
@@ -314,31 +334,13 @@ fn is_pair(rest: &[u8]) -> bool
 
 ghost use Rattle.hp_tokens.specs.Plain.{none_of, whole_data_stops, whole_raw_stops};
 
-/// How many bytes are looked at one by one, before a search by vectors begins.
-const NEAR: usize = 24;
-
 /// How many bytes from `at` on stand before the next `<`, `&`, CR or U+0000.
-#[inline]
+#[inline(always)]
 fn data_len(bytes: &[u8], at: usize) -> usize
     requires { at ≤ length bytes.now }
     ensures { PassesFrom (none_of whole_data_stops) bytes.now at result }
 {
-    let rest = &bytes[at..];
-    let near = &rest[..rest.len().min(NEAR)];
-    let count = run_len::<WholeDataText>(near, 0);
-    if count < near.len() {
-        return count;
-    }
-    far_data_len(rest)
-}
-
-/// The same of a long text.
-#[inline(never)]
-fn far_data_len(rest: &[u8]) -> usize
-    ensures { PassesFrom (none_of whole_data_stops) rest.now 0 result }
-{
-    let count = memchr3(b'<', b'&', b'\r', rest).unwrap_or(rest.len());
-    memchr(b'\0', &rest[..count]).unwrap_or(count)
+    four_stops_len(bytes, at, b'&', b'<')
 }
 
 /// How many bytes from `at` on stand before the next `<`, CR or U+0000.

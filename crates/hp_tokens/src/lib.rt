@@ -15,13 +15,14 @@ pub mod runs;
 mod same;
 pub mod state;
 pub mod steps;
+mod stops;
 
 pub use building::{Building, NewAttribute, NewDoctype, NewTag, Part, add};
 pub use combinators::{
     again, back, buffer_emitted, buffer_emitted_at_end, emitted, emitted_again, emitted_at_end,
     emitted_char, ended, flushed, go, is_blank, put, put_lowered, replaced,
 };
-pub use cursor::{Cursor, ORIGIN, Run};
+pub use cursor::{Cursor, LongRun, ORIGIN, Run};
 pub use laws::any_pieces;
 pub use lexing::LexState;
 pub use machine::{Machine, push_char, push_text};

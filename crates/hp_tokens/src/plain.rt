@@ -1,10 +1,12 @@
 // What the runs go over, one type a class of text.
-ghost use Rattle.std.specs.Prelude.{◌≡◌, [], ◌∷◌, refl};
-ghost use Rattle.hp_tokens.specs.Plain.{none_of, in_name, whole_data_stops, data_stops, raw_stops, plaintext_stops, escaped_stops, cdata_stops, comment_stops, bogus_comment_stops, double_quoted_stops, single_quoted_stops, unquoted_stops, tag_name_stops, attribute_name_stops};
+ghost use Rattle.std.specs.Prelude.{◌≡◌, ◌≤◌, [], ◌∷◌, length, refl};
+ghost use Rattle.hp_tokens.specs.Reading.{PassesFrom};
+ghost use Rattle.hp_tokens.specs.Plain.{none_of, in_name, data_stops, raw_stops, plaintext_stops, escaped_stops, cdata_stops, comment_stops, bogus_comment_stops, double_quoted_stops, single_quoted_stops, unquoted_stops, tag_name_stops, attribute_name_stops};
 ghost use Rattle.hp_tokens.specs.PlainLaws.{none-high, name-high, text-other};
 
-use crate::cursor::Run;
+use crate::cursor::{LongRun, Run};
 use crate::runs::TextRun;
+use crate::stops::four_stops_len;
 
 /// Text in the data state and in RCDATA: up to white space, U+0000, CR, `&` or `<`.
 #[derive(Drop)]
@@ -184,6 +186,16 @@ impl Run for DoubleQuotedText {
     ghost no_cr = { refl };
 }
 
+impl LongRun for DoubleQuotedText {
+    #[inline(always)]
+    fn run_len(bytes: &[u8], at: usize) -> usize
+        requires { at ≤ length bytes.now }
+        ensures { PassesFrom (none_of double_quoted_stops) bytes.now at result }
+    {
+        four_stops_len(bytes, at, b'"', b'&')
+    }
+}
+
 /// A value in single quotes: up to U+0000, CR, `&` or `'`.
 #[derive(Drop)]
 pub struct SingleQuotedText;
@@ -201,6 +213,16 @@ impl Run for SingleQuotedText {
     ghost high = { none-high single_quoted_stops refl };
 
     ghost no_cr = { refl };
+}
+
+impl LongRun for SingleQuotedText {
+    #[inline(always)]
+    fn run_len(bytes: &[u8], at: usize) -> usize
+        requires { at ≤ length bytes.now }
+        ensures { PassesFrom (none_of single_quoted_stops) bytes.now at result }
+    {
+        four_stops_len(bytes, at, b'&', b'\'')
+    }
 }
 
 /// A value without quotes: up to white space, U+0000, CR, `&` or `>`.
@@ -311,25 +333,6 @@ impl Run for AnyAttributeNameText {
     }
 
     ghost high = { none-high attribute_name_stops refl };
-
-    ghost no_cr = { refl };
-}
-
-/// Text in the data state and in RCDATA, whatever its class: up to U+0000, CR, `&` or `<`.
-#[derive(Drop)]
-pub struct WholeDataText;
-
-impl Run for WholeDataText {
-    ghost passes = { none_of whole_data_stops };
-
-    #[inline]
-    fn passes(byte: u8) -> bool
-        ensures { result ≡ none_of whole_data_stops byte }
-    {
-        !matches!(byte, b'\0' | b'\r' | b'&' | b'<')
-    }
-
-    ghost high = { none-high whole_data_stops refl };
 
     ghost no_cr = { refl };
 }
