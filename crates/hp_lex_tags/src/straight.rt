@@ -19,8 +19,9 @@ use crate::usual_reference::{is_at_ampersand, usual_name};
 use hp_elements::{Attribute, AttributeSpace, Chain, Name, Namespace, Tag, Text, Token};
 use hp_names::Names;
 use hp_tokens::{
-    AnyAttributeNameText, AnyTagNameText, Building, Cursor, DoubleQuotedText, LexState, Machine,
-    NewAttribute, NewTag, NoMemory, OwnedText, Run, SingleQuotedText, State, UnquotedText, add,
+    AnyAttributeNameText, AnyTagNameText, Building, Cursor, DoubleQuotedText, LexState, LongRun,
+    Machine, NewAttribute, NewTag, NoMemory, OwnedText, Run, SingleQuotedText, State, UnquotedText,
+    add,
 };
 use std::alloc::Global;
 
@@ -35,7 +36,7 @@ impl Run for AttributeNameBytes {
     fn passes(byte: u8) -> bool
         ensures { result ≡ none_of attribute_name_stops byte }
     {
-        byte > b'>' || AnyAttributeNameText::passes(byte)
+        byte > b'>' || (byte != b'=' && AnyAttributeNameText::passes(byte))
     }
 
     ghost high = { none-high attribute_name_stops refl };
@@ -274,7 +275,7 @@ fn read_behind_run<R: Run>(
 
 /// A value in quotes, behind the first of them.
 #[inline]
-fn read_quoted<R: Run>(
+fn read_quoted<R: LongRun>(
     alloc: Global,
     names: &Names,
     reading: &mut Reading,
@@ -287,7 +288,7 @@ fn read_quoted<R: Run>(
     requires quoted { IsQuoted R.passes mark state }
     ensures { IfOk result (Arrives names.now state (naming reading.old name []) input.old reading.new input.new) }
 {
-    let run = input.take_run::<R>();
+    let run = input.take_long_run::<R>();
     if input.take_byte(mark) {
         keep(alloc, reading, name, run)?;
         return Ok(behind(input, State::AfterAttributeValueQuoted));
@@ -561,7 +562,7 @@ fn leave(
 }
 
 /// The name of a tag, in lower case.
-#[inline]
+#[inline(always)]
 fn read_name(alloc: Global, input: &mut Cursor<'_>) -> Result<Name, NoMemory>
     ensures { IfOk result (λ name. NameTaken input.old name input.new) }
 {
@@ -569,7 +570,7 @@ fn read_name(alloc: Global, input: &mut Cursor<'_>) -> Result<Name, NoMemory>
 }
 
 /// A start tag, of which `<` comes next and then a letter; `None` where the rows go on.
-#[inline(never)]
+#[inline(always)]
 fn read_start_tag<'p>(
     alloc: Global,
     names: &Names,
@@ -622,7 +623,7 @@ fn leave_end_tag(alloc: Global, machine: &mut Machine, name: Name) -> Result<(),
 }
 
 /// An end tag, of which `</` comes next and then a letter; `None` where the rows go on.
-#[inline(never)]
+#[inline(always)]
 fn read_end_tag<'p>(
     alloc: Global,
     names: &Names,
@@ -658,20 +659,19 @@ fn tag_in_data<'p>(
     requires held { held state.old ≤ input.old.place }
     ensures tag { IfOk result (λ tag. TagTurned names.now (lexing state.old input.old rested.old) tag (lexing state.new input.new rested.new) rested.new) }
     ensures held { IfOk result (λ tag. held state.new ≤ input.new.place) }
+    ensures ahead { OnOk result (state.new.ahead ≡ state.old.ahead) }
 {
     if state.machine.after_cr || !state.ahead.is_empty() {
         return Ok(None);
     }
     let place = input.place();
     if input.opens_start_tag() {
-        let start = read_start_tag(alloc, names, &mut state.machine, input)?;
         *rested = place;
-        return Ok(start);
+        return read_start_tag(alloc, names, &mut state.machine, input);
     }
     if input.opens_end_tag() {
-        let end = read_end_tag(alloc, names, &mut state.machine, input)?;
         *rested = place;
-        return Ok(end);
+        return read_end_tag(alloc, names, &mut state.machine, input);
     }
     Ok(None)
 }
@@ -690,12 +690,10 @@ pub fn next_tag<'p>(
     requires held { held state.old ≤ input.old.place }
     ensures tag { IfOk result (λ tag. TagTurned names.now (lexing state.old input.old rested.old) tag (lexing state.new input.new rested.new) rested.new) }
     ensures held { IfOk result (λ tag. held state.new ≤ input.new.place) }
+    ensures ahead { OnOk result (state.new.ahead ≡ state.old.ahead) }
 {
     match state.machine.state {
-        State::Data => {
-            let tag = tag_in_data(alloc, names, state, input, rested)?;
-            Ok(tag)
-        }
+        State::Data => tag_in_data(alloc, names, state, input, rested),
         _ => Ok(None),
     }
 }

@@ -133,6 +133,7 @@ pub fn next_reference<'p>(
     ensures no_nul { IfSome result (λ text. list_all (none_of (0 ∷ [])) text ≡ true) }
     ensures long { IfSome result (λ text. 0 < length text) }
     ensures held { held state.new ≤ input.new.place }
+    ensures ahead { state.new.ahead ≡ state.old.ahead }
 {
     if state.machine.after_cr || !state.ahead.is_empty() || !is_at_ampersand(input) {
         return None;
