@@ -3,6 +3,7 @@ pub mod Reversed
 pub mod RestLemmas
 pub mod WalkLemmas
 pub mod EndLemmas
+pub mod StandingLemmas
 pub mod NothingLemmas
 pub mod TextTests
 pub mod StartLemmas

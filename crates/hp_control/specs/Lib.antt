@@ -1,6 +1,7 @@
 pub mod Edits
 pub mod Held
 pub mod Tree
+pub mod Standings
 pub mod States
 pub mod KindTests
 pub mod Walks

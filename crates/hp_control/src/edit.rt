@@ -187,7 +187,8 @@ fn add<'p>(
 {
     match edits {
         Some(items) => {
-            items.push(edit)?;
+            items.reserve(1)?;
+            items.push_reserved(edit);
             Ok(())
         }
         None => {

@@ -1,11 +1,12 @@
 //! The stack of open elements (13.2.4.2), which knows at each element whether a p element is in button scope.
-ghost use Rattle.std.specs.Prelude.{◌≡◌, ◌+◌, ◌<◌, ◌≤◌, ◌==◌, [], ◌∷◌, ◌++◌, length, take, drop, OnOk, OnErr, IfOk, MatchOption, slice_index_or};
+ghost use Rattle.std.specs.Prelude.{◌≡◌, ◌+◌, ◌-◌, ◌<◌, ◌≤◌, ◌==◌, [], ◌∷◌, ◌++◌, length, take, drop, OnOk, OnErr, IfOk, MatchOption, slice_index_or};
 ghost use Rattle.hp_control.specs.Ends.{paragraph_from, paragraph_end, AreEnds, first_end};
+ghost use Rattle.hp_control.specs.Standings.{elements_of, ends_of};
 
 use crate::element::OpenElement;
 use crate::kinds::is_within;
 use crate::stack::Stack;
-use hp_elements::{Kinds, Known, List, Name, NoMemory, SetName};
+use hp_elements::{Kinds, Known, List, Name, Namespace, NoMemory, Point, SetName};
 use std::alloc::Global;
 use std::marker::Model;
 
@@ -17,24 +18,31 @@ pub enum WalkEnd {
     BelowAll,
 }
 
+/// An element on the stack.
+#[derive(Drop)]
+struct Standing {
+    element: OpenElement,
+    /// Where the walk from it down ends that looks for a p element in button scope.
+    end: WalkEnd,
+}
+
 /// The stack of open elements. A contract sees it as a list with the current node first.
 #[derive(Drop)]
 pub struct OpenElements {
-    elements: Stack<OpenElement>,
-    /// Where the walk from each element down ends that looks for a p element in button scope.
-    ends: Stack<WalkEnd>,
+    standing: Stack<Standing>,
 }
 
 impl Model for OpenElements {
-    ghost use Rattle.std.specs.Prelude.{List, ◌≡◌};
+    ghost use Rattle.std.specs.Prelude.{List};
     ghost use Rattle.hp_control.specs.declared.element.OpenElement.{OpenElement};
     ghost use Rattle.hp_control.specs.Ends.{AreEnds};
+    ghost use Rattle.hp_control.specs.Standings.{elements_of, ends_of};
 
     ghost Value = { List OpenElement };
 
-    ghost view = { λ s. s.elements };
+    ghost view = { λ s. elements_of s.standing };
 
-    ghost invariant = { λ s. AreEnds s.elements s.ends };
+    ghost invariant = { λ s. AreEnds (elements_of s.standing) (ends_of s.standing) };
 }
 
 /// Where the walk from an element ends, by where that from the next below it ends.
@@ -51,41 +59,71 @@ fn paragraph_from(element: &OpenElement, below: WalkEnd) -> WalkEnd
     }
 }
 
-/// Where the walk ends of which these are the ends, the topmost first.
-fn first_end(ends: &Stack<WalkEnd>, depth: usize) -> WalkEnd
-    ensures { result ≡ first_end (drop depth ends.now) }
+/// Where the walk from the element at a depth down ends.
+#[tactic(auto, using(crate::proofs::StandingLemmas::end_first, crate::proofs::StandingLemmas::end_none))]
+#[inline(always)]
+fn end_at(standing: &Stack<Standing>, depth: usize) -> WalkEnd
+    ensures { result ≡ first_end (drop depth (ends_of standing.now)) }
 {
-    if depth < ends.len() {
-        *ends.at(depth)
+    if depth < standing.len() {
+        standing.at(depth).end
     } else {
         WalkEnd::BelowAll
     }
 }
 
+/// Finds out anew where the walk ends from the element directly above a depth. Another one stands there meanwhile, so that the
+/// end can be written.
+fn renew_above(standing: &mut Stack<Standing>, depth: usize)
+    requires positive { 0 < depth }
+    requires within { depth ≤ length standing.old }
+    requires below { AreEnds (drop depth (elements_of standing.old)) (drop depth (ends_of standing.old)) }
+    ensures elements { elements_of standing.new ≡ elements_of standing.old }
+    ensures ends { AreEnds (drop (depth - 1) (elements_of standing.new)) (drop (depth - 1) (ends_of standing.new)) }
+{
+    let above = depth - 1;
+    let end = paragraph_from(&standing.at(above).element, end_at(standing, depth));
+    let another = OpenElement {
+        id: 0,
+        namespace: Namespace::Html,
+        name: Name::of_known(Known::P),
+        point: Point::No,
+    };
+    let old = standing.replace(
+        above,
+        Standing {
+            element: another,
+            end,
+        },
+    );
+    let _ = standing.replace(
+        above,
+        Standing {
+            element: old.element,
+            end,
+        },
+    );
+}
+
 /// Finds out anew where the walks from the top elements end.
-#[tactic(auto, using(crate::proofs::EndLemmas::ends_renewed))]
-fn renew(elements: &Stack<OpenElement>, ends: &mut Stack<WalkEnd>, count: usize)
-    requires count { count ≤ length elements.now }
-    requires length { length ends.old ≡ length elements.now }
-    requires below { AreEnds (drop count elements.now) (drop count ends.old) }
-    ensures { AreEnds elements.now ends.new }
+fn renew(standing: &mut Stack<Standing>, count: usize)
+    requires count { count ≤ length standing.old }
+    requires below { AreEnds (drop count (elements_of standing.old)) (drop count (ends_of standing.old)) }
+    ensures elements { elements_of standing.new ≡ elements_of standing.old }
+    ensures ends { AreEnds (elements_of standing.new) (ends_of standing.new) }
 {
     for turn in 0..count {
-        let depth = count - 1 - turn;
-        let end = paragraph_from(elements.at(depth), first_end(ends, depth + 1));
-        let _ = ends.replace(depth, end);
+        renew_above(standing, count - turn);
     }
 }
 
 impl OpenElements {
     /// A stack without elements.
-    #[tactic(auto, using(crate::proofs::EndLemmas::no_ends))]
     pub fn new() -> OpenElements
         ensures { result ≡ [] }
     {
         OpenElements {
-            elements: Stack::new(),
-            ends: Stack::new(),
+            standing: Stack::new(),
         }
     }
 
@@ -94,7 +132,7 @@ impl OpenElements {
     pub fn len(&self) -> usize
         ensures { result ≡ length self.now }
     {
-        self.elements.len()
+        self.standing.len()
     }
 
     /// Whether there is no element.
@@ -102,7 +140,7 @@ impl OpenElements {
     pub fn is_empty(&self) -> bool
         ensures { result ≡ (length self.now == 0) }
     {
-        self.elements.is_empty()
+        self.standing.is_empty()
     }
 
     /// The element at a depth; the current node is at 0.
@@ -111,85 +149,73 @@ impl OpenElements {
         requires { depth < length self.now }
         ensures { result.now ≡ slice_index_or self.now depth result.now }
     {
-        self.elements.at(depth)
+        &self.standing.at(depth).element
     }
 
     /// Whether a p element is in button scope, as far as these elements tell.
     #[inline]
-    #[tactic(auto, using(crate::proofs::EndLemmas::ends_first))]
     pub fn paragraph(&self) -> WalkEnd
         ensures { result ≡ paragraph_end self.now }
     {
-        first_end(&self.ends, 0)
+        end_at(&self.standing, 0)
     }
 
     /// Puts an element on top. At an `Err`, which comes only for want of memory, the stack is as before.
-    #[tactic(auto, using(crate::proofs::EndLemmas::ends_pushed, crate::proofs::EndLemmas::ends_first, crate::proofs::EndLemmas::ends_dropped))]
+    #[inline(always)]
     pub fn push(&mut self, alloc: Global, element: OpenElement) -> Result<(), NoMemory>
         ensures ok { OnOk result (self.new ≡ element ∷ self.old) }
         ensures err { OnErr result (self.new ≡ self.old) }
     {
         let end = paragraph_from(&element, self.paragraph());
-        self.ends.push(alloc, end)?;
-        match self.elements.push(alloc, element) {
+        match self.standing.push(alloc, Standing { element, end }) {
             Ok(()) => Ok(()),
-            Err(_) => {
-                self.ends.drop_top(1);
-                Err(NoMemory)
-            }
+            Err(_) => Err(NoMemory),
         }
     }
 
     /// Takes the top `count` elements off.
-    #[tactic(auto, using(crate::proofs::EndLemmas::ends_dropped, crate::proofs::EndLemmas::ends_count))]
     pub fn drop_top(&mut self, count: usize)
         requires { count ≤ length self.old }
         ensures { self.new ≡ drop count self.old }
     {
-        self.elements.drop_top(count);
-        self.ends.drop_top(count);
+        self.standing.drop_top(count);
     }
 
     /// Takes the top element off; `None` where there is none.
-    #[tactic(auto, using(crate::proofs::EndLemmas::ends_dropped, crate::proofs::EndLemmas::ends_count))]
     pub fn pop(&mut self) -> Option<OpenElement>
         ensures { MatchOption result ((self.old ≡ []) × (self.new ≡ [])) (λ element. self.old ≡ element ∷ self.new) }
     {
-        if self.elements.is_empty() {
-            return None;
+        match self.standing.pop() {
+            Some(standing) => Some(standing.element),
+            None => None,
         }
-        self.ends.drop_top(1);
-        self.elements.pop()
     }
 
     /// Takes the element at a depth out; the top is at 0.
-    #[tactic(auto, using(crate::proofs::EndLemmas::ends_dropped, crate::proofs::EndLemmas::ends_count))]
     pub fn take_out(&mut self, depth: usize)
         requires { depth < length self.old }
         ensures { self.new ≡ take depth self.old ++ drop (depth + 1) self.old }
     {
-        self.elements.take_out(depth);
-        self.ends.take_out(depth);
-        renew(&self.elements, &mut self.ends, depth);
+        self.standing.take_out(depth);
+        renew(&mut self.standing, depth);
     }
 
     /// Takes the top `count` elements off; they come with the topmost first. At an `Err`, which comes only for want of memory,
     /// the stack is spent.
-    #[tactic(auto, using(crate::proofs::EndLemmas::ends_dropped, crate::proofs::EndLemmas::ends_count, crate::proofs::EndLemmas::no_ends))]
+    #[tactic(auto, using(crate::proofs::Setting::moved, crate::proofs::Setting::none_left, crate::proofs::Setting::front_of, crate::proofs::Setting::back_of))]
     pub fn lift(&mut self, alloc: Global, count: usize) -> Result<List<OpenElement>, NoMemory>
         requires { count ≤ length self.old }
         ensures top { IfOk result (λ top. top ≡ take count self.old) }
         ensures rest { IfOk result (λ _. self.new ≡ drop count self.old) }
     {
-        self.ends.drop_top(count);
-        match self.elements.lift(alloc, count) {
-            Ok(top) => Ok(top),
-            Err(_) => {
-                self.elements = Stack::new();
-                self.ends = Stack::new();
-                Err(NoMemory)
+        let mut top = List::new();
+        for _turn in 0..count {
+            match self.pop() {
+                Some(item) => top.push(alloc, item)?,
+                None => unreachable!(),
             }
         }
+        Ok(top)
     }
 
     /// Puts elements on top, the first of them topmost. At an `Err`, which comes only for want of memory, the stack is spent.

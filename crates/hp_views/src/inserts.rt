@@ -1,10 +1,11 @@
 //! The edits that acts make.
-ghost use Rattle.std.specs.Prelude.{◌≡◌, IfOk};
+ghost use Rattle.std.specs.Prelude.{◌≡◌, true, IfOk};
 ghost use Rattle.hp_control.specs.Acts.{element_for, point_in};
 ghost use Rattle.hp_control.specs.Plan.{gives};
 ghost use Rattle.hp_views.specs.Steps.{add_body_step, add_first_step, detach_step, insert_document_step, insert_step, put_document_step, put_first_step, put_step};
 ghost use Rattle.hp_views.specs.View.{sight, Carries, Meets};
-ghost use Rattle.hp_views.specs.PlacePlans.{put_at, insert_at, add_to_on};
+ghost use Rattle.hp_control.specs.declared.edit.Place.TheVariants.{Into};
+ghost use Rattle.hp_views.specs.PlacePlans.{put_at, insert_at, insert_plan, current_ref, add_to_on};
 
 use crate::place::{first_id, second_id};
 use crate::view::View;
@@ -13,6 +14,7 @@ use hp_elements::{Attribute, Chain, NoMemory, Point, Tag};
 use std::alloc::Global;
 
 /// The element of this id that is made for the tag, and is that point.
+#[inline(always)]
 fn element_for(alloc: Global, id: u64, tag: &Tag, point: Point) -> Result<OpenElement, NoMemory>
     requires point { point ≡ point_in tag.now.namespace tag.now }
     ensures { IfOk result (λ element. element ≡ element_for id tag.now) }
@@ -60,7 +62,7 @@ impl<'p, B: Below> View<'p, B> {
     }
 
     /// Makes an element for the tag, puts it into a place and pushes it.
-    #[inline(never)]
+    #[inline(always)]
     fn insert_at(
         &mut self,
         alloc: Global,
@@ -75,13 +77,33 @@ impl<'p, B: Below> View<'p, B> {
         let Some(made) = id.checked_add(1) else {
             return Err(Refusal::NoMemory);
         };
-        let element = element_for(alloc, id, &tag, point)?;
         let child = Child::Element(self.own_ref(id));
+        let element = element_for(alloc, id, &tag, point)?;
+        self.change.stack.push(alloc, element)?;
         self.edits.push(alloc, Edit::NewElement { tag })?;
         self.edits.push(alloc, Edit::Put { child, place })?;
-        self.change.stack.push(alloc, element)?;
         self.change.made = made;
         Ok(())
+    }
+
+    /// The same in the current node.
+    #[inline(never)]
+    fn insert_here(&mut self, alloc: Global, tag: Tag, point: Point) -> Result<(), Refusal>
+        requires point { point ≡ point_in tag.namespace tag }
+        ensures { Carries result (sight B.heard self.old) (sight B.heard self.new) (λ v. gives (insert_at tag v (Into (current_ref v)))) }
+    {
+        let place = Place::Into(self.ref_at(0));
+        self.insert_at(alloc, tag, point, place)
+    }
+
+    /// The same where it may not stand in a table.
+    #[inline(never)]
+    fn insert_fostered(&mut self, alloc: Global, tag: Tag, point: Point) -> Result<(), Refusal>
+        requires point { point ≡ point_in tag.namespace tag }
+        ensures { Carries result (sight B.heard self.old) (sight B.heard self.new) (insert_plan true tag) }
+    {
+        let place = self.place(alloc, true)?;
+        self.insert_at(alloc, tag, point, place)
     }
 
     /// Inserts an element for the tag at the appropriate place (13.2.6.1). `point` is the integration point that it is; an
@@ -97,11 +119,15 @@ impl<'p, B: Below> View<'p, B> {
         requires point { point ≡ point_in tag.namespace tag }
         ensures { Meets result (sight B.heard self.old) (sight B.heard self.new) (insert_step fostering tag) }
     {
-        let place = self.place(alloc, fostering)?;
-        self.insert_at(alloc, tag, point, place)
+        if fostering {
+            self.insert_fostered(alloc, tag, point)
+        } else {
+            self.insert_here(alloc, tag, point)
+        }
     }
 
     /// Inserts an element for the tag into the document.
+    #[inline(never)]
     pub fn insert_into_document(&mut self, alloc: Global, tag: Tag) -> Result<(), Refusal>
         requires html { tag.namespace ≡ Html }
         ensures { Meets result (sight B.heard self.old) (sight B.heard self.new) (insert_document_step tag) }

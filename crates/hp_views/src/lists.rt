@@ -1,8 +1,9 @@
 //! The list of active formatting elements (13.2.4.3).
 ghost use Rattle.std.specs.Prelude.{◌≡◌};
 ghost use Rattle.hp_views.specs.Steps.{append_step, clear_step, marker_step};
-ghost use Rattle.hp_views.specs.View.{sight, Answers, Meets};
-ghost use Rattle.hp_views.specs.ListPlans.{listed_plan, is_there};
+ghost use Rattle.hp_views.specs.View.{sight, Answers, Carries, Meets};
+ghost use Rattle.hp_views.specs.ListPlans.{clear_on, listed_plan, is_there};
+ghost use Rattle.hp_views.specs.declared.walks.Walk.TheVariants.{PastAll};
 
 use crate::asking::older_listed;
 use crate::view::View;
@@ -41,6 +42,7 @@ impl<'p, B: Below> View<'p, B> {
     }
 
     /// Takes entries off up to and with the last marker.
+    #[inline(always)]
     pub fn clear_to_marker(&mut self, _alloc: Global) -> Result<(), Refusal>
         ensures { Meets result (sight B.heard self.old) (sight B.heard self.new) clear_step }
     {
@@ -49,16 +51,22 @@ impl<'p, B: Below> View<'p, B> {
                 self.change.formatting.drop_top(depth + 1);
                 Ok(())
             }
-            _ => {
-                let Some(cuts) = self.change.cuts.checked_add(1) else {
-                    return Err(Refusal::NoMemory);
-                };
-                let count = self.change.formatting.len();
-                self.change.formatting.drop_top(count);
-                self.change.cuts = cuts;
-                Ok(())
-            }
+            _ => self.clear_all(),
         }
+    }
+
+    /// Takes all own entries off, and the older ones up to and with the last marker there.
+    #[inline(never)]
+    fn clear_all(&mut self) -> Result<(), Refusal>
+        ensures { Carries result (sight B.heard self.old) (sight B.heard self.new) (λ v. clear_on v PastAll) }
+    {
+        let Some(cuts) = self.change.cuts.checked_add(1) else {
+            return Err(Refusal::NoMemory);
+        };
+        let count = self.change.formatting.len();
+        self.change.formatting.drop_top(count);
+        self.change.cuts = cuts;
+        Ok(())
     }
 
     /// Whether an entry of that name stands after the last marker.

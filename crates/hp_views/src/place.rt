@@ -47,6 +47,7 @@ ghost use Rattle.hp_views.specs.PlacePlans.{a_template as spec_template, a_table
 
 impl<'p, B: Below> View<'p, B> {
     /// An own element.
+    #[inline(always)]
     pub fn own_ref(&self, id: u64) -> Ref
         ensures { result ≡ own_ref (split_of self.now).page id }
     {
@@ -57,6 +58,7 @@ impl<'p, B: Below> View<'p, B> {
     }
 
     /// The element at a depth of the own stack, or the one next below the last.
+    #[inline(always)]
     pub fn ref_at(&self, depth: usize) -> Ref
         requires { depth ≤ length self.now.change.stack }
         ensures { result ≡ top_ref (split_of self.now).page self.now.change.popped (drop depth self.now.change.stack) }

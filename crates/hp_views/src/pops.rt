@@ -1,8 +1,9 @@
 //! Popping elements off the stack.
 ghost use Rattle.std.specs.Prelude.{◌≡◌, ◌≤◌, length, Ok, OnOk};
 ghost use Rattle.hp_views.specs.Steps.{pop_run_step, pop_step, pop_to_first_step, pop_to_step, through_step};
-ghost use Rattle.hp_views.specs.View.{sight, split_of, Meets};
-ghost use Rattle.hp_views.specs.StackPlans.{own_popped};
+ghost use Rattle.hp_views.specs.View.{sight, split_of, Carries, Meets};
+ghost use Rattle.hp_views.specs.StackPlans.{own_popped, pop_run_on, pop_to_on, through_on};
+ghost use Rattle.hp_views.specs.declared.walks.Walk.TheVariants.{PastAll};
 
 use crate::asking::{older_reach, older_run};
 use crate::view::View;
@@ -66,15 +67,22 @@ impl<'p, B: Below> View<'p, B> {
                 self.pop_own(depth);
                 Ok(())
             }
-            _ => {
-                let depth = self.change.popped;
-                let count = older_run(&mut self.below, alloc, depth, names)?;
-                self.pop_past(count)
-            }
+            _ => self.pop_run_below(alloc, names),
         }
     }
 
+    /// The same where all own elements are of these kinds.
+    #[inline(never)]
+    fn pop_run_below(&mut self, alloc: Global, names: Kinds) -> Result<(), Refusal>
+        ensures { Carries result (sight B.heard self.old) (sight B.heard self.new) (λ v. pop_run_on names v PastAll) }
+    {
+        let depth = self.change.popped;
+        let count = older_run(&mut self.below, alloc, depth, names)?;
+        self.pop_past(count)
+    }
+
     /// Pops until the current node is of these kinds.
+    #[inline(always)]
     pub fn pop_to(&mut self, alloc: Global, goals: Kinds) -> Result<(), Refusal>
         ensures { Meets result (sight B.heard self.old) (sight B.heard self.new) (pop_to_step goals) }
     {
@@ -83,14 +91,20 @@ impl<'p, B: Below> View<'p, B> {
                 self.pop_own(depth);
                 Ok(())
             }
-            _ => {
-                let depth = self.change.popped;
-                let reached = older_reach(&mut self.below, alloc, depth, goals, Kinds::Nothing)?;
-                match reached {
-                    Some(count) => self.pop_past(count),
-                    None => self.pop_past(0),
-                }
-            }
+            _ => self.pop_to_below(alloc, goals),
+        }
+    }
+
+    /// The same where no own element is of these kinds.
+    #[inline(never)]
+    fn pop_to_below(&mut self, alloc: Global, goals: Kinds) -> Result<(), Refusal>
+        ensures { Carries result (sight B.heard self.old) (sight B.heard self.new) (λ v. pop_to_on goals v PastAll) }
+    {
+        let depth = self.change.popped;
+        let reached = older_reach(&mut self.below, alloc, depth, goals, Kinds::Nothing)?;
+        match reached {
+            Some(count) => self.pop_past(count),
+            None => self.pop_past(0),
         }
     }
 
@@ -105,13 +119,19 @@ impl<'p, B: Below> View<'p, B> {
                 Ok(())
             }
             Walk::Stopped => Ok(()),
-            Walk::PastAll => {
-                let depth = self.change.popped;
-                match older_reach(&mut self.below, alloc, depth, goals, stops)? {
-                    Some(count) => self.pop_past(count + 1),
-                    None => Ok(()),
-                }
-            }
+            Walk::PastAll => self.through_below(alloc, goals, stops),
+        }
+    }
+
+    /// The same where no own element is a goal or a stop.
+    #[inline(never)]
+    fn through_below(&mut self, alloc: Global, goals: Kinds, stops: Kinds) -> Result<(), Refusal>
+        ensures { Carries result (sight B.heard self.old) (sight B.heard self.new) (λ v. through_on goals stops v PastAll) }
+    {
+        let depth = self.change.popped;
+        match older_reach(&mut self.below, alloc, depth, goals, stops)? {
+            Some(count) => self.pop_past(count + 1),
+            None => Ok(()),
         }
     }
 

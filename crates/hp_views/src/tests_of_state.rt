@@ -76,15 +76,24 @@ impl<'p, B: Below> View<'p, B> {
     }
 
     /// Whether the current node is of these kinds.
+    #[inline(always)]
     pub fn current_is(&mut self, alloc: Global, goals: Kinds) -> Result<bool, Refusal>
         ensures { Answers result (sight B.heard self.old) (sight B.heard self.new) (current_is_plan goals) }
     {
         if self.change.stack.is_empty() {
-            let depth = self.change.popped;
-            Ok(older_seen(&mut self.below, alloc, depth, goals, Kinds::All)?)
+            self.older_current_is(alloc, goals)
         } else {
             Ok(is_within(&goals, self.change.stack.at(0)))
         }
+    }
+
+    /// Whether the top of what is left of the older stack is of these kinds.
+    #[inline(never)]
+    fn older_current_is(&mut self, alloc: Global, goals: Kinds) -> Result<bool, Refusal>
+        ensures { Answers result (sight B.heard self.old) (sight B.heard self.new) (λ v. ask_seen v.change.popped goals kinds.All) }
+    {
+        let depth = self.change.popped;
+        Ok(older_seen(&mut self.below, alloc, depth, goals, Kinds::All)?)
     }
 
     /// Whether the element next below the current node is of these kinds.

@@ -1,19 +1,22 @@
-use Rattle.std.proofs.Common.{◌≡◌, ◌<◌, ◌+◌, ◌-◌, ℕ, length, drop, ap, sym, subst, ◌∙◌, arith}
-use Rattle.std.proofs.lemmas.List.{length-set}
-use Rattle.hp_control.specs.Ends.{AreEnds, paragraph_from, first_end}
-use Rattle.hp_control.proofs.EndLemmas.{ends_renewed}
+use Rattle.std.proofs.Common.{◌≡◌, ◌+◌, ◌-◌, ℕ, length, drop, ap, sym, subst, ◌∙◌, arith}
+use Rattle.hp_control.specs.Ends.{AreEnds}
+use Rattle.hp_control.specs.Standings.{elements_of, ends_of}
+use Rattle.hp_control.proofs.StandingLemmas.{elements_count}
 use Rattle.hp_control.proofs.open_elements.renew.Goals as goal
+
+pub renew_above-requires : goal.renew_above-requires
+renew_above-requires c =
+    let e = elements_count c.loop-turn.standing in
+    let f = elements_count c.args.standing.now in
+    let g = ap length c.loop-turn.invariant.0 in
+    record {
+      positive = omega (arith, c.loop-turn-test.true);
+      within = omega (arith, c.requires.count);
+      below = c.loop-turn.invariant.1;
+    }
 
 pub loop-turn-preserved : goal.loop-turn-preserved
 loop-turn-preserved c =
-    let d : ℕ = c.args.count - 1 - c.loop-turn.turn in
-    let xs = c.args.elements.now in
-    let ws = c.loop-turn.ends in
-    let x = c.at.result.now in
-    let w = c.paragraph_from-end.result in
-    let f : c.args.count - 1 - c.loop-turn.turn + 1 ≡ c.args.count - c.loop-turn.turn = omega (arith, c.loop-turn-test.true) in
-    let g : c.args.count - (c.loop-turn.turn + 1) ≡ c.args.count - 1 - c.loop-turn.turn = omega arith in
-    let h : c.args.count - 1 - c.loop-turn.turn < length c.args.elements.now = omega (arith, c.requires.count, c.loop-turn-test.true) in
-    let a = subst (λ (n : ℕ). AreEnds (drop n xs) (drop n ws)) (sym f) c.loop-turn.invariant.1 in
-    let e : c.paragraph_from-end.result ≡ paragraph_from c.at.result.now (first_end (drop (c.args.count - 1 - c.loop-turn.turn + 1) c.loop-turn.ends)) = c.paragraph_from-end.ensures ∙ ap (paragraph_from x) c.first_end.ensures in
-    rw (c.replace.ensures.items, g) (length-set ws d w ∙ c.loop-turn.invariant.0, ends_renewed xs ws d x w h c.loop-turn.invariant.0 c.at.ensures e a)
+    let vs = c.renew_above.new.standing in
+    let g : c.args.count - (c.loop-turn.turn + 1) ≡ c.args.count - c.loop-turn.turn - 1 = omega arith in
+    (c.renew_above.ensures.elements ∙ c.loop-turn.invariant.0, subst (λ (n : ℕ). AreEnds (drop n (elements_of vs)) (drop n (ends_of vs))) (sym g) c.renew_above.ensures.ends)

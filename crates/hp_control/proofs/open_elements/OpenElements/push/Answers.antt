@@ -1,9 +1,11 @@
-use Rattle.std.proofs.Common.{◌≡◌, arith}
+use Rattle.std.proofs.Common.{◌≡◌, ap, sym, ◌∙◌}
 use Rattle.hp_control.specs.Ends.{paragraph_from, paragraph_end}
-use Rattle.hp_control.proofs.EndLemmas.{ends_put}
+use Rattle.hp_control.specs.Standings.{elements_of}
+use Rattle.hp_control.proofs.StandingLemmas.{told_pushed}
 use Rattle.hp_control.proofs.open_elements.OpenElements.push.Goals as goal
 
-pub invariant_of-self-in-Ok : goal.invariant_of-self-in-Ok
-invariant_of-self-in-Ok c =
-    let e : c.paragraph_from-end.result ≡ paragraph_from c.args.element (paragraph_end c.self.inside.elements) = rw c.self.view_is (grind (arith, c.paragraph_from-end.ensures, c.paragraph.ensures)) in
-    rw (c.in-Ok.ensures.ok, c.in_ok-push.ensures.ok) (ends_put c.args.element c.paragraph_from-end.result c.self.invariant e)
+pub invariant_of-self : goal.invariant_of-self
+invariant_of-self c =
+    let e : c.paragraph_from-end.result ≡ paragraph_from c.args.element (paragraph_end (elements_of c.self.inside.standing)) =
+    c.paragraph_from-end.ensures ∙ ap (paragraph_from c.args.element) (c.paragraph.ensures ∙ ap paragraph_end (sym c.self.view_is)) in
+    told_pushed c.push.result c.self.inside.standing c.push.new.self (record { element = c.args.element; end = c.paragraph_from-end.result }) c.push.ensures.ok c.push.ensures.err c.self.invariant e

@@ -1,13 +1,23 @@
-use Rattle.std.proofs.Common.{◌<◌, length, ap, arith}
-use Rattle.hp_control.proofs.EndLemmas.{ends_under, ends_without}
+use Rattle.std.proofs.Common.{◌<◌, length, ap, ◌∙◌, arith}
+use Rattle.hp_control.proofs.StandingLemmas.{elements_count, room_above, told_under, shown_without}
 use Rattle.hp_control.proofs.open_elements.OpenElements.take_out.Goals as goal
 
-pub renew-requires-clause-length : goal.renew-requires-clause-length
-renew-requires-clause-length c =
-    let h : c.args.depth < length c.self.inside.elements = omega (arith, c.requires, ap length c.self.view_is) in
-    rw (c.take_out.ensures, c.take_out-2.ensures) (ends_without c.self.inside.elements c.self.inside.ends c.args.depth h c.self.invariant)
+pub take_out-requires : goal.take_out-requires
+take_out-requires c =
+    let e = elements_count c.self.inside.standing in
+    let f = ap length c.self.view_is in
+    (omega arith, omega (arith, c.requires))
 
-pub renew-requires-clause-below : goal.renew-requires-clause-below
-renew-requires-clause-below c =
-    let h : c.args.depth < length c.self.inside.elements = omega (arith, c.requires, ap length c.self.view_is) in
-    rw (c.take_out.ensures, c.take_out-2.ensures) (ends_under c.self.inside.elements c.self.inside.ends c.args.depth h c.self.invariant)
+pub renew-requires : goal.renew-requires
+renew-requires c =
+    let ss = c.self.inside.standing in
+    let e = elements_count c.self.inside.standing in
+    let f = ap length c.self.view_is in
+    let h : c.args.depth < length c.self.inside.standing = omega (arith, c.requires) in
+    record {
+      count = room_above ss c.take_out.new.self c.args.depth h c.take_out.ensures;
+      below = told_under ss c.take_out.new.self c.args.depth h c.take_out.ensures c.self.invariant;
+    }
+
+pub returns : goal.returns
+returns c = c.renew.ensures.elements ∙ shown_without c.self.inside.standing c.take_out.new.self c.args.self.now c.args.depth c.self.view_is c.take_out.ensures
