@@ -7,3 +7,5 @@ pub mod Renewing
 pub mod Alike
 pub mod Whites
 pub mod Carrying
+pub mod LastEntry
+pub mod FewEqual

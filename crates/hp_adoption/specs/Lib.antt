@@ -22,3 +22,5 @@ pub mod AdoptLawsOlder
 pub mod AdoptLaws
 pub mod LinkLaws
 pub mod AdoptMeans
+pub mod LastEntry
+pub mod FewEntries

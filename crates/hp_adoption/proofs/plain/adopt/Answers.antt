@@ -1,17 +1,15 @@
-use Rattle.std.proofs.Common.{Bool, true, false, subst}
-use Rattle.hp_views.proofs.Carrying.{carries_then}
-use Rattle.hp_views.specs.View.{Finds, sight}
-use Rattle.hp_adoption.specs.AdoptPlans.{adopt_by, is_plain_plan}
+use Rattle.std.proofs.Common.{◌∙◌, ap, sym}
+use Rattle.hp_views.specs.View.{sight}
+use Rattle.hp_adoption.proofs.LastEntry.{has_stack, has_list, last_adopted}
 use Rattle.hp_adoption.proofs.plain.adopt.Goals as goal
 
-pub returns-then-branch : goal.returns-then-branch
-returns-then-branch g c =
-    let P : Bool → Type 0 = λ b. Finds (sight g.B.Below.heard c.args.view.now) (sight g.B.Below.heard c.is_plain.new.view) (is_plain_plan c.args.name) b in
-    carries_then c.pop.result (sight g.B.Below.heard c.args.view.now) (sight g.B.Below.heard c.is_plain.new.view) (sight g.B.Below.heard c.pop.new.self)
-    (is_plain_plan c.args.name) (adopt_by c.args.fostering c.args.name) true (subst P c.if-branch.true c.in_ok-is_plain.ensures) c.pop.ensures
+pub close_last-requires-clause-open : goal.close_last-requires-clause-open
+close_last-requires-clause-open g c = has_stack c.args.name c.args.view.now.change.stack c.args.view.now.change.formatting (sym c.is_last.ensures ∙ c.if-is_last.true)
 
-pub returns : goal.returns
-returns g c =
-    let P : Bool → Type 0 = λ b. Finds (sight g.B.Below.heard c.args.view.now) (sight g.B.Below.heard c.is_plain.new.view) (is_plain_plan c.args.name) b in
-    carries_then c.turns.result (sight g.B.Below.heard c.args.view.now) (sight g.B.Below.heard c.is_plain.new.view) (sight g.B.Below.heard c.turns.new.view)
-    (is_plain_plan c.args.name) (adopt_by c.args.fostering c.args.name) false (subst P c.if-branch.false c.in_ok-is_plain.ensures) c.turns.ensures
+pub close_last-requires-clause-listed : goal.close_last-requires-clause-listed
+close_last-requires-clause-listed g c = has_list c.args.name c.args.view.now.change.stack c.args.view.now.change.formatting (sym c.is_last.ensures ∙ c.if-is_last.true)
+
+pub returns-then-is_last : goal.returns-then-is_last
+returns-then-is_last g c =
+    last_adopted (sight g.B.Below.heard c.args.view.now) (sight g.B.Below.heard c.close_last.new.view) c.args.fostering c.args.name (sym c.is_last.ensures ∙ c.if-is_last.true) c.close_last.ensures.split
+    (ap g.B.Below.heard c.close_last.ensures.below)
