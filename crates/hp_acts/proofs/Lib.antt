@@ -18,3 +18,4 @@ pub mod PlainRuns
 pub mod StepRuns
 pub mod LineFeeds
 pub mod UsualRuns
+pub mod TableRuns

@@ -43,6 +43,8 @@ use Rattle.hp_acts.specs.HandlePlans.{all_turns_plan, most_turns, turns_plan, wh
 use Rattle.hp_acts.specs.Handling.{Handles, nothing_asked}
 use Rattle.hp_acts.specs.RowPlans.{Reached, Came, left, acts_plan, changed, dispatched, is_early, mode_plan, nothing_more, rules_plan, turn_plan, where_left}
 use Rattle.hp_acts.specs.Plans.{implied_but_plan}
+use Rattle.hp_acts.specs.TableText.{turns_from}
+use Rattle.hp_acts.specs.declared.turns.Handled.{Handled}
 use Rattle.hp_acts.specs.Spending.{html_tag}
 use Rattle.hp_acts.specs.Usual.{HasIn, HasRow, IsUsual, block_end_by, cell_end_by, description_end_by, item_end_by, paragraph_end_by, row_end_by, usual_acts, usual_plan}
 use Rattle.hp_acts.specs.declared.usual.Closing.TheVariants as closing
@@ -173,11 +175,11 @@ cell_row : (t : Token) (r : Reached) → mode_plan t mode.InCell r ≡ acts_plan
 unfolding rules_plan every_mode_rows
 cell_row t r = refl
 
-row_row : (t : Token) (r : Reached) → mode_plan t mode.InRow r ≡ acts_plan (rules_plan 3 t) nothing_more false t 0 0 (acts_for in_row (kind_of t)) r
+pub row_row : (t : Token) (r : Reached) → mode_plan t mode.InRow r ≡ acts_plan (rules_plan 3 t) nothing_more false t 0 0 (acts_for in_row (kind_of t)) r
 unfolding rules_plan every_mode_rows
 row_row t r = refl
 
-section_row : (t : Token) (r : Reached) → mode_plan t mode.InTableBody r ≡ acts_plan (rules_plan 3 t) nothing_more false t 0 0 (acts_for in_table_body (kind_of t)) r
+pub section_row : (t : Token) (r : Reached) → mode_plan t mode.InTableBody r ≡ acts_plan (rules_plan 3 t) nothing_more false t 0 0 (acts_for in_table_body (kind_of t)) r
 unfolding rules_plan every_mode_rows
 section_row t r = refl
 
@@ -219,7 +221,7 @@ or_true true = refl
 or_true false = refl
 
 -- nothing is foreign content where the current node is an own HTML element
-not_foreign : (k : Kind) (v : Split) (stack : List OpenElement) → has_html_top stack ≡ true → goes_on k v stack ≡ gives false
+pub not_foreign : (k : Kind) (v : Split) (stack : List OpenElement) → has_html_top stack ≡ true → goes_on k v stack ≡ gives false
 not_foreign k v [] h = absurd (cc)
 not_foreign k v (e ∷ es) h =
     ap gives (ap (λ b. not (b || enters e.point k || (is_annotation e && is_svg_start k))) (ap (λ b. is_end_of_input k || b) h ∙ or_true (is_end_of_input k)))
@@ -241,8 +243,25 @@ some_turns n row t r u few =
     ∙ (ap (λ p. followed_by p (where_again (turns_plan (n - 1)))) (usual_turn row t r u)
     ∙ follow_assoc (usual_plan row t r.split) (ended r) (where_again (turns_plan (n - 1)))))
 
-usual_alike : (row : UsualRow) (t : Token) (v : Split) → IsUsual v t row → all_turns_plan t v ≡ followed_by (usual_plan row t v) done_with
-usual_alike row t v u = some_turns (most_turns v) row t (record { split = v; handled = nothing_asked }) u (omega arith)
+-- the same of the plan where the token is handled
+pub handles_as : (result : Result Handled Refusal) (old new : Sight) (p q : Split → Plan Reached) → q old.split ≡ p old.split → Handles result old new p → Handles result old new q
+handles_as (Ok handled) old new p q e k = let P : Plan Reached → Type 0 = λ plan. Runs old.heard new.heard plan (Ok (record { split = new.split; handled = handled })) in subst P (sym e) k
+handles_as (Err (Crossed crossing)) old new p q e k = let P : Plan Reached → Type 0 = λ plan. Runs old.heard new.heard plan (Err crossing) in subst P (sym e) k
+handles_as (Err NoMemory) old new p q e k = tt
+
+pub in_all_turns : (result : Result Handled Refusal) (old new : Sight) (t : Token) (most : ℕ) → most ≡ most_turns old.split → Handles result old new (turns_from most t) → Handles result old new (all_turns_plan t)
+in_all_turns result old new t most e k = handles_as result old new (turns_from most t) (all_turns_plan t) (ap (λ n. turns_from n t old.split) (sym e)) k
+
+-- a plan was carried out, and nothing is asked
+pub plan_done : (old new : Sight) (p : Split → Plan Split) (q : Split → Plan Reached) → q old.split ≡ followed_by (p old.split) done_with → Carries (Ok tt) old new p → Handles (Ok nothing_asked) old new q
+plan_done old new p q e run =
+    let P : Plan Reached → Type 0 = λ plan. Runs old.heard new.heard plan (Ok (record { split = new.split; handled = nothing_asked })) in
+    subst P (sym e) (runs_then done_with run (runs_gives new.heard (record { split = new.split; handled = nothing_asked })))
+
+-- it crosses there, or memory is wanting
+pub plan_refused : (refused : Refusal) (old new : Sight) (p : Split → Plan Split) (q : Split → Plan Reached) → q old.split ≡ followed_by (p old.split) done_with → Carries (Err refused) old new p → Handles (Err refused) old new q
+plan_refused (Crossed crossing) old new p q e run = let P : Plan Reached → Type 0 = λ plan. Runs old.heard new.heard plan (Err crossing) in subst P (sym e) (runs_crosses done_with run)
+plan_refused NoMemory old new p q e run = tt
 
 -- one call, and then another
 pub carries_next : (result : Result (Unit {0}) Refusal) (old mid new : Sight) (p q : Split → Plan Split) → Runs old.heard mid.heard (p old.split) (Ok mid.split) → Carries result mid new q → Carries result old new (λ v. followed_by (p v) q)
@@ -290,15 +309,9 @@ pub body_cell : (t : Token) (o : Option UsualRow) → acts_for in_cell (kind_of 
 body_cell t None used h = tt
 body_cell t (Some row) used h = inr (used, h)
 
--- it was carried out, and nothing is asked
-pub usual_done : (old new : Sight) (row : UsualRow) (t : Token) → IsUsual old.split t row → Carries (Ok tt) old new (usual_plan row t) → Handles (Ok nothing_asked) old new (all_turns_plan t)
-usual_done old new row t u run =
-    let P : Plan Reached → Type 0 = λ plan. Runs old.heard new.heard plan (Ok (record { split = new.split; handled = nothing_asked })) in
-    subst P (sym (usual_alike row t old.split u)) (runs_then done_with run (runs_gives new.heard (record { split = new.split; handled = nothing_asked })))
+-- it was carried out in any number of turns, and nothing is asked
+pub usual_done : (old new : Sight) (row : UsualRow) (t : Token) (n : ℕ) → IsUsual old.split t row → 0 < n → Carries (Ok tt) old new (usual_plan row t) → Handles (Ok nothing_asked) old new (turns_from n t)
+usual_done old new row t n u few run = plan_done old new (usual_plan row t) (turns_from n t) (some_turns n row t (record { split = old.split; handled = nothing_asked }) u few) run
 
--- it crosses there, or memory is wanting
-pub usual_refused : (refused : Refusal) (old new : Sight) (row : UsualRow) (t : Token) → IsUsual old.split t row → Carries (Err refused) old new (usual_plan row t) → Handles (Err refused) old new (all_turns_plan t)
-usual_refused (Crossed crossing) old new row t u run =
-    let P : Plan Reached → Type 0 = λ plan. Runs old.heard new.heard plan (Err crossing) in
-    subst P (sym (usual_alike row t old.split u)) (runs_crosses done_with run)
-usual_refused NoMemory old new row t u run = tt
+pub usual_refused : (refused : Refusal) (old new : Sight) (row : UsualRow) (t : Token) (n : ℕ) → IsUsual old.split t row → 0 < n → Carries (Err refused) old new (usual_plan row t) → Handles (Err refused) old new (turns_from n t)
+usual_refused refused old new row t n u few run = plan_refused refused old new (usual_plan row t) (turns_from n t) (some_turns n row t (record { split = old.split; handled = nothing_asked }) u few) run

@@ -15,3 +15,4 @@ pub mod Known
 pub mod Told
 pub mod Older
 pub mod Usual
+pub mod TableText

@@ -100,7 +100,7 @@ pub(crate) fn put_replaced<'p, B: Below>(
 }
 
 /// Appends the token's characters to the pending ones.
-#[inline(never)]
+#[inline(always)]
 pub(crate) fn append_pending<'p, B: Below>(
     alloc: Global,
     view: &mut View<'p, B>,

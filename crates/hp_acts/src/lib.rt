@@ -10,6 +10,7 @@ mod questions;
 mod rows;
 mod stack_acts;
 mod table_rows;
+mod table_text;
 mod token_parts;
 mod turns;
 mod usual;

@@ -34,7 +34,7 @@ fn is_text_mode(mode: Mode) -> bool
 }
 
 /// Whether the token is a run of characters, but not of U+0000.
-fn is_run(token: &Token<'_>) -> bool
+pub(crate) fn is_run(token: &Token<'_>) -> bool
     ensures { result ≡ is_run token.now }
 {
     match token {

@@ -10,6 +10,7 @@ ghost use Rattle.hp_acts.specs.Carrying.{Comes, Goes, GoesBy, Stays, going, next
 ghost use Rattle.hp_acts.specs.HandlePlans.{all_turns_plan, handle_plan, handle_rest, without_line_feed};
 ghost use Rattle.hp_acts.specs.Handling.{GoesLater, Handles, unskipped};
 ghost use Rattle.hp_acts.specs.RowPlans.{Reached, Came, act_then, is_early, turn_plan};
+ghost use Rattle.hp_acts.specs.TableText.{turns_from};
 ghost use Rattle.hp_acts.specs.Spending.{IsLeftOf, gives_away, is_of_attributes, leaves_whole, reads_attributes};
 ghost use Rattle.hp_acts.specs.declared.token_parts.Spending.TheVariants.{Copies};
 ghost use Rattle.hp_acts.specs.declared.turns.Next.TheVariants.{Again, At, Done, Rules};
@@ -18,6 +19,7 @@ use crate::acts::carry_out;
 use crate::plain::{is_plain, put_plain};
 use crate::questions::holds;
 use crate::rows::{Row, foreign_row, row_in};
+use crate::table_text::handle_other;
 use crate::token_parts::{Spending, after_line_feed, rename};
 use crate::usual::{handle_usual, usual_row};
 use hp_control::{Below, Crossing, Refusal};
@@ -287,31 +289,45 @@ fn take_turn<'p, B: Below>(
 }
 
 /// How often one token is handled at most, where so many elements are open.
-fn most_turns(elements: usize) -> u128
+pub(crate) fn most_turns(elements: usize) -> u128
     ensures { result ≡ 32 + 16 * elements }
 {
     32 + 16 * elements as u128
 }
 
-/// Handles a token until no rule asks for it again.
+/// Handles a token until no rule asks for it again, at most so often.
 #[inline(never)]
-fn take_turns<'p, B: Below>(
+pub(crate) fn take_turns<'p, B: Below>(
+    alloc: Global,
+    view: &mut View<'p, B>,
+    token: Token<'p>,
+    most: u128,
+) -> Result<Handled, Refusal>
+    ensures { Handles result (sight B.heard view.old) (sight B.heard view.new) (turns_from most token.entry) }
+{
+    let mut turn = Turn {
+        token,
+        handled: NOTHING,
+    };
+    for _ in 0..most {
+        if !take_turn(alloc, view, &mut turn)? {
+            return Ok(turn.handled);
+        }
+    }
+    Err(Refusal::Crossed(Crossing::X3))
+}
+
+/// The same, as often as a token is handled where so many elements are open.
+#[inline(always)]
+pub(crate) fn take_all_turns<'p, B: Below>(
     alloc: Global,
     view: &mut View<'p, B>,
     token: Token<'p>,
 ) -> Result<Handled, Refusal>
     ensures { Handles result (sight B.heard view.old) (sight B.heard view.new) (all_turns_plan token.entry) }
 {
-    let mut turn = Turn {
-        token,
-        handled: NOTHING,
-    };
-    for _ in 0..most_turns(view.change.stack.len()) {
-        if !take_turn(alloc, view, &mut turn)? {
-            return Ok(turn.handled);
-        }
-    }
-    Err(Refusal::Crossed(Crossing::X3))
+    let most = most_turns(view.change.stack.len());
+    take_turns(alloc, view, token, most)
 }
 
 /// Handles one token whole: dispatch, the rows of the rules with their acts, and again where the rules say so. A line feed that
@@ -344,7 +360,7 @@ fn handle_whole<'p, B: Below>(
     }
     match usual_row(view, &token) {
         Some(row) => handle_usual(alloc, view, token, row),
-        None => take_turns(alloc, view, token),
+        None => handle_other(alloc, view, token),
     }
 }
 
@@ -366,7 +382,7 @@ fn handle_skipping<'p, B: Below>(
 {
     skip_no_more(&mut view.change.skip_lf);
     match after_line_feed(alloc, token)? {
-        Some(token) => take_turns(alloc, view, token),
+        Some(token) => take_all_turns(alloc, view, token),
         None => Ok(NOTHING),
     }
 }

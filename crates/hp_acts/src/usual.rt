@@ -1,6 +1,6 @@
 //! The usual rows of the body and of tables, carried out without the table of rows: a short way to what it says (13.2.6.4.7,
 //! 13.2.6.4.13 to 13.2.6.4.15).
-ghost use Rattle.std.specs.Prelude.{◌≡◌, [], ◌∷◌, false, true, IfSome};
+ghost use Rattle.std.specs.Prelude.{◌≡◌, ◌<◌, ℕ, [], ◌∷◌, false, true, IfSome};
 ghost use Rattle.hp_elements.specs.Names.{known_of};
 ghost use Rattle.hp_elements.specs.Rules.{acts_for, acts_numbered};
 ghost use Rattle.hp_elements.specs.Tokens.{kind_of};
@@ -13,7 +13,7 @@ ghost use Rattle.hp_rules_table.specs.Table.{all_rows as table_rows};
 ghost use Rattle.hp_rules_table.specs.TableModes.{in_cell, in_row, in_table_body};
 ghost use Rattle.hp_views.specs.View.{sight, split_of, Carries};
 ghost use Rattle.hp_views.specs.PlacePlans.{insert_plan};
-ghost use Rattle.hp_acts.specs.HandlePlans.{all_turns_plan};
+ghost use Rattle.hp_acts.specs.TableText.{turns_from};
 ghost use Rattle.hp_acts.specs.Handling.{Handles};
 ghost use Rattle.hp_acts.specs.Plans.{implied_but_plan};
 ghost use Rattle.hp_acts.specs.Usual.{HasIn, HasRow, IsUsual, begin_plan, block_end_by, block_end_plan, block_plan, closing_plan, description_after_plan, description_end_by, description_end_plan, description_plan, end_plan, formatting_plan, item_after_plan, item_end_by, item_end_plan, item_plan, link_plan, listed_plan, opening_plan, ordinary_plan, paragraph_end_by, paragraph_end_plan, usual_acts, usual_plan};
@@ -216,7 +216,7 @@ pub(crate) fn handle_usual<'p, B: Below>(
     row: UsualRow,
 ) -> Result<Handled, Refusal>
     requires { IsUsual (split_of view.old) token row }
-    ensures { Handles result (sight B.heard view.old) (sight B.heard view.new) (all_turns_plan token.entry) }
+    ensures { (n : ℕ) → 0 < n → Handles result (sight B.heard view.old) (sight B.heard view.new) (turns_from n token.entry) }
 {
     match carry_usual(alloc, view, token, row) {
         Ok(()) => Ok(NOTHING),
@@ -445,7 +445,7 @@ fn open_ordinary<'p, B: Below>(
     insert(alloc, view, tag)
 }
 
-#[inline(always)]
+#[inline(never)]
 fn close_block<'p, B: Below>(
     alloc: Global,
     view: &mut View<'p, B>,
@@ -476,7 +476,7 @@ fn end_block<'p, B: Below>(
     }
 }
 
-#[inline(always)]
+#[inline(never)]
 fn close_item<'p, B: Below>(alloc: Global, view: &mut View<'p, B>) -> Result<(), Refusal>
     ensures { Carries result (sight B.heard view.old) (sight B.heard view.new) item_end_plan }
 {

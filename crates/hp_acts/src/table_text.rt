@@ -1,0 +1,238 @@
+//! Characters between the parts of a table, and the token behind them, handled without the table of rows: a short way to what it
+//! says (13.2.6.4.9, 13.2.6.4.10, 13.2.6.4.13, 13.2.6.4.14).
+ghost use Rattle.std.specs.Prelude.{◌≡◌, ◌<◌, true};
+ghost use Rattle.hp_adoption.specs.FlushPlans.{flush_plan};
+ghost use Rattle.hp_views.specs.View.{sight, split_of, Carries};
+ghost use Rattle.hp_acts.specs.HandlePlans.{all_turns_plan};
+ghost use Rattle.hp_acts.specs.Handling.{Handles};
+ghost use Rattle.hp_acts.specs.TableText.{BeginsText, ContinuesText, EndsText, begin_plan, begun, continue_plan, end_plan, is_characters, is_part_mode, is_waiting, turns_from, waits, waits_at};
+
+use crate::characters::append_pending;
+use crate::plain::{is_in_html, is_run};
+use crate::turns::{Handled, NOTHING, most_turns, take_all_turns, take_turns};
+use crate::usual::{handle_usual, usual_row};
+use hp_adoption::flush;
+use hp_control::{Below, Change, OpenElement, OpenElements, Refusal, is_html, is_within};
+use hp_elements::{Kinds, Mode, SetName, Text, Token};
+use hp_views::View;
+use std::alloc::Global;
+
+/// Whether the rows of the mode use the rules of tables for characters.
+fn is_part_mode(mode: Mode) -> bool
+    ensures { result ≡ is_part_mode mode }
+{
+    match mode {
+        Mode::InTable | Mode::InTableBody | Mode::InRow => true,
+        _ => false,
+    }
+}
+
+/// Whether characters wait in the mode.
+fn is_waiting(mode: Mode) -> bool
+    ensures { result ≡ is_waiting mode }
+{
+    match mode {
+        Mode::InTableText => true,
+        _ => false,
+    }
+}
+
+/// Whether characters wait at the element, an HTML one.
+fn waits(element: &OpenElement) -> bool
+    ensures { result ≡ waits element.now }
+{
+    is_html(element) && is_within(&Kinds::Set(SetName::TableTextParents), element)
+}
+
+/// Whether characters wait at the current node, an own element.
+fn waits_at(stack: &OpenElements) -> bool
+    ensures { result ≡ waits_at stack.now }
+{
+    !stack.is_empty() && waits(stack.at(0))
+}
+
+/// Whether the token is of characters.
+fn is_characters(token: &Token<'_>) -> bool
+    ensures { result ≡ is_characters token.now }
+{
+    match token {
+        Token::Characters { .. } => true,
+        _ => false,
+    }
+}
+
+/// Whether the token is the first run of characters that waits.
+fn begins<'p, B: Below>(view: &View<'p, B>, token: &Token<'p>) -> bool
+    ensures { result ≡ true → BeginsText (split_of view.now) token.now }
+{
+    is_run(token)
+        && is_part_mode(view.change.mode)
+        && !view.older_text
+        && waits_at(&view.change.stack)
+}
+
+/// Whether the token is a run of characters that waits behind others.
+fn continues<'p, B: Below>(view: &View<'p, B>, token: &Token<'p>) -> bool
+    ensures { result ≡ true → ContinuesText (split_of view.now) token.now }
+{
+    is_run(token) && is_waiting(view.change.mode) && is_in_html(&view.change.stack)
+}
+
+/// Whether the token ends the characters that wait.
+fn ends<'p, B: Below>(view: &View<'p, B>, token: &Token<'p>) -> bool
+    ensures { result ≡ true → EndsText (split_of view.now) token.now }
+{
+    !is_characters(token) && is_waiting(view.change.mode) && is_in_html(&view.change.stack)
+}
+
+/// Handles a token that has no usual row.
+#[inline(never)]
+pub(crate) fn handle_other<'p, B: Below>(
+    alloc: Global,
+    view: &mut View<'p, B>,
+    token: Token<'p>,
+) -> Result<Handled, Refusal>
+    ensures { Handles result (sight B.heard view.old) (sight B.heard view.new) (all_turns_plan token.entry) }
+{
+    if ends(view, &token) {
+        end(alloc, view, token)
+    } else if begins(view, &token) {
+        begin(alloc, view, token)
+    } else {
+        handle_inside(alloc, view, token)
+    }
+}
+
+/// The same where the token neither begins nor ends them.
+fn handle_inside<'p, B: Below>(
+    alloc: Global,
+    view: &mut View<'p, B>,
+    token: Token<'p>,
+) -> Result<Handled, Refusal>
+    ensures { Handles result (sight B.heard view.old) (sight B.heard view.new) (all_turns_plan token.entry) }
+{
+    if continues(view, &token) {
+        go_on(alloc, view, token)
+    } else {
+        take_all_turns(alloc, view, token)
+    }
+}
+
+/// From now on characters wait, and the mode is kept.
+#[inline(always)]
+fn wait(change: &mut Change)
+    ensures { change.new ≡ begun change.old }
+{
+    change.pending = Text::new();
+    change.original = Some(change.mode);
+    change.mode = Mode::InTableText;
+}
+
+#[inline(always)]
+fn begin_run<'p, B: Below>(
+    alloc: Global,
+    view: &mut View<'p, B>,
+    token: &Token<'p>,
+) -> Result<(), Refusal>
+    ensures { Carries result (sight B.heard view.old) (sight B.heard view.new) (begin_plan token.now) }
+{
+    wait(&mut view.change);
+    append_pending(alloc, view, token)
+}
+
+#[inline(always)]
+fn begin_with<'p, B: Below>(
+    alloc: Global,
+    view: &mut View<'p, B>,
+    token: Token<'p>,
+) -> Result<(), Refusal>
+    ensures { Carries result (sight B.heard view.old) (sight B.heard view.new) (begin_plan token.entry) }
+{
+    begin_run(alloc, view, &token)
+}
+
+/// The first run of characters waits.
+#[inline(always)]
+fn begin<'p, B: Below>(
+    alloc: Global,
+    view: &mut View<'p, B>,
+    token: Token<'p>,
+) -> Result<Handled, Refusal>
+    requires { BeginsText (split_of view.old) token }
+    ensures { Handles result (sight B.heard view.old) (sight B.heard view.new) (all_turns_plan token.entry) }
+{
+    match begin_with(alloc, view, token) {
+        Ok(()) => Ok(NOTHING),
+        Err(refused) => Err(refused),
+    }
+}
+
+#[inline(always)]
+fn go_on_with<'p, B: Below>(
+    alloc: Global,
+    view: &mut View<'p, B>,
+    token: Token<'p>,
+) -> Result<(), Refusal>
+    ensures { Carries result (sight B.heard view.old) (sight B.heard view.new) (continue_plan token.entry) }
+{
+    append_pending(alloc, view, &token)
+}
+
+/// A further run waits.
+#[inline(always)]
+fn go_on<'p, B: Below>(
+    alloc: Global,
+    view: &mut View<'p, B>,
+    token: Token<'p>,
+) -> Result<Handled, Refusal>
+    requires { ContinuesText (split_of view.old) token }
+    ensures { Handles result (sight B.heard view.old) (sight B.heard view.new) (all_turns_plan token.entry) }
+{
+    match go_on_with(alloc, view, token) {
+        Ok(()) => Ok(NOTHING),
+        Err(refused) => Err(refused),
+    }
+}
+
+/// The characters go into the tree, and the mode is again the one that was kept.
+#[inline(always)]
+fn leave<'p, B: Below>(alloc: Global, view: &mut View<'p, B>) -> Result<(), Refusal>
+    ensures { Carries result (sight B.heard view.old) (sight B.heard view.new) end_plan }
+{
+    flush(alloc, view)?;
+    view.to_original(alloc)
+}
+
+/// The characters that wait end, and the token is handled behind them.
+#[inline(always)]
+fn end<'p, B: Below>(
+    alloc: Global,
+    view: &mut View<'p, B>,
+    token: Token<'p>,
+) -> Result<Handled, Refusal>
+    requires { EndsText (split_of view.old) token }
+    ensures { Handles result (sight B.heard view.old) (sight B.heard view.new) (all_turns_plan token.entry) }
+{
+    let most = most_turns(view.change.stack.len()) - 1;
+    match leave(alloc, view) {
+        Ok(()) => handle_left(alloc, view, token, most),
+        Err(refused) => Err(refused),
+    }
+}
+
+/// Handles a token in so many turns: where it has a usual row, straight.
+#[inline(always)]
+fn handle_left<'p, B: Below>(
+    alloc: Global,
+    view: &mut View<'p, B>,
+    token: Token<'p>,
+    most: u128,
+) -> Result<Handled, Refusal>
+    requires { 0 < most }
+    ensures { Handles result (sight B.heard view.old) (sight B.heard view.new) (turns_from most token.entry) }
+{
+    match usual_row(view, &token) {
+        Some(row) => handle_usual(alloc, view, token, row),
+        None => take_turns(alloc, view, token, most),
+    }
+}
