@@ -1,12 +1,6 @@
-//! The sequential parser: the lexer and tree construction over a page, one token behind the other.
+//! Parts of a page and whole pages: the run over a part from a known state, the end of input, and the tree of a page.
 #![tactic(auto)]
-
-mod builder;
-mod laws;
-mod leaving;
-mod parsing;
-mod whole;
 
 pub use hp_elements::NoMemory;
 pub use hp_replay::{ending, replay};
-pub use whole::parse_whole;
+pub use hp_sequential::parse_whole;

@@ -14,3 +14,4 @@ pub mod Cutting
 pub mod LastRows
 pub mod LastMoves
 pub mod LastTokens
+pub mod FromState

@@ -1,11 +1,10 @@
 -- What the tokens of the end of input do is the end of input.
-use Rattle.std.proofs.Common.{◌≡◌, ℕ, List, [], ◌∷◌, ◌++◌, ◌^◌, refl, ap, ◌∙◌, sym, subst, append-nil, map, true}
+use Rattle.std.proofs.Common.{◌≡◌, ℕ, List, [], ◌∷◌, ◌++◌, refl, ap, ◌∙◌, sym, subst, append-nil, map, true}
 use Rattle.std.specs.Prelude.{All}
 use Rattle.std.proofs.lemmas.List.Elements.{All-cons, All-nil}
 use Rattle.hp_elements.specs.declared.token.Token.{Token}
 use Rattle.hp_names.specs.BuiltIn.{built_in}
 use Rattle.hp_tokens.specs.Advancing.{AreRuns, Ends as EndsText, end_of_text, lexing, singles}
-use Rattle.hp_tokens.specs.declared.lexing.LexState.{LexState}
 use Rattle.hp_control.specs.Apply.{named, named_child, named_edit, named_place}
 use Rattle.hp_control.specs.Edits.{IsFixed, IsFixedChild, IsFixedEdit, IsFixedPlace}
 use Rattle.hp_control.specs.Faithful.{Split}
@@ -20,8 +19,6 @@ use Rattle.hp_control.specs.declared.edit.Place.{Place}
 use Rattle.hp_control.specs.declared.edit.Place.TheVariants.{Into, Foster}
 use Rattle.hp_control.specs.declared.edit.Ref.{Ref}
 use Rattle.hp_control.specs.declared.edit.Ref.TheVariants.{Fixed, Older, Own}
-use Rattle.hp_lexer.specs.declared.lexer.Asked.TheVariants as asked
-use Rattle.hp_lexer.specs.declared.lexer.Lexer.{Lexer}
 use Rattle.hp_lexer.specs.Table.{table}
 use Rattle.hp_model.specs.AtOnce.{RunsAtOnce, handle_at_once}
 use Rattle.hp_model.specs.Handling.{handle}
@@ -84,11 +81,3 @@ ending_is law ends s v w tokens edits kept valid is none read runs left handled 
 
     does : Does c tokens (lexing s.lex end_of_text 0)
     does = all-together law tokens c (lexing s.lex end_of_text 0) read runs valid
-
--- the lexer over the built-in names, from a state
-pub named-ends : (lexer : Lexer) (lex own : LexState) (tokens : List Token) → lexer ≡ record { lex = lex; names = built_in; asked = asked.Nothing; rested = 2 ^ 32 } → lex ≡ own
-    → ((rested : ℕ) → EndsText (table lexer.names) (lexing lexer.lex end_of_text rested) [] tokens) → (rested : ℕ) → EndsText (table built_in) (lexing own end_of_text rested) [] tokens
-named-ends lexer lex own tokens is same left =
-    let P : Lexer → Type 0 = λ l. (rested : ℕ) → EndsText (table l.names) (lexing l.lex end_of_text rested) [] tokens in
-    let Q : LexState → Type 0 = λ l. (rested : ℕ) → EndsText (table built_in) (lexing l end_of_text rested) [] tokens in
-    subst Q same (subst P is left)

@@ -1,7 +1,8 @@
 use Rattle.std.proofs.Common.{ap, refl, subst}
 use Rattle.hp_control.specs.States.{ControlState, IsValid}
 use Rattle.hp_views.specs.View.{split_of}
-use Rattle.hp_replay.proofs.Ended.{ending_is, named-ends}
+use Rattle.hp_pieces.proofs.FromState.{named-ends}
+use Rattle.hp_replay.proofs.Ended.{ending_is}
 use Rattle.hp_replay.proofs.at_end.end_view.Goals as goal
 
 pub collect_last-requires-clause-read : goal.collect_last-requires-clause-read

@@ -1,0 +1,15 @@
+pub mod Growth
+pub mod Toward
+pub mod Steps
+pub mod Numbers
+pub mod NextPiece
+pub mod Ended
+pub mod Took
+pub mod Going
+pub mod Started
+pub mod HandledOnce
+pub mod Texts
+pub mod Tried
+pub mod Within
+pub mod WhiteRuns
+pub mod NoNul

@@ -1,0 +1,440 @@
+// A run of the sequential parser over a page.
+ghost use Rattle.std.specs.Prelude.{◌≡◌, ◌≢◌, ◌^◌, ◌<◌, ◌≤◌, ℕ, List, [], ◌∷◌, length, map, true, false, Some, IfOk, IfSome, OnOk};
+ghost use Rattle.std.specs.List.{list_all};
+ghost use Rattle.std.specs.Str.{chars};
+ghost use Rattle.hp_names.specs.BuiltIn.{built_in};
+ghost use Rattle.hp_text.specs.Page.{text_of};
+ghost use Rattle.hp_tokens.specs.Advancing.{AreRuns, held};
+ghost use Rattle.hp_tokens.specs.Plain.{none_of};
+ghost use Rattle.hp_tokens.specs.Reading.{first};
+ghost use Rattle.hp_tokens.specs.Rows.{character, is_blank};
+ghost use Rattle.hp_views.specs.View.{split_of};
+ghost use Rattle.hp_acts.specs.Plain.{takes_text};
+ghost use Rattle.hp_control.specs.States.{lex_start};
+ghost use Rattle.hp_lexer.specs.declared.lexer.Asked.TheVariants as asked;
+ghost use Rattle.hp_model.specs.Whole.{IsRead};
+ghost use Rattle.hp_run.specs.Pages.{IsTreeOf};
+ghost use Rattle.hp_steps.specs.Handling.{AllRead};
+ghost use Rattle.hp_sequential.specs.Building.{IsBuilder, HandledAll, HandledOne};
+ghost use Rattle.hp_sequential.specs.Reading.{IsReady, IsAtEnd, IsWithin, Reads, HasEnded, HasReadAll, StepsOn, ReadsOn, TakesPiece, ReadsPiece, Took, TookText, Tried};
+
+use crate::NoMemory;
+use crate::blanks::next_blanks;
+use crate::builder::Builder;
+use crate::laws::{never_asked, rests_ahead};
+use crate::leaving::leave_lexer;
+use hp_arena::Tree;
+use hp_elements::{Rest, Text, Token, Tokens};
+use hp_lexer::{Cursor, Lexer, Step};
+use hp_pieces::{cut, of_page};
+use hp_text::Page;
+use hp_tokens::{LexState, Machine, OwnedText};
+use std::alloc::Global;
+
+/// The sequential parser within a page. It reads the page in pieces, each of which ends at a `>`, so that the lexer goes no
+/// further than to the end of a tag that may switch it.
+#[derive(Drop)]
+pub(crate) struct Parsing<'p> {
+    lexer: Lexer,
+    /// What is still to be read of the piece.
+    input: Cursor<'p>,
+    /// What follows the piece.
+    later: &'p str,
+    builder: Builder<'p>,
+}
+
+impl<'p> Parsing<'p> {
+    /// The start of the page: the document alone, and the lexer in the data state.
+    pub fn of_page(alloc: Global, page: Page<'p>) -> Result<Parsing<'p>, NoMemory>
+        ensures ready { IfOk result IsReady }
+        ensures reads { IfOk result (Reads (chars (text_of page.entry))) }
+    {
+        let builder = Builder::of_page(alloc)?;
+        Ok(Parsing {
+            lexer: page_lexer(),
+            input: Cursor::of_str(""),
+            later: page.as_str(),
+            builder,
+        })
+    }
+
+    /// Reads the page to its end.
+    fn run(&mut self, alloc: Global) -> Result<(), NoMemory>
+        requires ready { IsReady self.old }
+        requires within { IsWithin self.old }
+        ensures at_end { OnOk result (IsAtEnd self.new) }
+        ensures reads { OnOk result ((page : List ℕ) → Reads page self.old → HasReadAll page self.new) }
+    {
+        'pieces: loop {
+            self.read_piece(alloc)?;
+            if !self.take_piece() {
+                return Ok(());
+            }
+        }
+    }
+
+    /// Reads the piece to its end.
+    fn read_piece(&mut self, alloc: Global) -> Result<(), NoMemory>
+        requires ready { IsReady self.old }
+        requires within { IsWithin self.old }
+        ensures at_end { OnOk result (IsAtEnd self.new) }
+        ensures later { OnOk result (self.new.later ≡ self.old.later) }
+        ensures reads { OnOk result ((page : List ℕ) → Reads page self.old → HasEnded page self.new) }
+    {
+        'steps: loop {
+            if !self.step(alloc)? {
+                return Ok(());
+            }
+        }
+    }
+
+    /// Goes on with the next piece of the page. Answers whether there is one.
+    fn take_piece(&mut self) -> bool
+        requires at_end { IsAtEnd self.old }
+        ensures takes { TakesPiece self.old self.new result }
+        ensures reads { (page : List ℕ) → HasEnded page self.old → ReadsPiece page self.new result }
+    {
+        rests_ahead();
+        if self.is_last() {
+            return false;
+        }
+        let (piece, later) = cut(self.later);
+        self.input = Cursor::of_str(piece);
+        self.later = later;
+        true
+    }
+
+    /// Whether nothing follows the piece.
+    fn is_last(&self) -> bool
+        ensures last { result ≡ true → self.now.later.now ≡ [] }
+        ensures more { result ≡ false → self.now.later.now ≢ [] }
+    {
+        self.later.is_empty()
+    }
+
+    /// One step of the lexer, and what it calls for. Answers whether the piece goes on.
+    fn step(&mut self, alloc: Global) -> Result<bool, NoMemory>
+        requires ready { IsReady self.old }
+        requires within { IsWithin self.old }
+        ensures steps { IfOk result (StepsOn self.old self.new) }
+        ensures reads { IfOk result (λ more. (page : List ℕ) → Reads page self.old → ReadsOn page self.new more) }
+    {
+        if self.pass_cut() {
+            return Ok(false);
+        }
+        self.go_on(alloc)
+    }
+
+    /// Whether the piece is used up and the lexer rests in the data state; then it stands before the next piece. Otherwise nothing
+    /// changes.
+    fn pass_cut(&mut self) -> bool
+        requires ready { IsReady self.old }
+        ensures steps { result ≡ true → StepsOn self.old self.new false }
+        ensures reads { result ≡ true → (page : List ℕ) → Reads page self.old → HasEnded page self.new }
+        ensures left { result ≡ false → self.new ≡ self.old }
+    {
+        self.lexer.pass_cut(&self.input)
+    }
+
+    /// One step where the piece isn't known to be used up.
+    fn go_on(&mut self, alloc: Global) -> Result<bool, NoMemory>
+        requires ready { IsReady self.old }
+        requires within { IsWithin self.old }
+        ensures steps { IfOk result (StepsOn self.old self.new) }
+        ensures reads { IfOk result (λ more. (page : List ℕ) → Reads page self.old → ReadsOn page self.new more) }
+    {
+        let text = self.take_plain(alloc)?;
+        if text {
+            return Ok(true);
+        }
+        let tag = self.take_tag(alloc)?;
+        if tag {
+            return Ok(true);
+        }
+        let more = self.step_by_table(alloc)?;
+        Ok(more)
+    }
+
+    /// Takes a text at the front whole, or white space at the front. Answers whether there was one.
+    fn take_plain(&mut self, alloc: Global) -> Result<bool, NoMemory>
+        requires ready { IsReady self.old }
+        ensures tried { IfOk result (Tried self.old self.new) }
+        ensures reads { OnOk result ((page : List ℕ) → Reads page self.old → Reads page self.new) }
+    {
+        if self.is_at_markup() {
+            return Ok(false);
+        }
+        if self.builder.takes_text() {
+            let text = self.take_text(alloc)?;
+            return Ok(text);
+        }
+        let blanks = self.take_blanks(alloc)?;
+        Ok(blanks)
+    }
+
+    /// Takes a text at the front whole, where it goes into the current node as it comes. Answers whether there was one.
+    #[inline(always)]
+    fn take_text(&mut self, alloc: Global) -> Result<bool, NoMemory>
+        requires ready { IsReady self.old }
+        requires takes { takes_text (split_of self.old.builder.view) ≡ true }
+        ensures tried { IfOk result (Tried self.old self.new) }
+        ensures reads { OnOk result ((page : List ℕ) → Reads page self.old → Reads page self.new) }
+    {
+        hp_model::at_once();
+        hp_lexer::steps_fall();
+        match self.next_text() {
+            Some(text) => {
+                self.put_text(alloc, text)?;
+                Ok(true)
+            }
+            None => Ok(false),
+        }
+    }
+
+    /// Takes the white space at the front as one token. Answers whether there was any.
+    #[inline(never)]
+    fn take_blanks(&mut self, alloc: Global) -> Result<bool, NoMemory>
+        requires ready { IsReady self.old }
+        ensures tried { IfOk result (Tried self.old self.new) }
+        ensures reads { OnOk result ((page : List ℕ) → Reads page self.old → Reads page self.new) }
+    {
+        hp_model::at_once();
+        hp_lexer::steps_fall();
+        match self.next_white() {
+            Some(text) => {
+                self.put_blanks(alloc, text)?;
+                Ok(true)
+            }
+            None => Ok(false),
+        }
+    }
+
+    /// Whether `<` comes next, which begins no text.
+    #[inline(always)]
+    fn is_at_markup(&self) -> bool
+        ensures { result ≡ true → first self.now.input.text ≡ Some 60 }
+    {
+        match self.input.front() {
+            Some(b'<') => true,
+            _ => false,
+        }
+    }
+
+    /// The text at the front that is emitted as it stands, or what a usual reference there stands for.
+    fn next_text(&mut self) -> Option<Text<'p>>
+        requires held { held self.old.lexer.lex ≤ self.old.input.place }
+        ensures { TookText self.old self.new result }
+    {
+        match self.lexer.next_plain(&mut self.input) {
+            Some(text) => Some(text),
+            None => self.lexer.next_reference(&mut self.input),
+        }
+    }
+
+    /// The white space at the front, in the data state.
+    fn next_white(&mut self) -> Option<Text<'p>>
+        requires held { held self.old.lexer.lex ≤ self.old.input.place }
+        ensures taken { TookText self.old self.new result }
+        ensures blank { IfSome result (λ text. list_all is_blank text ≡ true) }
+    {
+        next_blanks(&mut self.lexer, &mut self.input)
+    }
+
+    /// Takes a usual tag at the front straight. Answers whether there was one; otherwise the lexer may have gone on a little.
+    fn take_tag(&mut self, alloc: Global) -> Result<bool, NoMemory>
+        requires ready { IsReady self.old }
+        ensures tried { IfOk result (Tried self.old self.new) }
+        ensures reads { OnOk result ((page : List ℕ) → Reads page self.old → Reads page self.new) }
+    {
+        hp_model::at_once();
+        hp_lexer::steps_fall();
+        let found = self.lexer.next_tag(alloc, &mut self.input)?;
+        match found {
+            Some(tag) => {
+                self.handle_one(alloc, tag)?;
+                Ok(true)
+            }
+            None => Ok(false),
+        }
+    }
+
+    /// One step by the lexer's table, and what it calls for. Answers whether the piece goes on.
+    #[inline(never)]
+    fn step_by_table(&mut self, alloc: Global) -> Result<bool, NoMemory>
+        requires ready { IsReady self.old }
+        requires within { IsWithin self.old }
+        ensures steps { IfOk result (StepsOn self.old self.new) }
+        ensures reads { IfOk result (λ more. (page : List ℕ) → Reads page self.old → ReadsOn page self.new more) }
+    {
+        hp_model::at_once();
+        hp_lexer::steps_fall();
+        never_asked();
+        match self.lexer.next(alloc, &mut self.input)? {
+            Step::Tokens { tokens, .. } => {
+                self.handle(alloc, tokens)?;
+                Ok(true)
+            }
+            Step::AskCdata => {
+                let foreign = self.builder.is_foreign(alloc)?;
+                self.lexer.answer_cdata(foreign);
+                Ok(true)
+            }
+            // The page's lexer was told a name, so that it asks for none.
+            Step::AskLastTag => unreachable!(),
+            Step::AtCut => Ok(false),
+        }
+    }
+
+    /// Puts a text into the current node.
+    fn put_text(&mut self, alloc: Global, text: Text<'p>) -> Result<(), NoMemory>
+        requires builder { IsBuilder self.old.builder }
+        requires takes { takes_text (split_of self.old.builder.view) ≡ true }
+        requires no_nul { list_all (none_of (0 ∷ [])) text ≡ true }
+        requires long { 0 < length text }
+        ensures { OnOk result (Took self.old self.new (map character text.entry)) }
+    {
+        self.builder.put_text(alloc, text)?;
+        self.builder.grow_by_batch(alloc)?;
+        Ok(())
+    }
+
+    /// Handles white space as one token.
+    fn put_blanks(&mut self, alloc: Global, text: Text<'p>) -> Result<(), NoMemory>
+        requires builder { IsBuilder self.old.builder }
+        requires blank { list_all is_blank text ≡ true }
+        requires long { 0 < length text }
+        ensures { OnOk result (Took self.old self.new (map character text.entry)) }
+    {
+        self.builder.put_blanks(alloc, text)?;
+        self.builder.grow_by_batch(alloc)?;
+        Ok(())
+    }
+
+    /// Handles the tokens of a step, one behind the other.
+    fn handle(&mut self, alloc: Global, tokens: Tokens<'p>) -> Result<(), NoMemory>
+        requires builder { IsBuilder self.old.builder }
+        requires read { AllRead tokens }
+        requires runs { AreRuns tokens }
+        ensures { OnOk result (Took self.old self.new tokens.entry) }
+    {
+        for token in tokens {
+            self.handle_one(alloc, token)?;
+        }
+        Ok(())
+    }
+
+    /// Handles a token, and switches the lexer where it calls for that.
+    #[inline(always)]
+    fn handle_one(&mut self, alloc: Global, token: Token<'p>) -> Result<(), NoMemory>
+        requires builder { IsBuilder self.old.builder }
+        requires read { IsRead token }
+        requires runs { AreRuns (token ∷ []) }
+        ensures { OnOk result (Took self.old self.new (token.entry ∷ [])) }
+    {
+        hp_model::at_once();
+        let switch = self.builder.handle_one(alloc, token)?;
+        self.builder.grow_by_batch(alloc)?;
+        match switch {
+            None => Ok(()),
+            Some(rest) => {
+                self.lexer.switch(rest);
+                Ok(())
+            }
+        }
+    }
+
+    /// The end of input, and the whole tree.
+    fn end(&mut self, alloc: Global) -> Result<(), NoMemory>
+        requires at_end { IsAtEnd self.old }
+        ensures { OnOk result ((page : List ℕ) → HasReadAll page self.old → IsTreeOf built_in page self.new.builder.tree.branches) }
+    {
+        hp_model::at_once();
+        hp_pieces::ends_of_text();
+        rests_ahead();
+        let tokens = Lexer::from_state(alloc, &self.lexer.lex)?.finish(alloc)?;
+        handle_last(alloc, &mut self.builder, tokens)?;
+        self.builder.grow(alloc)?;
+        Ok(())
+    }
+
+    /// Reads the page and the end of input.
+    pub fn read_all(&mut self, alloc: Global) -> Result<(), NoMemory>
+        requires ready { IsReady self.old }
+        requires within { IsWithin self.old }
+        ensures { OnOk result ((page : List ℕ) → Reads page self.old → IsTreeOf built_in page self.new.builder.tree.branches) }
+    {
+        self.run(alloc)?;
+        self.end(alloc)?;
+        Ok(())
+    }
+
+    /// The tree, once all is read.
+    pub fn into_tree(self) -> Tree<'p>
+        ensures { result.branches ≡ self.entry.builder.tree.branches }
+    {
+        let Parsing { lexer, builder, .. } = self;
+        leave_lexer(lexer);
+        builder.into_tree()
+    }
+
+    /// Gives the memory back.
+    pub fn leave(self) {
+        let _ = self.into_tree();
+    }
+}
+
+/// The lexer in the data state, before the first start tag: the last one's name counts as empty.
+fn page_lexer() -> Lexer
+    ensures { result ≡ record { lex = lex_start; names = built_in; asked = asked.Nothing; rested = 2 ^ 32 } }
+{
+    let Lexer {
+        lex,
+        names,
+        asked,
+        rested,
+    } = Lexer::at_rest(Rest::Data, false);
+    let LexState { machine, ahead } = lex;
+    let machine = Machine {
+        last_tag: Some(OwnedText::new()),
+        ..machine
+    };
+    Lexer {
+        lex: LexState { machine, ahead },
+        names,
+        asked,
+        rested,
+    }
+}
+
+/// Handles the tokens of the end of input. What they call for has no effect, since nothing is read behind them.
+fn handle_last<'p>(
+    alloc: Global,
+    builder: &mut Builder<'p>,
+    tokens: Tokens<'static>,
+) -> Result<(), NoMemory>
+    requires builder { IsBuilder builder.old }
+    requires read { AllRead tokens }
+    requires runs { AreRuns tokens }
+    ensures { OnOk result (HandledAll builder.old builder.new tokens.entry) }
+{
+    hp_model::at_once();
+    for token in tokens {
+        let _ = handle_own(alloc, builder, token)?;
+    }
+    Ok(())
+}
+
+/// Handles a token of the end of input. Answers what it calls for.
+fn handle_own<'p>(
+    alloc: Global,
+    builder: &mut Builder<'p>,
+    token: Token<'static>,
+) -> Result<Option<Rest>, NoMemory>
+    requires builder { IsBuilder builder.old }
+    requires read { IsRead token }
+    ensures { IfOk result (λ switch. HandledOne builder.old builder.new token.entry switch) }
+{
+    let own = of_page(alloc, token)?;
+    let switch = builder.handle_one(alloc, own)?;
+    Ok(switch)
+}
