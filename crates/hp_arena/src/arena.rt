@@ -54,6 +54,9 @@ impl<'p> Model for Arena<'p> {
     ghost invariant = { IsSound };
 }
 
+/// So many levels are few: where a tree can't have more above its lines, they aren't summed one by one.
+const FEW_LEVELS: u64 = 1 << 34;
+
 /// The most nodes before, and the most room of, one reservation.
 const MOST: usize = 0x2000_0000;
 
@@ -373,6 +376,15 @@ impl<'p> Arena<'p> {
     /// About how many levels stand above the lines of the tree's text, all together: those above each item, and those above the
     /// deepest for each attribute that there may be. Nothing is promised of it.
     pub fn summed_levels(&self) -> u64 {
+        let lines = (self.nodes.len() as u64).saturating_add(self.used as u64);
+        let most = lines.saturating_mul(self.elements.len() as u64);
+        if most <= FEW_LEVELS {
+            return most;
+        }
+        let most = lines.saturating_mul(deepest(&self.nodes));
+        if most <= FEW_LEVELS {
+            return most;
+        }
         summed_levels(&self.nodes, self.used as u64)
     }
 
@@ -531,6 +543,42 @@ fn end_after(nodes: &[Node], from: u32) -> u32
         at = nodes[at as usize].next;
     }
     at
+}
+
+/// How many levels stand above the deepest item that the links lead to from the document. An element stands right before the end of
+/// its own children.
+#[inline(never)]
+fn deepest(nodes: &[Node]) -> u64 {
+    let mut level = 0u64;
+    let mut deepest = 0u64;
+    let mut at = next_of(nodes, 1);
+    for _ in 0..nodes.len() {
+        let Some(node) = nodes.get(at as usize) else {
+            break;
+        };
+        match node.kind {
+            Kind::Leaf(_) => at = node.next,
+            Kind::Element(_) => {
+                level = level.wrapping_add(1);
+                deepest = deepest.max(level);
+                at = next_of(nodes, at.wrapping_add(1));
+            }
+            Kind::End(_) => {
+                level = level.wrapping_sub(1);
+                at = next_of(nodes, at.wrapping_sub(1));
+            }
+        }
+    }
+    deepest
+}
+
+/// The node after this one, if it is there.
+#[inline(always)]
+fn next_of(nodes: &[Node], at: u32) -> u32 {
+    match nodes.get(at as usize) {
+        Some(node) => node.next,
+        None => at,
+    }
 }
 
 /// The levels above all items that the links lead to from the document, and those above the deepest for so many more. An element

@@ -1,5 +1,6 @@
 pub mod Blanks
 pub mod Depths
+pub mod Filling
 pub mod Fronts
 pub mod Lists
 pub mod Ordered

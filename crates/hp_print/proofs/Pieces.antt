@@ -1,12 +1,12 @@
 -- Pieces that are printed one after the other.
-use Rattle.std.proofs.Common.{◌≡◌, ℕ, ◌<◌, ◌≤◌, List, [], ◌+◌, ◌++◌, length, take, refl, subst, sym, ap, ◌∙◌, append_assoc, append-nil, length-append, Vec, Global, arith, Option, None, Some, Bool, true, false}
+use Rattle.std.proofs.Common.{◌≡◌, ℕ, ◌<◌, ◌≤◌, List, [], ◌+◌, ◌++◌, length, take, refl, subst, sym, ap, ◌∙◌, append_assoc, append-nil, length-append, arith, Option, None, Some, Bool, true, false}
 use Rattle.std.proofs.lemmas.List.{take-append-le}
 use Rattle.std.proofs.Math.Seq.{take-append-add}
 use Rattle.std.specs.Io.KnownBytes.{append_known}
 use Rattle.hp_text.specs.Device.{Rose}
 use Rattle.hp_print.specs.declared.output.Out.{Out}
 use Rattle.hp_print.specs.declared.output.Out.TheVariants.{Gathered, Failed}
-use Rattle.hp_print.specs.Out.{Broke, Finished, Has, Outcome, Prints, Sight, Starts, TakesPart, Waits}
+use Rattle.hp_print.specs.Out.{Broke, Finished, Outcome, Prints, Sight, Starts, TakesPart, Waits}
 
 sym_assoc : (x y z : List ℕ) → x ++ (y ++ z) ≡ (x ++ y) ++ z
 sym_assoc x y z = sym (append_assoc x y z)
@@ -33,16 +33,16 @@ append_known-nil None = refl
 append_known-nil (Some bs) = ap Some (append-nil bs)
 
 -- at first nothing is gathered
-pub starts : (new : Vec ℕ Global) → new.items ≡ [] → Starts (Gathered new)
+pub starts : (new : List ℕ) → new ≡ [] → Starts (Gathered new)
 starts new empty = λ start. record { gone = []; taken = sym (append_known-nil start.0); whole = empty; faults = refl }
 
 -- more is gathered
-pub gathers : (old new : Vec ℕ Global) (s : Sight) (piece : List ℕ) → new.items ≡ old.items ++ piece → Prints (Gathered old) (Gathered new) s s piece
+pub gathers : (old new : List ℕ) (s : Sight) (piece : List ℕ) → new ≡ old ++ piece → Prints (Gathered old) (Gathered new) s s piece
 gathers old new s piece is = record {
   after = λ start bytes waits. record {
     gone = waits.gone;
     taken = waits.taken;
-    whole = ap (λ xs. waits.gone ++ xs) is ∙ sym_assoc waits.gone old.items piece ∙ ap (λ xs. xs ++ piece) waits.whole;
+    whole = ap (λ xs. waits.gone ++ xs) is ∙ sym_assoc waits.gone old piece ∙ ap (λ xs. xs ++ piece) waits.whole;
     faults = waits.faults;
   };
 }
@@ -71,20 +71,20 @@ broke_at start s t gone more whole n first same is less took rose =
     }
 
 -- what was gathered is written
-pub flushed : (old new : Vec ℕ Global) (s t : Sight) → t.0 ≡ append_known s.0 old.items → t.1 ≡ s.1 → new.items ≡ [] → Prints (Gathered old) (Gathered new) s t []
+pub flushed : (old new : List ℕ) (s t : Sight) → t.0 ≡ append_known s.0 old → t.1 ≡ s.1 → new ≡ [] → Prints (Gathered old) (Gathered new) s t []
 flushed old new s t took same empty = record {
   after = λ start bytes waits. record {
-    gone = waits.gone ++ old.items;
-    taken = took_all start s t waits.gone old.items waits.taken took;
-    whole = ap (λ xs. (waits.gone ++ old.items) ++ xs) empty ∙ append-nil (waits.gone ++ old.items) ∙ waits.whole ∙ sym (append-nil bytes);
+    gone = waits.gone ++ old;
+    taken = took_all start s t waits.gone old waits.taken took;
+    whole = ap (λ xs. (waits.gone ++ old) ++ xs) empty ∙ append-nil (waits.gone ++ old) ∙ waits.whole ∙ sym (append-nil bytes);
     faults = same ∙ waits.faults;
   };
 }
 
 -- or not all of it
-pub broke : (old : Vec ℕ Global) (s t : Sight) (n : ℕ) → n < length old.items → t.0 ≡ append_known s.0 (take n old.items) → Rose s.1 t.1 → Prints (Gathered old) Failed s t []
+pub broke : (old : List ℕ) (s t : Sight) (n : ℕ) → n < length old → t.0 ≡ append_known s.0 (take n old) → Rose s.1 t.1 → Prints (Gathered old) Failed s t []
 broke old s t n less took rose = record {
-  after = λ start bytes waits. broke_at start s t waits.gone old.items (bytes ++ []) n waits.taken waits.faults (waits.whole ∙ sym (append-nil bytes)) less took rose;
+  after = λ start bytes waits. broke_at start s t waits.gone old (bytes ++ []) n waits.taken waits.faults (waits.whole ∙ sym (append-nil bytes)) less took rose;
 }
 
 -- where nothing is gathered, all was taken
@@ -92,28 +92,28 @@ all_gone : (gone gathered bytes : List ℕ) → gathered ≡ [] → gone ++ gath
 all_gone gone gathered bytes empty whole = sym (append-nil gone) ∙ ap (λ xs. gone ++ xs) (sym empty) ∙ whole
 
 -- a piece is written where nothing is gathered
-pub wrote_past : (old : Vec ℕ Global) (s t : Sight) (piece : List ℕ) → old.items ≡ [] → t.0 ≡ append_known s.0 piece → t.1 ≡ s.1 → Prints (Gathered old) (Gathered old) s t piece
+pub wrote_past : (old : List ℕ) (s t : Sight) (piece : List ℕ) → old ≡ [] → t.0 ≡ append_known s.0 piece → t.1 ≡ s.1 → Prints (Gathered old) (Gathered old) s t piece
 wrote_past old s t piece empty took same = record {
   after = λ start bytes waits. record {
     gone = waits.gone ++ piece;
     taken = took_all start s t waits.gone piece waits.taken took;
-    whole = ap (λ xs. (waits.gone ++ piece) ++ xs) empty ∙ append-nil (waits.gone ++ piece) ∙ ap (λ xs. xs ++ piece) (all_gone waits.gone old.items bytes empty waits.whole);
+    whole = ap (λ xs. (waits.gone ++ piece) ++ xs) empty ∙ append-nil (waits.gone ++ piece) ∙ ap (λ xs. xs ++ piece) (all_gone waits.gone old bytes empty waits.whole);
     faults = same ∙ waits.faults;
   };
 }
 
 -- or not all of it
-pub broke_past : (old : Vec ℕ Global) (s t : Sight) (piece : List ℕ) (n : ℕ) → old.items ≡ [] → n < length piece → t.0 ≡ append_known s.0 (take n piece) → Rose s.1 t.1 → Prints (Gathered old) Failed s t piece
+pub broke_past : (old : List ℕ) (s t : Sight) (piece : List ℕ) (n : ℕ) → old ≡ [] → n < length piece → t.0 ≡ append_known s.0 (take n piece) → Rose s.1 t.1 → Prints (Gathered old) Failed s t piece
 broke_past old s t piece n empty less took rose = record {
-  after = λ start bytes waits. broke_at start s t waits.gone piece (bytes ++ piece) n waits.taken waits.faults (ap (λ xs. xs ++ piece) (all_gone waits.gone old.items bytes empty waits.whole)) less took rose;
+  after = λ start bytes waits. broke_at start s t waits.gone piece (bytes ++ piece) n waits.taken waits.faults (ap (λ xs. xs ++ piece) (all_gone waits.gone old bytes empty waits.whole)) less took rose;
 }
 
 -- the end
-pub finished_whole : (old : Out) (new : Vec ℕ Global) (s t : Sight) → Prints old (Gathered new) s t [] → new.items ≡ [] → Finished old true s t
+pub finished_whole : (old : Out) (new : List ℕ) (s t : Sight) → Prints old (Gathered new) s t [] → new ≡ [] → Finished old true s t
 finished_whole old new s t prints empty = record {
   outcome = λ start bytes has.
-      let waits : Waits start t new.items (bytes ++ []) = prints.after start bytes has in
-      waits.taken ∙ ap (append_known start.0) (all_gone waits.gone new.items (bytes ++ []) empty waits.whole ∙ append-nil bytes);
+      let waits : Waits start t new (bytes ++ []) = prints.after start bytes has in
+      waits.taken ∙ ap (append_known start.0) (all_gone waits.gone new (bytes ++ []) empty waits.whole ∙ append-nil bytes);
 }
 
 pub finished_part : (old : Out) (s t : Sight) → Prints old Failed s t [] → Finished old false s t

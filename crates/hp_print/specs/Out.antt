@@ -27,7 +27,7 @@ pub record Broke (start now : Sight) (bytes : List ℕ) : Type 0 where
 
 -- these bytes were printed since the start
 abbrev pub Has : Sight → Sight → Out → List ℕ → Type 0
-Has start now (Gathered gathered) bytes = Waits start now gathered.items bytes
+Has start now (Gathered gathered) bytes = Waits start now gathered bytes
 Has start now Failed bytes = Broke start now bytes
 
 -- these bytes were printed after the others
@@ -40,7 +40,7 @@ Starts out = (start : Sight) → Has start start out []
 
 -- nothing is gathered
 abbrev pub IsEmpty : Out → Type 0
-IsEmpty (Gathered gathered) = gathered.items ≡ []
+IsEmpty (Gathered gathered) = gathered ≡ []
 IsEmpty Failed = Unit {0}
 
 -- all was written, or a part of it

@@ -48,8 +48,20 @@ fn space_text(space: AttributeSpace) -> &'static str
 }
 
 /// Prints an attribute.
-#[tactic(auto, using(crate::proofs::Pieces::prints_then))]
 fn print_attribute<K: Sink>(out: &mut Out, sink: &mut K, attribute: Shown<'_>, depth: u64)
+    requires { depth < 2 ^ 63 }
+    ensures { Prints out.old out.new (K.taken sink.old, K.faults sink.old) (K.taken sink.new, K.faults sink.new) (attribute_line depth (attribute_of attribute.entry)) }
+{
+    match attribute.space {
+        AttributeSpace::Plain => out.put_pair(sink, depth, attribute.name, attribute.value),
+        _ => print_spaced(out, sink, attribute, depth),
+    }
+}
+
+/// Prints an attribute of any namespace.
+#[tactic(auto, using(crate::proofs::Pieces::prints_then))]
+#[inline(never)]
+fn print_spaced<K: Sink>(out: &mut Out, sink: &mut K, attribute: Shown<'_>, depth: u64)
     requires { depth < 2 ^ 63 }
     ensures { Prints out.old out.new (K.taken sink.old, K.faults sink.old) (K.taken sink.new, K.faults sink.new) (attribute_line depth (attribute_of attribute.entry)) }
 {

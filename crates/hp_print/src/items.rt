@@ -1,6 +1,6 @@
 //! The lines of one item.
 
-ghost use Rattle.std.specs.Prelude.{◌≡◌, ◌^◌, ◌<◌, ◌≤◌, ◌++◌, [], codes, length, IfSome, unwrap_or, encode_utf8_all, vec_capacity};
+ghost use Rattle.std.specs.Prelude.{◌≡◌, ◌^◌, ◌<◌, ◌≤◌, ◌++◌, [], codes, length, unwrap_or, encode_utf8_all, vec_capacity};
 ghost use Rattle.std.specs.Option.{option_copied};
 ghost use Rattle.std.specs.List.{concat};
 ghost use Rattle.hp_control.specs.Tree.{Tree};
@@ -27,52 +27,26 @@ fn open_text(namespace: Namespace) -> &'static [u8]
     }
 }
 
-/// What the line of an HTML element of a low depth begins with.
-fn open_front(depth: u64) -> Option<&'static [u8]>
-    ensures { IfSome result (λ front. front.now ≡ indentation depth ++ codes "<") }
-{
-    let front: &'static [u8] = match depth {
-        0 => b"| <",
-        1 => b"|   <",
-        2 => b"|     <",
-        3 => b"|       <",
-        4 => b"|         <",
-        5 => b"|           <",
-        6 => b"|             <",
-        7 => b"|               <",
-        8 => b"|                 <",
-        9 => b"|                   <",
-        10 => b"|                     <",
-        11 => b"|                       <",
-        12 => b"|                         <",
-        13 => b"|                           <",
-        14 => b"|                             <",
-        15 => b"|                               <",
-        _ => return None,
-    };
-    Some(front)
-}
-
-/// Prints what the line of an element begins with.
-fn print_front<K: Sink>(out: &mut Out, sink: &mut K, namespace: Namespace, depth: u64)
-    requires { depth < 2 ^ 63 }
-    ensures { Prints out.old out.new (K.taken sink.old, K.faults sink.old) (K.taken sink.new, K.faults sink.new) (indentation depth ++ codes "<" ++ namespace_word namespace) }
-{
-    if namespace == Namespace::Html {
-        if let Some(front) = open_front(depth) {
-            return out.put(sink, front);
-        }
-    }
-    out.indent(sink, depth);
-    out.put(sink, open_text(namespace))
-}
-
 /// Prints an element without its attributes.
 fn print_opening<K: Sink>(out: &mut Out, sink: &mut K, tag: &Tag, depth: u64)
     requires { depth < 2 ^ 63 }
     ensures { Prints out.old out.new (K.taken sink.old, K.faults sink.old) (K.taken sink.new, K.faults sink.new) (opening depth tag.now) }
 {
-    print_front(out, sink, tag.namespace, depth);
+    match tag.namespace {
+        Namespace::Html => out.put_line(sink, depth, b"<", tag.name.as_str(), b">\n"),
+        _ => print_foreign(out, sink, tag, depth),
+    }
+}
+
+/// Prints an element of any namespace without its attributes.
+#[tactic(auto, using(crate::proofs::Pieces::prints_then))]
+#[inline(never)]
+fn print_foreign<K: Sink>(out: &mut Out, sink: &mut K, tag: &Tag, depth: u64)
+    requires { depth < 2 ^ 63 }
+    ensures { Prints out.old out.new (K.taken sink.old, K.faults sink.old) (K.taken sink.new, K.faults sink.new) (opening depth tag.now) }
+{
+    out.indent(sink, depth);
+    out.put(sink, open_text(tag.namespace));
     out.put_text(sink, tag.name.as_str());
     out.put(sink, b">\n");
 }
@@ -84,61 +58,31 @@ pub fn extra_depth(tag: &Tag) -> u32
     if is_template(tag) { 1 } else { 0 }
 }
 
-/// What the line of a text of a low depth begins with.
-fn quote_front(depth: u64) -> Option<&'static [u8]>
-    ensures { IfSome result (λ front. front.now ≡ indentation depth ++ codes "\"") }
-{
-    let front: &'static [u8] = match depth {
-        0 => b"| \"",
-        1 => b"|   \"",
-        2 => b"|     \"",
-        3 => b"|       \"",
-        4 => b"|         \"",
-        5 => b"|           \"",
-        6 => b"|             \"",
-        7 => b"|               \"",
-        8 => b"|                 \"",
-        9 => b"|                   \"",
-        10 => b"|                     \"",
-        11 => b"|                       \"",
-        12 => b"|                         \"",
-        13 => b"|                           \"",
-        14 => b"|                             \"",
-        15 => b"|                               \"",
-        _ => return None,
-    };
-    Some(front)
-}
-
-/// Prints what the line of a text begins with.
-fn print_quote<K: Sink>(out: &mut Out, sink: &mut K, depth: u64)
-    requires { depth < 2 ^ 63 }
-    ensures { Prints out.old out.new (K.taken sink.old, K.faults sink.old) (K.taken sink.new, K.faults sink.new) (indentation depth ++ codes "\"") }
-{
-    match quote_front(depth) {
-        Some(front) => out.put(sink, front),
-        None => {
-            out.indent(sink, depth);
-            out.put(sink, b"\"")
-        }
-    }
-}
-
 /// Prints a text by its runs.
 #[tactic(auto, using(crate::proofs::Pieces::prints_then))]
 fn print_text<K: Sink>(out: &mut Out, sink: &mut K, runs: Runs<'_, '_>, depth: u64)
     requires { depth < 2 ^ 63 }
     ensures { Prints out.old out.new (K.taken sink.old, K.faults sink.old) (K.taken sink.new, K.faults sink.new) (text_line depth (text_of runs.entry)) }
 {
-    print_quote(out, sink, depth);
     match runs {
-        Runs::One(run) => out.put_text(sink, run.as_str()),
-        Runs::Several(runs) => print_runs(out, sink, runs),
+        Runs::One(run) => out.put_line(sink, depth, b"\"", run.as_str(), b"\"\n"),
+        Runs::Several(runs) => print_several(out, sink, runs, depth),
     }
+}
+
+/// Prints a text of several runs.
+#[tactic(auto, using(crate::proofs::Pieces::prints_then))]
+#[inline(never)]
+fn print_several<K: Sink>(out: &mut Out, sink: &mut K, runs: &Chain<Text<'_>>, depth: u64)
+    requires { depth < 2 ^ 63 }
+    ensures { Prints out.old out.new (K.taken sink.old, K.faults sink.old) (K.taken sink.new, K.faults sink.new) (text_line depth (concat runs.now)) }
+{
+    out.indent(sink, depth);
+    out.put(sink, b"\"");
+    print_runs(out, sink, runs);
     out.put(sink, b"\"\n");
 }
 
-#[inline(never)]
 fn print_runs<K: Sink>(out: &mut Out, sink: &mut K, runs: &Chain<Text<'_>>)
     ensures { Prints out.old out.new (K.taken sink.old, K.faults sink.old) (K.taken sink.new, K.faults sink.new) (encode_utf8_all (concat runs.now)) }
 {

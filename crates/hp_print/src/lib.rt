@@ -2,6 +2,7 @@
 #![tactic(auto)]
 
 mod attributes;
+mod filled;
 mod items;
 mod kept;
 mod output;

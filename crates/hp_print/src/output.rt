@@ -1,10 +1,11 @@
 //! Where the printed text goes: it is gathered in memory of one size, which goes to the sink whenever it is full.
 
-ghost use Rattle.std.specs.Prelude.{◌≡◌, ◌+◌, ◌^◌, ◌<◌, ◌≤◌, ◌++◌, [], IfOk, length, replicate, encode_utf8_all, vec_len, vec_capacity};
+ghost use Rattle.std.specs.Prelude.{◌≡◌, ◌+◌, ◌^◌, ◌<◌, ◌≤◌, ◌++◌, [], IfOk, length, replicate, codes, encode_utf8_all};
 ghost use Rattle.std.specs.Str.{chars};
 ghost use Rattle.hp_print.specs.Out.{Finished, IsEmpty, Prints, Starts};
 ghost use Rattle.hp_print.specs.Print.{indentation};
 
+use crate::filled::Filled;
 use hp_text::{Sink, write_whole};
 use std::alloc::{AllocError as NoMemory, Global};
 
@@ -12,13 +13,10 @@ use std::alloc::{AllocError as NoMemory, Global};
 #[derive(Drop)]
 pub enum Out {
     /// What was gathered since the last write.
-    Gathered(Vec<u8>),
+    Gathered(Filled),
     /// A write failed, and nothing more is written.
     Failed,
 }
-
-/// How many bytes are gathered at most.
-const ROOM: usize = 1 << 16;
 
 const BLANKS: [u8; 64] = [b' '; 64];
 
@@ -31,8 +29,8 @@ impl Out {
     pub fn new(alloc: Global) -> Result<Out, NoMemory>
         ensures { IfOk result Starts }
     {
-        let bytes = Vec::with_capacity(alloc, ROOM)?;
-        Ok(Out::Gathered(bytes))
+        let gathered = Filled::new(alloc)?;
+        Ok(Out::Gathered(gathered))
     }
 
     /// Prints these bytes.
@@ -42,11 +40,9 @@ impl Out {
         ensures { Prints self.old self.new (K.taken sink.old, K.faults sink.old) (K.taken sink.new, K.faults sink.new) piece.now }
     {
         match self {
-            Out::Gathered(bytes) => {
-                if bytes.capacity() - bytes.len() < piece.len() {
+            Out::Gathered(gathered) => {
+                if !gathered.append(piece) {
                     self.put_beyond(sink, piece);
-                } else {
-                    append(bytes, piece);
                 }
             }
             Out::Failed => {}
@@ -68,10 +64,8 @@ impl Out {
         ensures { Prints self.old self.new (K.taken sink.old, K.faults sink.old) (K.taken sink.new, K.faults sink.new) piece.now }
     {
         match self {
-            Out::Gathered(bytes) => {
-                if piece.len() <= bytes.capacity() - bytes.len() {
-                    append(bytes, piece);
-                } else {
+            Out::Gathered(gathered) => {
+                if !gathered.append(piece) {
                     match write_whole(sink, piece) {
                         Ok(()) => {}
                         Err(_) => *self = Out::Failed,
@@ -88,9 +82,9 @@ impl Out {
         ensures empty { IsEmpty self.new }
     {
         match self {
-            Out::Gathered(bytes) => {
-                match write_whole(sink, bytes.as_slice()) {
-                    Ok(()) => bytes.clear(),
+            Out::Gathered(gathered) => {
+                match write_whole(sink, gathered.as_slice()) {
+                    Ok(()) => gathered.clear(),
                     Err(_) => *self = Out::Failed,
                 }
             }
@@ -116,6 +110,81 @@ impl Out {
         ensures { Prints self.old self.new (K.taken sink.old, K.faults sink.old) (K.taken sink.new, K.faults sink.new) (encode_utf8_all (chars text.now)) }
     {
         self.put(sink, text.as_bytes());
+    }
+
+    /// Prints a line of this depth: a short piece, a text and another short piece.
+    #[tactic(auto, using(crate::proofs::Pieces::gathers, crate::proofs::Pieces::failed))]
+    #[inline(always)]
+    pub fn put_line<K: Sink>(
+        &mut self,
+        sink: &mut K,
+        depth: u64,
+        front: &[u8],
+        text: &str,
+        end: &[u8],
+    )
+        requires depth { depth < 2 ^ 63 }
+        requires front { length front.now ≤ 2 }
+        requires end { length end.now ≤ 2 }
+        ensures { Prints self.old self.new (K.taken sink.old, K.faults sink.old) (K.taken sink.new, K.faults sink.new) (indentation depth ++ front.now ++ encode_utf8_all (chars text.now) ++ end.now) }
+    {
+        match self {
+            Out::Gathered(gathered) => {
+                if !gathered.append_line(depth, front, text, end) {
+                    self.put_line_beyond(sink, depth, front, text, end);
+                }
+            }
+            Out::Failed => {}
+        }
+    }
+
+    /// The same piece by piece.
+    #[inline(never)]
+    fn put_line_beyond<K: Sink>(
+        &mut self,
+        sink: &mut K,
+        depth: u64,
+        front: &[u8],
+        text: &str,
+        end: &[u8],
+    )
+        requires { depth < 2 ^ 63 }
+        ensures { Prints self.old self.new (K.taken sink.old, K.faults sink.old) (K.taken sink.new, K.faults sink.new) (indentation depth ++ front.now ++ encode_utf8_all (chars text.now) ++ end.now) }
+    {
+        self.indent(sink, depth);
+        self.put(sink, front);
+        self.put_text(sink, text);
+        self.put(sink, end);
+    }
+
+    /// Prints a line of this depth: a name and a value.
+    #[tactic(auto, using(crate::proofs::Pieces::gathers, crate::proofs::Pieces::failed))]
+    #[inline(always)]
+    pub fn put_pair<K: Sink>(&mut self, sink: &mut K, depth: u64, name: &str, value: &str)
+        requires { depth < 2 ^ 63 }
+        ensures { Prints self.old self.new (K.taken sink.old, K.faults sink.old) (K.taken sink.new, K.faults sink.new) (indentation depth ++ encode_utf8_all (chars name.now) ++ codes "=\"" ++ encode_utf8_all (chars value.now) ++ codes "\"\n") }
+    {
+        match self {
+            Out::Gathered(gathered) => {
+                if !gathered.append_pair(depth, name, value) {
+                    self.put_pair_beyond(sink, depth, name, value);
+                }
+            }
+            Out::Failed => {}
+        }
+    }
+
+    /// The same piece by piece.
+    #[inline(never)]
+    fn put_pair_beyond<K: Sink>(&mut self, sink: &mut K, depth: u64, name: &str, value: &str)
+        requires { depth < 2 ^ 63 }
+        ensures { Prints self.old self.new (K.taken sink.old, K.faults sink.old) (K.taken sink.new, K.faults sink.new) (indentation depth ++ encode_utf8_all (chars name.now) ++ codes "=\"" ++ encode_utf8_all (chars value.now) ++ codes "\"\n") }
+    {
+        self.indent(sink, depth);
+        self.put_text(sink, name);
+        self.put(sink, b"=\"");
+        self.put_text(sink, value);
+        self.put(sink, b"\"\n");
     }
 
     /// Prints so many spaces.
@@ -151,18 +220,6 @@ impl Out {
     {
         self.put(sink, b"| ");
         self.put_blanks(sink, depth + depth);
-    }
-}
-
-/// Appends bytes for which there is room.
-#[inline]
-fn append(bytes: &mut Vec<u8>, piece: &[u8])
-    requires { vec_len bytes.old + length piece.now ≤ vec_capacity bytes.old }
-    ensures { bytes.new.items ≡ bytes.old.items ++ piece.now }
-{
-    match bytes.extend_from_slice(piece) {
-        Ok(()) => {}
-        Err(_) => unreachable!(),
     }
 }
 

@@ -1,4 +1,4 @@
-use Rattle.std.proofs.Common.{◌≡◌, ◌≤◌, ◌+◌, length, [], vec_len, vec_capacity}
+use Rattle.std.proofs.Common.{◌≡◌, ◌≤◌, ◌+◌, length, vec_len, vec_capacity}
 use Rattle.std.specs.List.{fold}
 use Rattle.hp_print.specs.Order.{comes_before, in_order, placed}
 use Rattle.hp_print.specs.Shown.{attributes_of}

@@ -1,4 +1,4 @@
-use Rattle.std.proofs.Common.{◌≡◌, ◌+◌, ◌<◌, ap, sym, ◌∙◌, subst, Some, length, arith}
+use Rattle.std.proofs.Common.{◌≡◌, ◌+◌, ◌<◌, ap, sym, ◌∙◌, Some, length, arith}
 use Rattle.hp_control.specs.Tree.{branch}
 use Rattle.hp_control.specs.Tree as item
 use Rattle.hp_arena.specs.Readers.{parent_of, place_of, shown}

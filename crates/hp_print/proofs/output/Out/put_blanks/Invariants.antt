@@ -1,4 +1,4 @@
-use Rattle.std.proofs.Common.{◌≡◌, ◌≤◌, ◌-◌, replicate}
+use Rattle.std.proofs.Common.{◌≤◌, ◌-◌, replicate}
 use Rattle.hp_print.specs.Out.{Prints}
 use Rattle.hp_print.proofs.output.Out.put_blanks.Given as goal
 

@@ -1,6 +1,6 @@
 use Rattle.std.proofs.Common.{◌∙◌}
 use Rattle.hp_print.proofs.Pieces.{prints_then, prints_as}
-use Rattle.hp_print.proofs.attributes.print_attribute.Goals as goal
+use Rattle.hp_print.proofs.attributes.print_spaced.Goals as goal
 
 pub returns : goal.returns
 returns g c =
