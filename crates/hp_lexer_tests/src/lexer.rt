@@ -3,6 +3,9 @@ ghost use Rattle.std.specs.Prelude.{◌≡◌, not};
 ghost use Rattle.hp_lexer.specs.Standing.{is_answered};
 
 use crate::cases::{CASES, Case};
+use crate::markup::MARKUP;
+use crate::raw::RAW;
+use crate::tags::TAGS;
 use crate::teller::{Teller, show};
 use hp_elements::{CharClass, Known, Name, Token};
 use hp_lexer::{Asked, Cursor, Lexer, NoMemory, Step};
@@ -235,5 +238,8 @@ fn compare_all(rt: &impl Abort, alloc: Global, cases: &[Case]) -> Result<(), NoM
 
 #[test]
 fn lexes_as_the_standard_says_whole_and_cut_at_each_place(rt: HostRuntime) -> Result<(), Fail> {
-    Ok(compare_all(&rt, rt.alloc(), CASES)?)
+    for cases in [CASES, TAGS, RAW, MARKUP] {
+        compare_all(&rt, rt.alloc(), cases)?;
+    }
+    Ok(())
 }

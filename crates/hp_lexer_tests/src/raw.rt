@@ -1,448 +1,200 @@
-//! The tokens of short texts, whole and cut at each place, as an independent lexer gives them.
-use crate::teller::{Teller, show};
-use hp_elements::{Rest, Tokens};
-use hp_lex_raw::{advance, at_end, is_here};
-use hp_tokens::{Cursor, LexState, Machine, NoMemory, ORIGIN, OwnedText, State, Turn};
-use std::alloc::Global;
-use std::mem;
-use std::process::Abort;
-use std::test::Fail;
+//! Raw text, of which a script's end tag is the end, with the tokens that the independent lexer of `tools/lexer_table.py` gives.
+use crate::cases::Case;
+use hp_elements::Rest;
 
-/// A state, the last start tag's name (behind `?`, the lexer is told it once it asks), a text, and its tokens: runs in
-/// brackets, end tags with the place where they began, `?` where the name is asked, and at last the end of input or where
-/// the text goes on.
-type Case = (Rest, &'static str, &'static str, &'static str);
-
-const CASES: &[Case] = &[
+pub const RAW: &[Case] = &[
     (
         Rest::Rcdata,
-        "title",
-        "a<b>c</title>x",
-        "[a<b>c]</title>@5 to data",
+        false,
+        "a<b>c</script>x",
+        "[a<b>c]</script>@5[x]$",
     ),
-    (Rest::Rcdata, "title", "</TITLE >", " to attributes"),
-    (Rest::Rcdata, "title", "</title/>", " to slash"),
-    (Rest::Rcdata, "title", "</titl>", "[</titl>]$"),
+    (Rest::Rcdata, false, "</SCRIPT >", "</script>@0$"),
+    (Rest::Rcdata, false, "</script/>", "</script>@0$"),
+    (Rest::Rcdata, false, "</scrip>", "[</scrip>]$"),
     (
         Rest::Rcdata,
-        "title",
-        "</titles></title",
-        "[</titles></title]$",
+        false,
+        "</scripts></script",
+        "[</scripts></script]$",
     ),
-    (Rest::Rcdata, "title", "a&amp;", "[a] to reference"),
-    (Rest::Rcdata, "title", "</scr", "[</scr]$"),
-    (Rest::Rcdata, "title", "<", "[<]$"),
-    (Rest::Rcdata, "title", "</", "[</]$"),
-    (Rest::Rcdata, "title", "</1", "[</1]$"),
-    (Rest::Rcdata, "title", "<a", "[<a]$"),
-    (Rest::Rcdata, "title", "a\0b", "[a\u{fffd}b]$"),
-    (Rest::Rcdata, "title", "a\r\nb\rc\nd", "[a\nb\nc\nd]$"),
-    (Rest::Rcdata, "", "</title>", "[</title>]$"),
+    (Rest::Rcdata, false, "a&amp;", "[a&]$"),
+    (Rest::Rcdata, false, "</scr", "[</scr]$"),
+    (Rest::Rcdata, false, "</1", "[</1]$"),
+    (Rest::Rcdata, false, "<a", "[<a]$"),
+    (Rest::Rcdata, false, "a\0b", "[a\u{fffd}b]$"),
+    (Rest::Rcdata, false, "a\r\nb\rc\nd", "[a\nb\nc\nd]$"),
+    (Rest::Rcdata, false, "</title>", "[</title>]$"),
     (
         Rest::Rcdata,
-        "title",
-        "\u{e9}\u{20ac}</title>",
-        "[\u{e9}\u{20ac}]</title>@5 to data",
+        false,
+        "\u{e9}\u{20ac}</script>",
+        "[\u{e9}\u{20ac}]</script>@5$",
     ),
-    (Rest::Rcdata, "title", "</title\u{e9}>", "[</title\u{e9}>]$"),
-    (
-        Rest::Rcdata,
-        "title",
-        "</</title>",
-        "[</]</title>@2 to data",
-    ),
-    (
-        Rest::Rcdata,
-        "title",
-        "</title<</title\t",
-        "[</title<] to attributes",
-    ),
-    (
-        Rest::Rcdata,
-        "?title",
-        "x</title>",
-        "[x]?</title>@1 to data",
-    ),
-    (Rest::Rcdata, "?title", "x</title\n", "[x]? to attributes"),
-    (Rest::Rcdata, "?title", "x</title\r", "[x]? to attributes"),
-    (
-        Rest::Rcdata,
-        "?title",
-        "x</b>y</title/",
-        "[x]?[</b>y] to slash",
-    ),
-    (Rest::Rcdata, "?title", "x</title", "[x</title]$"),
-    (Rest::Rcdata, "?title", "x</a1", "[x</a1]$"),
+    (Rest::Rcdata, false, "</script\u{e9}>", "[</script\u{e9}>]$"),
+    (Rest::Rcdata, false, "</</script>", "[</]</script>@2$"),
+    (Rest::Rcdata, false, "</script<</script\t", "[</script<]$"),
+    (Rest::Rcdata, false, "x</script>", "[x]</script>@1$"),
+    (Rest::Rcdata, false, "x</script\n", "[x]$"),
+    (Rest::Rcdata, false, "x</script\r", "[x]$"),
+    (Rest::Rcdata, false, "x</b>y</script/", "[x</b>y]$"),
+    (Rest::Rcdata, false, "x</script", "[x</script]$"),
+    (Rest::Rcdata, false, "x</a1", "[x</a1]$"),
+    (Rest::Rawtext, false, "a{}</script>", "[a{}]</script>@3$"),
     (
         Rest::Rawtext,
-        "style",
-        "a{}</style>",
-        "[a{}]</style>@3 to data",
+        false,
+        "a&amp;<b></b></SCRIPT\n",
+        "[a&amp;<b></b>]$",
     ),
-    (
-        Rest::Rawtext,
-        "style",
-        "a&amp;<b></b></STYLE\n",
-        "[a&amp;<b></b>] to attributes",
-    ),
-    (Rest::Rawtext, "style", "</style/", " to slash"),
-    (Rest::Rawtext, "style", "</script>", "[</script>]$"),
-    (Rest::Rawtext, "style", "<</", "[<</]$"),
-    (Rest::Rawtext, "style", "</9", "[</9]$"),
-    (Rest::Rawtext, "style", "\0</s", "[\u{fffd}</s]$"),
-    (
-        Rest::Rawtext,
-        "?style",
-        "</a></style>",
-        "?[</a>]</style>@4 to data",
-    ),
-    (Rest::Rawtext, "style", "</", "[</]$"),
-    (
-        Rest::Rawtext,
-        "style",
-        "\r\n</style>",
-        "[\n]</style>@2 to data",
-    ),
+    (Rest::Rawtext, false, "</script/", "$"),
+    (Rest::Rawtext, false, "</style>", "[</style>]$"),
+    (Rest::Rawtext, false, "<</", "[<</]$"),
+    (Rest::Rawtext, false, "</9", "[</9]$"),
+    (Rest::Rawtext, false, "\0</s", "[\u{fffd}</s]$"),
+    (Rest::Rawtext, false, "</a></script>", "[</a>]</script>@4$"),
+    (Rest::Rawtext, false, "\r\n</script>", "[\n]</script>@2$"),
+    (Rest::Script, false, "a<b</script>", "[a<b]</script>@3$"),
+    (Rest::Script, false, "</SCRIPT\r\n", "$"),
+    (Rest::Script, false, "</script/", "$"),
+    (Rest::Script, false, "</scripts>", "[</scripts>]$"),
+    (Rest::Script, false, "<!x", "[<!x]$"),
+    (Rest::Script, false, "<!-x", "[<!-x]$"),
+    (Rest::Script, false, "<!--x", "[<!--x]$"),
     (
         Rest::Script,
-        "script",
-        "a<b</script>",
-        "[a<b]</script>@3 to data",
-    ),
-    (Rest::Script, "script", "</SCRIPT\r\n", " to attributes"),
-    (Rest::Script, "script", "</script/", " to slash"),
-    (Rest::Script, "script", "</scripts>", "[</scripts>]$"),
-    (Rest::Script, "script", "</", "[</]$"),
-    (Rest::Script, "script", "<", "[<]$"),
-    (Rest::Script, "script", "<!", "[<!]$"),
-    (Rest::Script, "script", "<!-", "[<!-]$"),
-    (Rest::Script, "script", "<!--", "[<!--]$"),
-    (Rest::Script, "script", "<!x", "[<!x]$"),
-    (Rest::Script, "script", "<!-x", "[<!-x]$"),
-    (Rest::Script, "script", "<!--x", "[<!--x]$"),
-    (
-        Rest::Script,
-        "script",
+        false,
         "<!-->x</script>",
-        "[<!-->x]</script>@6 to data",
+        "[<!-->x]</script>@6$",
     ),
-    (Rest::Script, "script", "<!--->x<", "[<!--->x<]$"),
+    (Rest::Script, false, "<!--->x<", "[<!--->x<]$"),
     (
         Rest::Script,
-        "script",
+        false,
         "<!--a-b--c-->d</script>",
-        "[<!--a-b--c-->d]</script>@14 to data",
+        "[<!--a-b--c-->d]</script>@14$",
     ),
+    (Rest::Script, false, "<!--</script>", "[<!--]</script>@4$"),
     (
         Rest::Script,
-        "script",
-        "<!--</script>",
-        "[<!--]</script>@4 to data",
-    ),
-    (
-        Rest::Script,
-        "script",
+        false,
         "<!--<script>a</script>b</script>",
-        "[<!--<script>a</script>b]</script>@23 to data",
+        "[<!--<script>a</script>b]</script>@23$",
     ),
     (
         Rest::Script,
-        "script",
+        false,
         "<!--<script></script>--></script>",
-        "[<!--<script></script>-->]</script>@24 to data",
+        "[<!--<script></script>-->]</script>@24$",
     ),
     (
         Rest::Script,
-        "script",
+        false,
         "<!--<script>a--></script>",
-        "[<!--<script>a-->]</script>@16 to data",
+        "[<!--<script>a-->]</script>@16$",
     ),
     (
         Rest::Script,
-        "script",
+        false,
         "<!--<SCRIPT/a</Script\tb<",
         "[<!--<SCRIPT/a</Script\tb<]$",
     ),
     (
         Rest::Script,
-        "script",
+        false,
         "<!--<scripts>a</script>",
-        "[<!--<scripts>a]</script>@14 to data",
+        "[<!--<scripts>a]</script>@14$",
     ),
     (
         Rest::Script,
-        "script",
+        false,
         "<!--<script>-a--b---c<!</a></scripts></script ",
         "[<!--<script>-a--b---c<!</a></scripts></script ]$",
     ),
     (
         Rest::Script,
-        "script",
+        false,
         "<!--<1</2</a</style></",
         "[<!--<1</2</a</style></]$",
     ),
-    (Rest::Script, "script", "<!--<scr", "[<!--<scr]$"),
-    (Rest::Script, "script", "<!--<script", "[<!--<script]$"),
-    (Rest::Script, "script", "<!--<script><", "[<!--<script><]$"),
+    (Rest::Script, false, "<!--<scr", "[<!--<scr]$"),
+    (Rest::Script, false, "<!--<script", "[<!--<script]$"),
+    (Rest::Script, false, "<!--<script><", "[<!--<script><]$"),
+    (Rest::Script, false, "<!--<script></", "[<!--<script></]$"),
     (
         Rest::Script,
-        "script",
-        "<!--<script></",
-        "[<!--<script></]$",
-    ),
-    (
-        Rest::Script,
-        "script",
+        false,
         "<!--<script></scr",
         "[<!--<script></scr]$",
     ),
+    (Rest::Script, false, "<!--<script></1", "[<!--<script></1]$"),
     (
         Rest::Script,
-        "script",
-        "<!--<script></1",
-        "[<!--<script></1]$",
-    ),
-    (
-        Rest::Script,
-        "script",
+        false,
         "<!--\0-\0--\0<\0</\0",
         "[<!--\u{fffd}-\u{fffd}--\u{fffd}<\u{fffd}</\u{fffd}]$",
     ),
     (
         Rest::Script,
-        "script",
+        false,
         "<!--<script>\0-\0--\0<\0</\0",
         "[<!--<script>\u{fffd}-\u{fffd}--\u{fffd}<\u{fffd}</\u{fffd}]$",
     ),
+    (Rest::Script, false, "<!--<a\0<b!", "[<!--<a\u{fffd}<b!]$"),
     (
         Rest::Script,
-        "script",
-        "<!--<a\0<b!",
-        "[<!--<a\u{fffd}<b!]$",
-    ),
-    (
-        Rest::Script,
-        "?script",
-        "<!--</script>",
-        "[<!--]?</script>@4 to data",
-    ),
-    (
-        Rest::Script,
-        "?script",
+        false,
         "<!--</b\r\n</script>",
-        "[<!--]?[</b\n]</script>@9 to data",
+        "[<!--</b\n]</script>@9$",
     ),
-    (Rest::Script, "?script", "x</script ", "[x]? to attributes"),
+    (Rest::Script, false, "x</script ", "[x]$"),
     (
         Rest::Script,
-        "script",
+        false,
         "a\rb\r\n<!-\r-<!--\r\n-\r--\r\n<script\r\n-\r\n--\r\n</script\r\n",
         "[a\nb\n<!-\n-<!--\n-\n--\n<script\n-\n--\n</script\n]$",
     ),
-    (Rest::Script, "script", "\0</\0", "[\u{fffd}</\u{fffd}]$"),
+    (Rest::Script, false, "\0</\0", "[\u{fffd}</\u{fffd}]$"),
+    (Rest::Script, false, "<!---</script>", "[<!---]</script>@5$"),
     (
         Rest::Script,
-        "script",
-        "<!---</script>",
-        "[<!---]</script>@5 to data",
-    ),
-    (
-        Rest::Script,
-        "script",
+        false,
         "<!----></script>",
-        "[<!---->]</script>@7 to data",
+        "[<!---->]</script>@7$",
     ),
     (
         Rest::Script,
-        "script",
+        false,
         "<!--<script>---></script>",
-        "[<!--<script>--->]</script>@16 to data",
+        "[<!--<script>--->]</script>@16$",
     ),
     (
         Rest::Plaintext,
-        "plaintext",
+        false,
         "a<b></plaintext>&amp;\0\r\n",
         "[a<b></plaintext>&amp;\u{fffd}\n]$",
     ),
-    (Rest::Plaintext, "x", "", "$"),
-    (Rest::Escaped, "script", "-", "[-]$"),
-    (Rest::EscapedDash, "script", "-", "[-]$"),
-    (Rest::EscapedDash, "script", "a", "[a]$"),
-    (Rest::EscapedDash, "script", "<", "[<]$"),
-    (Rest::EscapedDash, "script", "\0", "[\u{fffd}]$"),
-    (Rest::EscapedDash, "script", "", "$"),
-    (Rest::EscapedDashDash, "script", ">a", "[>a]$"),
-    (Rest::EscapedDashDash, "script", "a", "[a]$"),
-    (Rest::EscapedDashDash, "script", "-><!", "[-><!]$"),
-    (Rest::EscapedDashDash, "script", "", "$"),
-    (Rest::Escaped, "script", "", "$"),
-    (Rest::Double, "script", "-", "[-]$"),
-    (Rest::DoubleDash, "script", "-", "[-]$"),
-    (Rest::DoubleDash, "script", "a>", "[a>]$"),
-    (Rest::DoubleDash, "script", "</script>", "[</script>]$"),
+    (Rest::Escaped, false, "-", "[-]$"),
+    (Rest::EscapedDash, false, "-", "[-]$"),
+    (Rest::EscapedDash, false, "a", "[a]$"),
+    (Rest::EscapedDash, false, "<", "[<]$"),
+    (Rest::EscapedDash, false, "\0", "[\u{fffd}]$"),
+    (Rest::EscapedDash, false, "", "$"),
+    (Rest::EscapedDashDash, false, ">a", "[>a]$"),
+    (Rest::EscapedDashDash, false, "a", "[a]$"),
+    (Rest::EscapedDashDash, false, "-><!", "[-><!]$"),
+    (Rest::EscapedDashDash, false, "", "$"),
+    (Rest::DoubleDash, false, "-", "[-]$"),
+    (Rest::DoubleDash, false, "a>", "[a>]$"),
+    (Rest::DoubleDash, false, "</script>", "[</script>]$"),
+    (Rest::DoubleDashDash, false, "></script>", "[>]</script>@1$"),
+    (Rest::DoubleDashDash, false, "--><", "[--><]$"),
     (
         Rest::DoubleDashDash,
-        "script",
-        "></script>",
-        "[>]</script>@1 to data",
-    ),
-    (Rest::DoubleDashDash, "script", "--><", "[--><]$"),
-    (
-        Rest::DoubleDashDash,
-        "script",
+        false,
         "a></script >",
         "[a></script >]$",
     ),
-    (Rest::Double, "script", "", "$"),
-    (Rest::DoubleDash, "script", "", "$"),
-    (Rest::DoubleDashDash, "script", "", "$"),
-    (
-        Rest::Rcdata,
-        "abcdefghijklmnopqrstuvwxyzabcdef",
-        "</abcdefghijklmnopqrstuvwxyzabcdeg></ABCDEFGHIJKLMNOPQRSTUVWXYZabcdef>",
-        "[</abcdefghijklmnopqrstuvwxyzabcdeg>]</abcdefghijklmnopqrstuvwxyzabcdef>@35 to data",
-    ),
+    (Rest::DoubleDash, false, "", "$"),
+    (Rest::DoubleDashDash, false, "", "$"),
 ];
-
-/// Tells the state in which another part of the lexer goes on.
-fn tell_state(teller: &mut Teller, state: State) -> Result<(), NoMemory> {
-    teller.end_run()?;
-    teller.text.push_str(match state {
-        State::Data => " to data",
-        State::BeforeAttributeName => " to attributes",
-        State::SelfClosingStartTag => " to slash",
-        State::CharacterReference => " to reference",
-        _ => " to another state",
-    })
-}
-
-/// One lexing of a text that is handed over in pieces.
-#[derive(Drop)]
-struct Run {
-    state: LexState,
-    teller: Teller,
-    rested: u64,
-    start: u64,
-}
-
-impl Run {
-    fn new(alloc: Global, rest: Rest, last: &str) -> Result<Run, NoMemory> {
-        let mut state = LexState::at_rest(rest, false);
-        if !last.starts_with('?') {
-            tell(alloc, &mut state.machine, last)?;
-        }
-        Ok(Run {
-            state,
-            teller: Teller::new(alloc, true),
-            rested: ORIGIN,
-            start: 0,
-        })
-    }
-
-    /// Makes one move and tells its tokens, where the state is one of this part's.
-    fn step(&mut self, alloc: Global, input: &mut Cursor<'_>) -> Result<Option<Turn>, NoMemory> {
-        let state = &mut self.state;
-        if !is_here(state.machine.state) || state.ahead.len_bytes() > input.place() {
-            tell_state(&mut self.teller, state.machine.state)?;
-            return Ok(None);
-        }
-        let mut tokens = Tokens::new();
-        let turn = advance(alloc, state, input, &mut self.rested, &mut tokens);
-        let began = self.rested.wrapping_sub(ORIGIN).wrapping_add(self.start);
-        let told = self.teller.tell_all(tokens.as_slice(), began);
-        mem::forget(tokens);
-        told?;
-        Ok(Some(turn?))
-    }
-
-    /// Lexes a piece, and answers whether the state is still one of this part's.
-    fn lex(&mut self, alloc: Global, last: &str, piece: &str) -> Result<bool, NoMemory> {
-        if piece.len() > 1000 {
-            return Ok(false);
-        }
-        let mut input = Cursor::of_str(piece);
-        for _ in 0..1000 {
-            match self.step(alloc, &mut input)? {
-                None => return Ok(false),
-                Some(Turn::NeedsMore) => break,
-                Some(Turn::AskLastTag) => {
-                    self.teller.end_run()?;
-                    self.teller.text.push('?')?;
-                    tell(alloc, &mut self.state.machine, last.trim_start_matches('?'))?;
-                }
-                Some(Turn::Emitted | Turn::Moved | Turn::AskCdata) => {}
-            }
-        }
-        self.rested = self.rested.wrapping_sub(piece.len() as u64);
-        self.start = self.start.wrapping_add(piece.len() as u64);
-        Ok(true)
-    }
-
-    fn end(&mut self, alloc: Global) -> Result<(), NoMemory> {
-        if self.state.ahead.len_bytes() > ORIGIN || !is_here(self.state.machine.state) {
-            return Ok(());
-        }
-        let mut tokens: Tokens<'static> = Tokens::new();
-        let ended = at_end(alloc, &mut self.state, &mut tokens);
-        let told = self.teller.tell_last(tokens.as_slice());
-        mem::forget(tokens);
-        let _ = ended?;
-        told
-    }
-
-    /// Lexes a text in two pieces.
-    fn lex_both(
-        &mut self,
-        alloc: Global,
-        last: &str,
-        first: &str,
-        second: &str,
-    ) -> Result<(), NoMemory> {
-        if self.lex(alloc, last, first)? && self.lex(alloc, last, second)? {
-            self.end(alloc)?;
-        }
-        Ok(())
-    }
-}
-
-/// Tells the lexer the last start tag's name.
-fn tell(alloc: Global, machine: &mut Machine, name: &str) -> Result<(), NoMemory> {
-    let mut last = OwnedText::new();
-    last.push_str(alloc, name)?;
-    machine.last_tag = Some(last);
-    Ok(())
-}
-
-/// Whether the tokens of a text that is handed over in two pieces are those that are wanted.
-fn agrees(alloc: Global, case: &Case, cut: usize) -> Result<bool, NoMemory> {
-    let (rest, last, text, wanted) = *case;
-    let mut run = Run::new(alloc, rest, last)?;
-    let (first, second) = text.split_at_checked(cut).unwrap_or((text, ""));
-    let lexed = run.lex_both(alloc, last, first, second);
-    let well = run.teller.text.as_str() == wanted;
-    mem::forget(run);
-    lexed?;
-    Ok(well)
-}
-
-/// Compares a text, whole and cut at each place.
-fn compare_case(rt: &impl Abort, alloc: Global, case: &Case) -> Result<(), NoMemory> {
-    let text = case.2;
-    show(rt, agrees(alloc, case, text.len())?, text, text.len());
-    for (cut, _) in text.char_indices() {
-        show(rt, agrees(alloc, case, cut)?, text, cut);
-    }
-    Ok(())
-}
-
-fn compare_all(rt: &impl Abort, alloc: Global, cases: &[Case]) -> Result<(), NoMemory> {
-    for case in cases {
-        compare_case(rt, alloc, case)?;
-    }
-    Ok(())
-}
-
-#[test]
-fn lexes_as_the_standard_says_whole_and_cut_at_each_place(rt: HostRuntime) -> Result<(), Fail> {
-    Ok(compare_all(&rt, rt.alloc(), CASES)?)
-}

@@ -13,6 +13,7 @@ use hp_elements::{
 };
 use names::NAMES;
 use std::alloc::Global;
+use std::mem;
 use std::process::Abort;
 use std::test::Fail;
 
@@ -36,6 +37,7 @@ enum Part {
 #[derive(Clone, Copy)]
 struct Reading {
     part: Part,
+    modes: &'static [Mode],
     named: &'static [(usize, bool, Known, u8)],
     nameless: &'static [&'static [u8]; 8],
     steps: &'static [Step],
@@ -80,16 +82,16 @@ fn act_of(part: Part, row: u16, at: u32) -> Option<Act> {
     acts.get(at as usize).copied()
 }
 
-/// The row of a token in the mode of that column; behind the modes of the rest stands foreign content.
-fn row_of(part: Part, column: usize, token: &Token<'_>) -> Option<u16> {
+/// The row of a token in a mode; where there is none, in foreign content.
+fn row_of(part: Part, mode: Option<Mode>, token: &Token<'_>) -> Option<u16> {
+    let Some(mode) = mode else {
+        return Some(hp_rules_rest::foreign_row(token));
+    };
     match part {
-        Part::Page => hp_rules_page::row(*PAGE_MODES.get(column)?, token),
-        Part::Body => hp_rules_body::row(*BODY_MODES.get(column)?, token),
-        Part::Table => hp_rules_table::row(*TABLE_MODES.get(column)?, token),
-        Part::Rest => match REST_MODES.get(column) {
-            Some(mode) => hp_rules_rest::row(*mode, token),
-            None => Some(hp_rules_rest::foreign_row(token)),
-        },
+        Part::Page => hp_rules_page::row(mode, token),
+        Part::Body => hp_rules_body::row(mode, token),
+        Part::Table => hp_rules_table::row(mode, token),
+        Part::Rest => hp_rules_rest::row(mode, token),
     }
 }
 
@@ -119,19 +121,23 @@ fn own_act(act: Act, own: Option<Known>) -> Act {
 
 /// The place behind a step of a row, where the row has that step there.
 fn behind(found: Act, at: u32, step: Step, own: Option<Known>) -> Option<u32> {
-    let next = at.checked_add(1)?;
-    match step {
-        Step::Does(act) => (own_act(found, own) == act).then_some(next),
-        Step::Asked(wanted, answer) => match found {
-            Act::If { test, otherwise } if own_test(test, own) == wanted => {
-                Some(if answer { next } else { u32::from(otherwise) })
-            }
-            Act::Unless { test, otherwise } if own_test(test, own) == wanted => {
-                Some(if answer { u32::from(otherwise) } else { next })
-            }
-            _ => None,
-        },
+    let next = at.wrapping_add(1);
+    match (step, found) {
+        (Step::Does(act), _) => if_so(own_act(found, own) == act, next),
+        (Step::Asked(wanted, answer), Act::If { test, otherwise }) => if_so(
+            own_test(test, own) == wanted,
+            if answer { next } else { u32::from(otherwise) },
+        ),
+        (Step::Asked(wanted, answer), Act::Unless { test, otherwise }) => if_so(
+            own_test(test, own) == wanted,
+            if answer { u32::from(otherwise) } else { next },
+        ),
+        (Step::Asked(..), _) => None,
     }
+}
+
+fn if_so(well: bool, next: u32) -> Option<u32> {
+    if well { Some(next) } else { None }
 }
 
 impl Reading {
@@ -156,12 +162,19 @@ impl Reading {
 
     /// Whether the token's row in the mode of that column goes each way of the group, and there is one.
     fn agrees(&self, column: usize, token: &Token<'_>, own: Option<Known>, group: u8) -> bool {
+        match row_of(self.part, self.modes.get(column).copied(), token) {
+            Some(row) => self.goes_all(column, row, own, group),
+            None => false,
+        }
+    }
+
+    /// Whether the row goes each way of the group, and there is one.
+    fn goes_all(&self, column: usize, row: u16, own: Option<Known>, group: u8) -> bool {
         let mut some = false;
         for (mode, number, places) in self.ways {
             if *mode == column && *number == group {
                 some = true;
-                let row = row_of(self.part, column, token);
-                if !row.is_some_and(|row| self.goes(row, own, places)) {
+                if !self.goes(row, own, places) {
                     return false;
                 }
             }
@@ -179,39 +192,62 @@ impl Reading {
         other
     }
 
+    /// Compares a known name's tag, given the groups of another name's.
+    fn compare_tag(
+        &self,
+        rt: &impl Abort,
+        is_start: bool,
+        known: Known,
+        token: &Token<'_>,
+        others: &[u8],
+    ) {
+        for (column, other) in others.iter().enumerate() {
+            let group = self.group(column, is_start, known, *other);
+            assert!(rt;
+                self.agrees(column, token, Some(known), group),
+                "start tag {is_start}, column {column}, group {group}"
+            );
+        }
+    }
+
     /// Compares the start tags, or the end tags, of all known names, given the groups of another name's.
-    fn compare_named(&self, rt: &impl Abort, is_start: bool, others: &[u8]) {
-        for known in &NAMES {
-            let name = Name::of_known(*known);
-            let token = if is_start {
-                start(name)
-            } else {
-                Token::EndTag { name }
-            };
-            for (column, other) in others.iter().enumerate() {
-                let group = self.group(column, is_start, *known, *other);
-                assert!(rt;
-                    self.agrees(column, &token, Some(*known), group),
-                    "start tag {is_start}, column {column}, group {group}"
-                );
-            }
+    fn compare_named(&self, rt: &impl Abort, is_start: bool, names: &[Known], others: &[u8]) {
+        for known in names {
+            let token = tag(is_start, Name::of_known(*known));
+            self.compare_tag(rt, is_start, *known, &token, others);
+            mem::forget(token);
+        }
+    }
+
+    /// Compares a token without a known name, given its groups.
+    fn compare_nameless(&self, rt: &impl Abort, token: &Token<'_>, groups: &[u8]) {
+        for (column, group) in groups.iter().enumerate() {
+            assert!(rt;
+                self.agrees(column, token, None, *group),
+                "nameless, column {column}, group {group}"
+            );
         }
     }
 
     /// Compares everything; the first two groups without a known name are those of another name's tags.
     fn compare(&self, rt: &impl Abort, alloc: Global) -> Result<(), NoMemory> {
-        let tokens = nameless(alloc)?;
-        for (token, groups) in tokens.iter().zip(self.nameless) {
-            for (column, group) in groups.iter().enumerate() {
-                assert!(rt;
-                    self.agrees(column, token, None, *group),
-                    "nameless, column {column}, group {group}"
-                );
-            }
+        for (kind, groups) in self.nameless.iter().enumerate() {
+            let token = nameless(alloc, kind)?;
+            self.compare_nameless(rt, &token, *groups);
+            mem::forget(token);
         }
-        self.compare_named(rt, true, self.nameless[0]);
-        self.compare_named(rt, false, self.nameless[1]);
+        self.compare_named(rt, true, &NAMES, self.nameless[0]);
+        self.compare_named(rt, false, &NAMES, self.nameless[1]);
         Ok(())
+    }
+}
+
+/// A start tag, or an end tag.
+fn tag(is_start: bool, name: Name) -> Token<'static> {
+    if is_start {
+        start(name)
+    } else {
+        Token::EndTag { name }
     }
 }
 
@@ -245,29 +281,24 @@ fn doctype(alloc: Global) -> Result<Token<'static>, NoMemory> {
     Ok(Token::Doctype { doctype })
 }
 
-/// The tokens without a known name, in the order of the reading.
-fn nameless(alloc: Global) -> Result<[Token<'static>; 8], NoMemory> {
-    let other = start(Name::from_text(alloc, "other-name")?);
-    let other_end = Token::EndTag {
-        name: Name::from_text(alloc, "other-name")?,
-    };
-    let doctype = doctype(alloc)?;
-    Ok([
-        other,
-        other_end,
-        characters(CharClass::White),
-        characters(CharClass::Nul),
-        characters(CharClass::Other),
-        Token::Comment { text: Text::new() },
-        doctype,
-        Token::EndOfInput,
-    ])
+/// The token without a known name at that place in the order of the reading.
+fn nameless(alloc: Global, kind: usize) -> Result<Token<'static>, NoMemory> {
+    match kind {
+        0 | 1 => Ok(tag(kind == 0, Name::from_text(alloc, "other-name")?)),
+        2 => Ok(characters(CharClass::White)),
+        3 => Ok(characters(CharClass::Nul)),
+        4 => Ok(characters(CharClass::Other)),
+        5 => Ok(Token::Comment { text: Text::new() }),
+        6 => doctype(alloc),
+        _ => Ok(Token::EndOfInput),
+    }
 }
 
 #[test]
 fn rows_of_page(rt: HostRuntime) -> Result<(), Fail> {
     let reading = Reading {
         part: Part::Page,
+        modes: &PAGE_MODES,
         named: &page::NAMED,
         nameless: &page::NAMELESS,
         steps: &page::STEPS,
@@ -281,6 +312,7 @@ fn rows_of_page(rt: HostRuntime) -> Result<(), Fail> {
 fn rows_of_body(rt: HostRuntime) -> Result<(), Fail> {
     let reading = Reading {
         part: Part::Body,
+        modes: &BODY_MODES,
         named: &body::NAMED,
         nameless: &body::NAMELESS,
         steps: &body::STEPS,
@@ -294,6 +326,7 @@ fn rows_of_body(rt: HostRuntime) -> Result<(), Fail> {
 fn rows_of_table(rt: HostRuntime) -> Result<(), Fail> {
     let reading = Reading {
         part: Part::Table,
+        modes: &TABLE_MODES,
         named: &table::NAMED,
         nameless: &table::NAMELESS,
         steps: &table::STEPS,
@@ -307,6 +340,7 @@ fn rows_of_table(rt: HostRuntime) -> Result<(), Fail> {
 fn rows_of_rest(rt: HostRuntime) -> Result<(), Fail> {
     let reading = Reading {
         part: Part::Rest,
+        modes: &REST_MODES,
         named: &rest::NAMED,
         nameless: &rest::NAMELESS,
         steps: &rest::STEPS,

@@ -1,61 +1,12 @@
 //! What no contract says: that calls which may want memory succeed where there is some.
-ghost use Rattle.hp_control.specs.Truth.{answer_of};
-
 use hp_control::{
-    Answer, Below, Child, Control, Edit, Edits, EntryKind, FactKind, Guess, Nothing, OpenElement,
-    Place, Predictor, Question, Ref, Stack, answer, truth,
+    Answer, Below, Child, Control, Edit, Edits, EntryKind, Nothing, OpenElement, Place, Question,
+    Ref, Stack,
 };
-use hp_elements::{Chain, Kinds, Known, Mode, Name, Namespace, NoMemory, Point, SetName, Tag};
+use hp_elements::{Chain, Known, Mode, Name, Namespace, NoMemory, Point, Tag};
 use std::alloc::Global;
-use std::process::Abort;
+use std::mem;
 use std::test::Fail;
-
-/// Says what a stored state says.
-#[derive(Drop)]
-struct Stored {
-    control: Control,
-}
-
-impl Predictor for Stored {
-    ghost says = { λ stored. answer_of stored.control };
-
-    fn say(&self, alloc: Global, question: &Question) -> Result<Answer, NoMemory> {
-        answer(alloc, &self.control, question)
-    }
-}
-
-/// Asks the guess; the pair that it keeps is true of the stored state.
-fn asks(
-    rt: &impl Abort,
-    alloc: Global,
-    guess: &mut Guess<Stored>,
-    question: Question,
-) -> Result<(), Fail> {
-    let stored = Control::start();
-    let count = guess.kept.len();
-    guess.ask(alloc, question)?;
-    match guess.kept.get(count) {
-        Some(pair) => assert!(rt; truth(&stored, &pair.question, &pair.answer)),
-        None => panic!(rt; "the pair isn't kept"),
-    }
-    Ok(())
-}
-
-#[test]
-fn a_guess_keeps_true_answers_of_a_stored_state(rt: HostRuntime) -> Result<(), Fail> {
-    let mut guess = Guess::new(Stored {
-        control: Control::start(),
-    });
-    let names = Kinds::Set(SetName::ButtonScopeEnds);
-    asks(
-        &rt,
-        rt.alloc(),
-        &mut guess,
-        Question::RunOf { depth: 1, names },
-    )?;
-    let which = FactKind::LastTag;
-    asks(&rt, rt.alloc(), &mut guess, Question::Fact { which })
-}
 
 #[test]
 fn no_state_has_a_tag_listed(rt: HostRuntime) -> Result<(), Fail> {
@@ -72,11 +23,20 @@ fn no_state_has_a_tag_listed(rt: HostRuntime) -> Result<(), Fail> {
     Ok(())
 }
 
+/// Whether the copy of a state is the same. It is kept to the end of the test.
+fn is_copied(alloc: Global, state: &Control) -> Result<bool, NoMemory> {
+    let copy = state.copy(alloc)?;
+    let well = copy.same(state);
+    mem::forget(copy);
+    Ok(well)
+}
+
 #[test]
 fn the_start_is_copied(rt: HostRuntime) -> Result<(), Fail> {
     let start = Control::start();
-    let copy = start.copy(rt.alloc())?;
-    assert!(rt; copy.same(&start));
+    let copied = is_copied(rt.alloc(), &start);
+    mem::forget(start);
+    assert!(rt; copied?);
     Ok(())
 }
 

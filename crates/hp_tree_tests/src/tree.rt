@@ -64,14 +64,6 @@ fn put_element(id: u64, parent: u64) -> Edit<'static> {
     put(Child::Element(Ref::Fixed(id)), parent)
 }
 
-fn put_comment(parent: u64) -> Edit<'static> {
-    put(Child::Comment(Text::new()), parent)
-}
-
-fn foster_comment(table: u64, above: u64) -> Edit<'static> {
-    foster(Child::Comment(Text::new()), table, above)
-}
-
 /// What stands inside an element: elements, runs of texts, comments and doctypes.
 #[derive(Clone, Copy, PartialEq, Eq)]
 struct Counts {
@@ -364,76 +356,6 @@ fn missing_attributes_are_added_once(rt: HostRuntime) -> Result<(), Fail> {
     let all = Counts {
         elements: 1,
         attributes: 2,
-        ..NOTHING
-    };
-    assert!(rt; found == Some(all));
-    Ok(())
-}
-
-fn add_comments(
-    rt: &impl Abort,
-    alloc: Global,
-    tree: &mut Tree<'static>,
-    count: usize,
-) -> Result<(), NoMemory> {
-    for _ in 0..count {
-        if tree.spare() == 0 {
-            make_room(alloc, tree, 4096)?;
-        }
-        make(rt, tree, put_comment(0));
-    }
-    Ok(())
-}
-
-#[test]
-fn a_million_siblings(rt: HostRuntime) -> Result<(), Fail> {
-    let mut tree: Tree<'static> = Tree::start(rt.alloc())?;
-    let made = add_comments(&rt, rt.alloc(), &mut tree, 1_000_000);
-    let found = count_inside(&tree, 0);
-    mem::forget(tree);
-    made?;
-    let all = Counts {
-        comments: 1_000_000,
-        ..NOTHING
-    };
-    assert!(rt; found == Some(all));
-    Ok(())
-}
-
-/// Puts so many comments and texts before a table within another.
-fn add_before_table(
-    rt: &impl Abort,
-    alloc: Global,
-    tree: &mut Tree<'static>,
-    count: usize,
-) -> Result<(), NoMemory> {
-    make_room(alloc, tree, 10)?;
-    for id in 1..=2 {
-        make(rt, tree, element(Known::Table));
-        make(rt, tree, put_element(id, id - 1));
-    }
-    for _ in 0..count {
-        if tree.spare() < 2 {
-            make_room(alloc, tree, 1024)?;
-        }
-        make(rt, tree, foster_comment(2, 0));
-        make(rt, tree, foster_text(Part::One, 2, 0));
-    }
-    Ok(())
-}
-
-#[test]
-fn many_children_before_one_table(rt: HostRuntime) -> Result<(), Fail> {
-    let mut tree: Tree<'static> = Tree::start(rt.alloc())?;
-    let made = add_before_table(&rt, rt.alloc(), &mut tree, 100_000);
-    let found = count_inside(&tree, 1);
-    mem::forget(tree);
-    made?;
-    let all = Counts {
-        elements: 1,
-        texts: 100_000,
-        runs: 100_000,
-        comments: 100_000,
         ..NOTHING
     };
     assert!(rt; found == Some(all));
