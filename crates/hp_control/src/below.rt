@@ -33,7 +33,8 @@ impl Below for Nothing {
     }
 }
 
-/// What a state with empty lists answers.
+/// What a state with empty lists answers. Where the question is known, so is the answer.
+#[inline(always)]
 pub(crate) fn answer_nothing(alloc: Global, question: &Question) -> Result<Answer, NoMemory>
     ensures { IfOk result (λ answer. answer ≡ answer_of nothing question.now) }
 {

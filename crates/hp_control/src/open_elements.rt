@@ -174,6 +174,7 @@ impl OpenElements {
     }
 
     /// Takes the top `count` elements off.
+    #[inline(always)]
     pub fn drop_top(&mut self, count: usize)
         requires { count ≤ length self.old }
         ensures { self.new ≡ drop count self.old }
