@@ -295,7 +295,7 @@ fn are_named(attributes: &Chain<Attribute>, name: &Name) -> bool
 }
 
 /// An attribute goes behind the others, unless one of them has its name.
-#[inline]
+#[inline(always)]
 pub fn add(
     alloc: Global,
     attributes: &mut Chain<Attribute>,

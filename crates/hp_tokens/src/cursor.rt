@@ -77,6 +77,17 @@ impl<'p> Cursor<'p> {
         Cursor { text, at: 0 }
     }
 
+    /// A cursor at the same place.
+    #[inline(always)]
+    pub fn copy(&self) -> Cursor<'p>
+        ensures { result ≡ self.now }
+    {
+        Cursor {
+            text: self.text,
+            at: self.at,
+        }
+    }
+
     /// The place of the first unread code point, in bytes from `ORIGIN`, which is the text's start.
     #[inline(always)]
     pub fn place(&self) -> u64

@@ -74,6 +74,21 @@ impl OwnedText {
         ensures ok { OnOk result (self.new ≡ self.old ++ chars more.now) }
         ensures err { OnErr result (self.new ≡ self.old) }
     {
+        if let Store::Few(bytes) = &mut self.store
+            && more.len() <= ROOM - bytes.len()
+        {
+            bytes.extend(more.as_bytes());
+            return Ok(());
+        }
+        self.push_longer(alloc, more)
+    }
+
+    /// The same, also where the text is long or becomes so.
+    #[inline(never)]
+    fn push_longer(&mut self, alloc: Global, more: &str) -> Result<(), NoMemory>
+        ensures ok { OnOk result (self.new ≡ self.old ++ chars more.now) }
+        ensures err { OnErr result (self.new ≡ self.old) }
+    {
         match &mut self.store {
             Store::Long(text) => text.push_str(more),
             Store::Few(bytes) => {
