@@ -27,8 +27,7 @@ use Rattle.hp_lex_tags.specs.Tags.{tag_rules}
 use Rattle.hp_tokens.specs.Reading.{SkipsRun}
 use Rattle.hp_lex_tags.specs.declared.straight.Way.{Way}
 use Rattle.hp_lex_tags.specs.declared.straight.Way.TheVariants as way
-use Rattle.hp_lex_tags.specs.declared.straight.Reading.{Reading}
-use Rattle.hp_lex_tags.specs.Straight.{tagging, tag_of, is_between, ends_part, behind_blanks, uses_token_alone, Onto, Closes, ClosesStart, Arrives}
+use Rattle.hp_lex_tags.specs.Straight.{Reading, tagging, tag_of, is_between, ends_part, behind_blanks, Onto, Closes, ClosesStart, Arrives}
 use Rattle.hp_lex_tags.proofs.NamedSteps.{tags_rows}
 
 -- a row that reads again, and one that emits a token and rests
@@ -106,7 +105,7 @@ pub arrives_join : {names : List Reference} {s n : State} {b d : Building} {old 
     → Onto names s b old n d mid → Arrives names n d mid reading new w → Arrives names s b old reading new w
 arrives_join {names} new reading (way.At k) a h = (onto_join a h.0, h.1, omega (arith, a.shorter, h.2))
 arrives_join {names} new reading (way.Whole closing) a h = closes_join a h
-arrives_join {names} new reading (way.Left k) a h = (onto_join a h.0, h.1)
+arrives_join {names} new reading way.Left a h = tt
 
 -- the tag is emitted on the code point that is consumed
 pub emits_here : {names : List Reference} (s : State) (b : Building) (c : ℕ) (old new : Unread) (tag : Token) (name : Option (List ℕ) → Option (List ℕ))
@@ -247,32 +246,12 @@ blanks_unquoted {names} reading (c ∷ cs) old new some r =
     consumes AttributeValueUnquoted BeforeAttributeName t t c old mid (λ last. rw passed.0 refl) refl refl (blank_no_cr c passed.0) (record { text = r.text; place = refl }) in
     (onto_join a (over_blanks BeforeAttributeName t cs mid new refl rest_run), refl, omega (arith, ap length r.text, length-append cs new.text))
 
--- such a state uses nothing but what is built
-pub ends_alone : (s : State) → ends_part s ≡ true → uses_token_alone s ≡ true
-ends_alone TagName h = refl
-ends_alone BeforeAttributeName h = refl
-ends_alone AttributeName h = refl
-ends_alone AfterAttributeName h = refl
-ends_alone AfterAttributeValueQuoted h = refl
-ends_alone _ h = cc
-
-moved_to : {names : List Reference} {s n : State} {b d : Building} (old new last : Unread) → last ≡ new → Onto names s b old n d new → Onto names s b old n d last
-moved_to {names} {s} {n} {b} {d} old new last e o = let P : Unread → Type 0 = λ u. Onto names s b old n d u in subst P (sym e) o
-
 -- what may end the tag, in the order in which it is looked for
 module _ (s : State) (reading : Reading) (h : ends_part s ≡ true) where
-  pub close_left : {names : List Reference} (old mid new : Unread) → mid ≡ old → new ≡ mid → Arrives names s (StartTag (tag_of reading)) old reading new (way.Left s)
-  close_left {names} old mid new e f = (moved_to old old new (f ∙ e) (onto_same s (StartTag (tag_of reading)) old), ends_alone s h)
-
   pub close_self : {names : List Reference} (old mid slash new : Unread) → mid ≡ old → Reads mid 47 slash → Reads slash 62 new → Arrives names s (StartTag (tag_of reading)) old reading new (way.Whole true)
   close_self {names} old mid slash new e f taken =
       let P : Unread → Type 0 = λ u. Reads u 47 slash in
       closes_join (slash_on s (tag_of reading) old slash h (subst P e f)) (closes_self reading slash new taken)
-
-  pub close_slash : {names : List Reference} (old mid slash new : Unread) → mid ≡ old → Reads mid 47 slash → new ≡ slash → Arrives names s (StartTag (tag_of reading)) old reading new (way.Left SelfClosingStartTag)
-  close_slash {names} old mid slash new e f g =
-      let P : Unread → Type 0 = λ u. Reads u 47 slash in
-      (moved_to old slash new g (slash_on s (tag_of reading) old slash h (subst P e f)), refl)
 
 -- blanks were taken, or there are none
 pub none_skipped : (old mid : Unread) → SkipsRun is_blank old mid false → mid ≡ old
@@ -298,11 +277,6 @@ behind_none names s reading old mid new w k h = let P : Unread → Type 0 = λ u
 pub unquoted_some : {names : List Reference} (reading : Reading) (old new : Unread) → SkipsRun is_blank old new true
     → Arrives names AttributeValueUnquoted (StartTag (tag_of reading)) old reading new (way.At BeforeAttributeName)
 unquoted_some {names} reading old new k = blanks_unquoted reading k.run old new (some_skipped k.run k.says) k.reads
-
-pub unquoted_left : {names : List Reference} (reading : Reading) (old mid new : Unread) → SkipsRun is_blank old mid false → new ≡ mid
-    → Arrives names AttributeValueUnquoted (StartTag (tag_of reading)) old reading new (way.Left AttributeValueUnquoted)
-unquoted_left {names} reading old mid new k e =
-    (moved_to old old new (e ∙ none_skipped old mid k) (onto_same AttributeValueUnquoted (StartTag (tag_of reading)) old), refl)
 
 pub unquoted_closed : {names : List Reference} (reading : Reading) (old mid new : Unread) → SkipsRun is_blank old mid false → Reads mid 62 new
     → Arrives names AttributeValueUnquoted (StartTag (tag_of reading)) old reading new (way.Whole false)

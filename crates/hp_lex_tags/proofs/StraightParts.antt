@@ -6,6 +6,7 @@ use Rattle.std.specs.Char.{is_ascii_alphabetic}
 use Rattle.std.proofs.lemmas.Bool.{and_parts, not-true, cases_lt}
 use Rattle.std.proofs.lemmas.List.{map-id}
 use Rattle.hp_elements.specs.Names.{lowered as lowered_text}
+use Rattle.hp_elements.specs.declared.tag.Attribute.{Attribute}
 use Rattle.hp_tokens.specs.declared.state.State.{State}
 use Rattle.hp_tokens.specs.declared.state.State.TheVariants.{Data, TagOpen, EndTagOpen, TagName, BeforeAttributeName, AttributeName, AfterAttributeName, BeforeAttributeValue, AttributeValueDoubleQuoted, AttributeValueSingleQuoted, AttributeValueUnquoted, AfterAttributeValueQuoted}
 use Rattle.hp_tokens.specs.declared.state.Return.TheVariants.{DoubleQuoted, SingleQuoted}
@@ -28,8 +29,7 @@ use Rattle.hp_tokens.specs.PlainLaws.{unlike, apart, none-high}
 use Rattle.hp_lex_tags.specs.Rows.{has_row, row, row_of, tag_open, end_tag_open, tag_name, attribute_name, before_attribute_value}
 use Rattle.hp_lex_tags.specs.declared.straight.Way.{Way}
 use Rattle.hp_lex_tags.specs.declared.straight.Way.TheVariants as way
-use Rattle.hp_lex_tags.specs.declared.straight.Reading.{Reading}
-use Rattle.hp_lex_tags.specs.Straight.{tagging, within, standing_at, begun, tag_of, naming, is_between, uses_token_alone, Onto, Arrives, IsQuoted, BeginsBy, ValueGrows}
+use Rattle.hp_lex_tags.specs.Straight.{Reading, tagging, within, standing_at, tag_of, naming, bare, ending, gathered, is_between, uses_token_alone, Onto, Arrives, ValueKept, TagGrows, IsQuoted, BeginsBy, ValueGrows}
 use Rattle.hp_lex_tags.specs.Usual.{ReferenceTaken}
 use Rattle.hp_lex_tags.proofs.ValueReferences.{reference_onto}
 use Rattle.hp_lex_tags.proofs.PlainRows.{double_quoted_plain, single_quoted_plain, unquoted_plain}
@@ -119,7 +119,7 @@ IsKept reading name value new = new ≡ record reading { last = Some (record { n
 
 -- the attribute read last was folded
 abbrev pub IsFolded : Reading → Reading → Type 0
-IsFolded reading new = new ≡ record reading { attributes = added reading.attributes (begun reading.last); last = None }
+IsFolded reading new = new ≡ bare reading.name (gathered reading)
 
 kept_tag : (reading new : Reading) (name value : List ℕ) → IsKept reading name value new → naming reading name value ≡ StartTag (tag_of new)
 kept_tag reading new name value e = ap (λ (r : Reading). StartTag (tag_of r)) (sym e)
@@ -142,12 +142,6 @@ pub quoted_end : (names : List Reference) (passes : ℕ → Bool) (mark : ℕ) (
 quoted_end names passes mark s q reading old behind last w taken h =
     let b : Building = StartTag (tag_of reading) in
     arrives_join last reading w (consumes s AfterAttributeValueQuoted b b mark old behind (λ l. q.ends (tagging l s b) refl) q.has refl q.apart taken) h
-
-pub quoted_open : {names : List Reference} (passes : ℕ → Bool) (mark : ℕ) (s : State) → IsQuoted passes mark s → (reading : Reading) (old last : Unread) → last ≡ old
-    → Arrives names s (StartTag (tag_of reading)) old reading last (way.Left s)
-quoted_open {names} passes mark s q reading old last same =
-    let P : Unread → Type 0 = λ u. Onto names s (StartTag (tag_of reading)) old s (StartTag (tag_of reading)) u in
-    (subst P (sym same) (onto_same s (StartTag (tag_of reading)) old), q.alone)
 
 -- behind a run, its value is there and references may follow
 pub quoted_on : (names : List Reference) (passes : ℕ → Bool) (mark : ℕ) (s : State) → IsQuoted passes mark s → (reading new : Reading) (name run value : List ℕ) (old mid looked last : Unread) (w : Way)
@@ -226,13 +220,6 @@ unquoted_opened names reading new name old last w b double single h =
     refl refl (unlike (none_of unquoted_stops) 13 b.c refl b.passed) b.begins)
     h
 
-pub value_left : {names : List Reference} (reading new : Reading) (name value : List ℕ) (old last : Unread) → value ≡ [] → IsKept reading name value new → last ≡ old
-    → Arrives names BeforeAttributeValue (naming reading name []) old new last (way.Left BeforeAttributeValue)
-value_left {names} reading new name value old last empty e same =
-    let P : Building → Type 0 = λ b. Onto names BeforeAttributeValue (naming reading name []) old BeforeAttributeValue b old in
-    let Q : Unread → Type 0 = λ u. Onto names BeforeAttributeValue (naming reading name []) old BeforeAttributeValue (StartTag (tag_of new)) u in
-    (subst Q (sym same) (subst P (ap (λ (v : List ℕ). naming reading name v) (sym empty) ∙ kept_tag reading new name value e) (onto_same BeforeAttributeValue (naming reading name []) old)), refl)
-
 -- where a name begins, and its value
 begin_row : (s : State) (m : Machine) (c : ℕ) → is_between s ≡ true → none_of attribute_name_stops c ≡ true → row_of s m (Some c) ≡ again AttributeName (new_attribute m)
 begin_row BeforeAttributeName m c h k = let a = apart attribute_name_stops c k in rw (a.1.0, a.1.1.0, a.1.1.1.0, a.1.1.1.1.1.0, a.1.1.1.1.1.1.0, a.1.1.1.1.1.1.1.0, a.1.1.1.1.1.1.1.1.0) refl
@@ -243,7 +230,7 @@ name_read : {names : List Reference} (s : State) (reading folded : Reading) (run
     → IsFolded reading folded → ReadsRun (none_of attribute_name_stops) old run mid → name ≡ lowered_text run
     → Onto names s (StartTag (tag_of reading)) old AttributeName (naming folded name []) mid
 name_read {names} s reading folded run name old mid h b e r is =
-    let none : Reading = record reading { attributes = added reading.attributes (begun reading.last); last = None } in
+    let none : Reading = bare reading.name (gathered reading) in
     let begins : Onto names s (StartTag (tag_of reading)) old AttributeName (naming none [] []) old =
     rereads s AttributeName (StartTag (tag_of reading)) (naming none [] []) b.c b.rest old (λ l. begin_row s (tagging l s (StartTag (tag_of reading))) b.c h b.passed)
     (between_row s h) refl (unlike (none_of attribute_name_stops) 13 b.c refl b.passed) b.begins in
@@ -348,6 +335,42 @@ unquoted_later names reading new name old looked again last w e f double single 
     let R : Unread → Type 0 = λ u. first u.text ≡ Some 39 → ⊥ in
     unquoted_opened names reading new name old last w (subst P (f ∙ e) b) double (subst R e single) (subst Q (f ∙ e) h)
 
-pub value_later : {names : List Reference} (reading new : Reading) (name value : List ℕ) (old looked again : Unread) → looked ≡ old → again ≡ looked → value ≡ [] → IsKept reading name value new
-    → Arrives names BeforeAttributeValue (naming reading name []) old new again (way.Left BeforeAttributeValue)
-value_later {names} reading new name value old looked again e f empty kept = value_left reading new name value old again empty kept (f ∙ e)
+-- an attribute is kept with a value that is whole, and one whose value is read on in another state
+pub value_whole : (names : List Reference) (s : State) (name value whole : List ℕ) (attributes longer : List Attribute) (old new : Unread) (w : Way)
+    → longer ≡ added attributes (Some (record { name = name; value = whole }))
+    → ((reading to : Reading) → IsKept reading name whole to → Arrives names s (naming reading name value) old to new w)
+    → ValueKept names s name value attributes old longer new w
+value_whole names s name value whole attributes longer old new w kept f = record { whole = whole; kept = kept; arrives = λ tag. f (bare tag attributes) (ending tag attributes name whole) refl }
+
+pub value_on : (names : List Reference) (s n : State) (name value more : List ℕ) (attributes longer : List Attribute) (old mid new : Unread) (w : Way)
+    → ((reading to : Reading) → Arrives names n (naming reading name more) mid to new w → Arrives names s (naming reading name value) old to new w)
+    → ValueKept names n name more attributes mid longer new w → ValueKept names s name value attributes old longer new w
+value_on names s n name value more attributes longer old mid new w f k = record { whole = k.whole; kept = k.kept; arrives = λ tag. f (bare tag attributes) (ending tag attributes name k.whole) (k.arrives tag) }
+
+-- an attribute was read, with a value and without one
+pub grown_with : (names : List Reference) (s : State) (attributes longer : List Attribute) (run name : List ℕ) (old mid value last : Unread) (w : Way) → is_between s ≡ true
+    → BeginsBy (none_of attribute_name_stops) old.text → ReadsRun (none_of attribute_name_stops) old run mid → name ≡ lowered_text run
+    → Reads mid 61 value → ValueKept names BeforeAttributeValue name [] attributes value longer last w → TagGrows names s attributes old longer last w
+grown_with names s attributes longer run name old mid value last w h b r is taken k = λ front e. record {
+  to = ending front.name attributes name k.whole;
+  named = refl;
+  gathers = k.kept;
+  arrives = with_value names s front (bare front.name attributes) (ending front.name attributes name k.whole) run name old mid value last w h b
+      (ap (λ (xs : List Attribute). bare front.name xs) e) r is taken (k.arrives front.name);
+}
+
+pub grown_without : (names : List Reference) (s : State) (attributes longer : List Attribute) (run name value : List ℕ) (old mid same last : Unread) (w : Way) → is_between s ≡ true
+    → BeginsBy (none_of attribute_name_stops) old.text → ReadsRun (none_of attribute_name_stops) old run mid → name ≡ lowered_text run
+    → value ≡ [] → longer ≡ added attributes (Some (record { name = name; value = value })) → same ≡ mid
+    → ((reading : Reading) → Arrives names AttributeName (StartTag (tag_of reading)) same reading last w) → TagGrows names s attributes old longer last w
+grown_without names s attributes longer run name value old mid same last w h b r is empty kept stayed k = λ front e. record {
+  to = ending front.name attributes name value;
+  named = refl;
+  gathers = kept;
+  arrives = without_value names s front (bare front.name attributes) (ending front.name attributes name value) run name value old mid same last w h b
+      (ap (λ (xs : List Attribute). bare front.name xs) e) r is empty refl stayed (k (ending front.name attributes name value));
+}
+
+-- what was told of a way that is known
+pub grows_as : (names : List Reference) (s : State) (attributes longer : List Attribute) (old new : Unread) (w v : Way) → w ≡ v → TagGrows names s attributes old longer new w → TagGrows names s attributes old longer new v
+grows_as names s attributes longer old new w v e h = let P : Way → Type 0 = λ x. TagGrows names s attributes old longer new x in subst P e h

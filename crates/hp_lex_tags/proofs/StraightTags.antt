@@ -25,10 +25,9 @@ use Rattle.hp_tokens.proofs.Stepping.{stand_same}
 use Rattle.hp_tokens.proofs.OneByOne.{Appends-none}
 use Rattle.hp_lex_tags.specs.Tags.{tag_rules, TagTurned}
 use Rattle.hp_tokens.specs.Reading.{opens_start_tag, opens_end_tag}
-use Rattle.hp_lex_tags.specs.declared.straight.Reading.{Reading}
-use Rattle.hp_lex_tags.specs.Straight.{tagging, within, standing_at, tag_of, is_between, uses_token_alone, Onto, Closes, ClosesStart, NameTaken, TagRead, is_tag}
+use Rattle.hp_lex_tags.specs.Straight.{Reading, tagging, within, standing_at, tag_of, Closes, ClosesStart, NameTaken, TagRead, is_tag}
 use Rattle.hp_lex_tags.proofs.StraightMoves.{emits_here}
-use Rattle.hp_lex_tags.proofs.StraightParts.{named_tag, over_tag_name, over_end_name, starts, ends, alone-rest}
+use Rattle.hp_lex_tags.proofs.StraightParts.{named_tag, over_tag_name, over_end_name, starts, ends}
 
 -- what comes next, if it is ASCII, may be skipped
 pub ascii_front : (x : ℕ) (text : List ℕ) → first text ≡ Some x → nat_lt x 128 ≡ true → IsAsciiFront 1 text
@@ -91,12 +90,6 @@ module _ (names : List Reference) (m : Machine) (is : m.state ≡ Data) (clear :
           refl,
         ))
 
-    pub start_left : (n : Machine) (new : Unread) (reading : Reading) (s : State) → Onto names TagName (StartTag (tag_of front)) behind s (StartTag (tag_of reading)) new
-        → uses_token_alone s ≡ true → n ≡ tagging m.last_tag s (StartTag (tag_of reading)) → TagRead names m old n new None
-    start_left n new reading s o alone at =
-        let Q : Machine → Type 0 = λ x. TagRead names m old x new None in
-        subst Q (sym at) (Leads-join to_name (o.leads m.last_tag old.place), alone-rest s alone)
-
   module _ (opens : opens_end_tag old.text ≡ true) (slash behind : Unread) (slashed : Reads mid 47 slash) (name : List ℕ) (named : NameTaken slash name behind) where
     to_end_name : Leads (move (tag_rules names)) (standing_at m old old.place) [] (within m.last_tag old.place TagName (EndTag name) behind)
     to_end_name =
@@ -119,12 +112,6 @@ module _ (names : List Reference) (m : Machine) (is : m.state ≡ Data) (clear :
           refl,
         )
 
-    pub end_left : (n : Machine) (new : Unread) → new ≡ behind → n ≡ tagging m.last_tag TagName (EndTag name) → TagRead names m old n new None
-    end_left n new stayed at =
-        let P : Unread → Type 0 = λ u. TagRead names m old (tagging m.last_tag TagName (EndTag name)) u None in
-        let Q : Machine → Type 0 = λ x. TagRead names m old x new None in
-        subst Q (sym at) (subst P (sym stayed) (to_end_name, refl))
-
 -- where nothing is held back
 lexing_bare : (s : LexState) (input : Unread) (r : ℕ) → s.ahead ≡ [] → lexing s input r ≡ standing s.machine input.place r input.text
 lexing_bare s input r ahead =
@@ -133,10 +120,6 @@ lexing_bare s input r ahead =
 
 lexing_rest : (s : LexState) (input : Unread) (r : ℕ) → s.ahead ≡ [] → is_resting s.machine.state ≡ true → lexing s input r ≡ standing_at s.machine input input.place
 lexing_rest s input r ahead h =
-    lexing_bare s input r ahead ∙ ap (λ (b : Bool). record { machine = s.machine; place = input.place; rested = cond b input.place r; unread = input.text }) h
-
-lexing_on : (s : LexState) (input : Unread) (r : ℕ) → s.ahead ≡ [] → is_resting s.machine.state ≡ false → lexing s input r ≡ standing_at s.machine input r
-lexing_on s input r ahead h =
     lexing_bare s input r ahead ∙ ap (λ (b : Bool). record { machine = s.machine; place = input.place; rested = cond b input.place r; unread = input.text }) h
 
 rests_at : (s : State) → s ≡ Data → is_resting s ≡ true
@@ -179,11 +162,13 @@ module _ (names : List Reference) (s t : LexState) (n : Machine) (old new : Unre
   turned_none : TagRead names s.machine old n new None → TagTurned names (lexing s old r) None (lexing (record s { machine = n }) new start) start
   turned_none h =
       let from : lexing s old r ≡ standing_at s.machine old old.place = lexing_rest s old r ahead (rests_at s.machine.state is) in
-      let there : lexing (record s { machine = n }) new start ≡ standing_at n new start = lexing_on (record s { machine = n }) new start ahead h.1 in
+      let there : lexing (record s { machine = n }) new start ≡ standing_at n new new.place =
+      lexing_rest (record s { machine = n }) new start ahead (rests_at n.state (ap (λ (m : Machine). m.state) h.0 ∙ is)) in
+      let same : standing_at n new new.place ≡ standing_at s.machine old old.place =
+      ap (λ (m : Machine). standing_at m new new.place) h.0 ∙ ap (λ (u : Unread). standing_at s.machine u u.place) h.1 in
       let P : Lexing → Type 0 = λ l. Advances (tag_rules names) l [] (lexing (record s { machine = n }) new start) [] start false in
       let Q : Lexing → Type 0 = λ l. Advances (tag_rules names) (standing_at s.machine old old.place) [] l [] start false in
-      let R : ℕ → Type 0 = λ p. Leads (move (tag_rules names)) (standing_at s.machine old old.place) [] (standing_at n new p) in
-      subst P (sym from) (subst Q (sym there) (record { es = []; leads = subst R (sym at) h.0; appends = Appends-none []; began = tt; says = refl }))
+      subst P (sym from) (subst Q (sym (there ∙ same)) (record { es = []; leads = here; appends = Appends-none []; began = tt; says = refl }))
 
   pub tag_turned : (tag : Option Token) → TagRead names s.machine old n new tag → TagTurned names (lexing s old r) tag (lexing t new start) start
   tag_turned tag h = let P : LexState → Type 0 = λ x. TagTurned names (lexing s old r) tag (lexing x new start) start in subst P (sym to) (by_cases tag h)
@@ -196,25 +181,9 @@ module _ (names : List Reference) (s t : LexState) (n : Machine) (old new : Unre
 pub tag_unread : (names : List Reference) (s : LexState) (input : Unread) (r : ℕ) → TagTurned names (lexing s input r) None (lexing s input r) r
 tag_unread names s input r = record { es = []; leads = here; appends = Appends-none []; began = tt; says = refl }
 
--- the machine that rests behind a tag, and the one that is left to the rows
+-- the machine that rests behind a tag
 pub rests_there : (m n : Machine) (last : Option (List ℕ)) → m.after_cr ≡ false → n ≡ enter Data (record m { last_tag = last }) → n ≡ tagging last Data Nothing
 rests_there m n last clear e = e ∙ ap (λ (b : Bool). record (tagging last Data Nothing) { after_cr = b }) clear
-
-pub left_there : (m n : Machine) (s : State) (b : Building) → m.after_cr ≡ false → uses_token_alone s ≡ true → n ≡ record (enter s m) { building = b } → n ≡ tagging m.last_tag s b
-left_there m n s b clear alone e =
-    let rest = and_parts (uses_token s && not (uses_buffer s) && not (uses_return s) && not (uses_value s)) (not (is_resting s)) alone in
-    let value = and_parts (uses_token s && not (uses_buffer s) && not (uses_return s)) (not (uses_value s)) rest.0 in
-    let back = and_parts (uses_token s && not (uses_buffer s)) (not (uses_return s)) value.0 in
-    let buffer = and_parts (uses_token s) (not (uses_buffer s)) back.0 in
-    e ∙ (ap (λ (x : Bool). record (tagging m.last_tag s b) { buffer = cond x m.buffer []; return_to = cond (uses_return s) m.return_to returns.Data; value = cond (uses_value s) m.value 0; after_cr = m.after_cr }) (not-true (uses_buffer s) buffer.1)
-    ∙ (ap (λ (x : Bool). record (tagging m.last_tag s b) { return_to = cond x m.return_to returns.Data; value = cond (uses_value s) m.value 0; after_cr = m.after_cr }) (not-true (uses_return s) back.1)
-    ∙ (ap (λ (x : Bool). record (tagging m.last_tag s b) { value = cond x m.value 0; after_cr = m.after_cr }) (not-true (uses_value s) value.1)
-    ∙ ap (λ (x : Bool). record (tagging m.last_tag s b) { after_cr = x }) clear)))
-
-pub between_alone : (s : State) → is_between s ≡ true → uses_token_alone s ≡ true
-between_alone BeforeAttributeName h = refl
-between_alone AfterAttributeName h = refl
-between_alone _ h = cc
 
 pub tag_held : (s : LexState) (n : Machine) (input : Unread) → s.ahead ≡ [] → held (record s { machine = n }) ≤ input.place
 tag_held s n input ahead = let P : List ℕ → Type 0 = λ xs. sum_by len_utf8 xs ≤ input.place in let none : sum_by len_utf8 [] ≤ input.place = omega arith in subst P (sym ahead) none

@@ -2,6 +2,7 @@
 use Rattle.std.specs.Prelude.{◌≡◌, ℕ, ◌<◌, ◌≤◌, ◌&&◌, not, Bool, true, false, List, [], ◌∷◌, length, Option, Some, None, IsTrue, ◌==◌}
 use Rattle.hp_names.specs.References.{Reference}
 use Rattle.hp_elements.specs.Names.{lowered}
+use Rattle.hp_elements.specs.declared.tag.Attribute.{Attribute}
 use Rattle.hp_elements.specs.declared.token.Token.{Token}
 use Rattle.hp_elements.specs.declared.token.Token.TheVariants as token
 use Rattle.hp_tokens.specs.declared.state.State.{State}
@@ -19,14 +20,12 @@ use Rattle.hp_tokens.specs.Rows.{go}
 use Rattle.hp_tokens.specs.Plain.{none_of, tag_name_stops, PutsPlain}
 use Rattle.hp_lex_tags.specs.Rows.{has_row, row}
 use Rattle.hp_tokens.specs.States.{uses_token, uses_buffer, uses_return, uses_value, is_resting, return_state, is_in_value}
-use Rattle.hp_tokens.specs.Parts.{finished_tag}
+use Rattle.hp_tokens.specs.Parts.{added, finished_tag}
 use Rattle.hp_tokens.specs.Moves.{Lexing, makes, move}
 use Rattle.hp_tokens.specs.Runs.{Leads}
 use Rattle.hp_lex_tags.specs.Tags.{tag_rules, EmitsLast}
 use Rattle.hp_lex_tags.specs.declared.straight.Way.{Way}
 use Rattle.hp_lex_tags.specs.declared.straight.Way.TheVariants as way
-use Rattle.hp_lex_tags.specs.declared.straight.Reading.{Reading}
-use Rattle.hp_lex_tags.specs.declared.straight.ReadAttribute.{ReadAttribute}
 
 -- the machine in a state of tags, which uses nothing but what is built
 abbrev pub tagging : Option (List ℕ) → State → Building → Machine
@@ -48,14 +47,26 @@ within last start s b input = record { machine = tagging last s b; place = input
 abbrev pub behind_tag : Option (List ℕ) → Unread → Lexing
 behind_tag last input = record { machine = tagging last Data Nothing; place = input.place; rested = input.place; unread = input.text }
 
--- the attribute read last is the one under construction
-abbrev pub begun : Option ReadAttribute → Option NewAttribute
-begun None = None
-begun (Some a) = Some (record { name = a.name; value = a.value })
+-- a start tag of which so much was read: its name, its finished attributes, and the one read last
+pub record Reading : Type 0 where
+  pub name : List ℕ
+  pub attributes : List Attribute
+  pub last : Option NewAttribute
 
 -- the start tag as the rows have it under construction
 abbrev pub tag_of : Reading → NewTag
-tag_of reading = record { name = reading.name; attributes = reading.attributes; attribute = begun reading.last; self_closing = false }
+tag_of reading = record { name = reading.name; attributes = reading.attributes; attribute = reading.last; self_closing = false }
+
+-- its attributes, the last one among them
+abbrev pub gathered : Reading → List Attribute
+gathered reading = added reading.attributes reading.last
+
+-- a tag whose attributes are finished, and one with one more that was read last
+abbrev pub bare : List ℕ → List Attribute → Reading
+bare tag attributes = record { name = tag; attributes = attributes; last = None }
+
+abbrev pub ending : List ℕ → List Attribute → List ℕ → List ℕ → Reading
+ending tag attributes name value = record { name = tag; attributes = attributes; last = Some (record { name = name; value = value }) }
 
 -- the same with this attribute under construction
 abbrev pub naming : Reading → List ℕ → List ℕ → Building
@@ -107,12 +118,36 @@ abbrev pub ClosesStart : List Reference → State → Building → Unread → Bo
 ClosesStart names s b old closing reading new =
     Closes names s b old (token.Start closing (finished_tag (tag_of reading))) (λ last. Some reading.name) new
 
--- how far a start tag was read
+-- how far a start tag was read; where that is not to its end, nothing is promised
 abbrev pub Arrives : List Reference → State → Building → Unread → Reading → Unread → Way → Type 0
 Arrives names s b old reading new (way.At n) =
     Onto names s b old n (StartTag (tag_of reading)) new × (is_between n ≡ true) × (length new.text < length old.text)
 Arrives names s b old reading new (way.Whole closing) = ClosesStart names s b old closing reading new
-Arrives names s b old reading new (way.Left n) = Onto names s b old n (StartTag (tag_of reading)) new × (uses_token_alone n ≡ true)
+Arrives names s b old reading new way.Left = Unit {0}
+
+-- an attribute of this name was kept, whose value was read on from here
+pub record ValueKept (names : List Reference) (s : State) (name value : List ℕ) (attributes : List Attribute) (old : Unread) (longer : List Attribute) (new : Unread) (w : Way) : Type 0 where
+  pub whole : List ℕ
+  pub kept : longer ≡ added attributes (Some (record { name = name; value = whole }))
+  pub arrives : (tag : List ℕ) → Arrives names s (naming (bare tag attributes) name value) old (ending tag attributes name whole) new w
+
+-- a start tag that stood so was read on, and these are its attributes
+pub record Further (names : List Reference) (s : State) (front : Reading) (old : Unread) (longer : List Attribute) (new : Unread) (w : Way) : Type 0 where
+  pub to : Reading
+  pub named : to.name ≡ front.name
+  pub gathers : longer ≡ gathered to
+  pub arrives : Arrives names s (StartTag (tag_of front)) old to new w
+
+-- the same of each start tag that had these attributes before
+abbrev pub TagGrows : List Reference → State → List Attribute → Unread → List Attribute → Unread → Way → Type 0
+TagGrows names s attributes old longer new w = (front : Reading) → attributes ≡ gathered front → Further names s front old longer new w
+
+-- the same where the rows stand between two attributes
+pub record Stands (names : List Reference) (s : State) (front : Reading) (old : Unread) (n : State) (longer : List Attribute) (new : Unread) : Type 0 where
+  pub to : Reading
+  pub named : to.name ≡ front.name
+  pub gathers : longer ≡ gathered to
+  pub onto : Onto names s (StartTag (tag_of front)) old n (StartTag (tag_of to)) new
 
 -- the text begins with a code point that passes
 pub record BeginsBy (passes : ℕ → Bool) (text : List ℕ) : Type 0 where
@@ -152,9 +187,9 @@ is_tag (token.Start closing tag) = true
 is_tag (token.EndTag name) = true
 is_tag _ = false
 
--- a tag was read, from one rest to the next; or its front was, and emitted nothing
+-- a tag was read, from one rest to the next; or nothing was
 abbrev pub TagRead : List Reference → Machine → Unread → Machine → Unread → Option Token → Type 0
 TagRead names m old n new (Some tag) =
     EmitsLast (tag_rules names) (standing_at m old old.place) tag (standing_at n new new.place) old.place × (n.state ≡ Data) × (is_tag tag ≡ true)
 TagRead names m old n new None =
-    Leads (move (tag_rules names)) (standing_at m old old.place) [] (standing_at n new old.place) × (is_resting n.state ≡ false)
+    (n ≡ m) × (new ≡ old)

@@ -7,11 +7,11 @@ ghost use Rattle.hp_names.specs.References.{Reference};
 ghost use Rattle.hp_tokens.specs.declared.state.State.TheVariants as states;
 ghost use Rattle.hp_tokens.specs.declared.building.Building.TheVariants as building;
 ghost use Rattle.hp_tokens.specs.Reading.{first, opens_start_tag, opens_end_tag};
-ghost use Rattle.hp_tokens.specs.Parts.{added, joined, finished_tag};
+ghost use Rattle.hp_tokens.specs.Parts.{added};
 ghost use Rattle.hp_tokens.specs.Advancing.{held, lexing};
 ghost use Rattle.hp_lex_tags.specs.Tags.{TagTurned};
 ghost use Rattle.hp_lex_tags.specs.Usual.{ReferenceTaken};
-ghost use Rattle.hp_lex_tags.specs.Straight.{tagging, begun, tag_of, naming, ends_part, is_between, behind_blanks as spec_behind_blanks, uses_token_alone, IsQuoted, BeginsBy, NameTaken, ValueGrows, Arrives, TagRead};
+ghost use Rattle.hp_lex_tags.specs.Straight.{Reading, tagging, tag_of, ends_part, is_between, behind_blanks as spec_behind_blanks, IsQuoted, BeginsBy, NameTaken, ValueGrows, ValueKept, Arrives, TagGrows, TagRead};
 ghost use Rattle.hp_tokens.specs.Plain.{none_of, tag_name_stops, attribute_name_stops, unquoted_stops};
 ghost use Rattle.hp_tokens.specs.PlainLaws.{none-high};
 
@@ -19,9 +19,8 @@ use crate::usual_reference::{is_at_ampersand, usual_name};
 use hp_elements::{Attribute, AttributeSpace, Chain, Name, Namespace, Tag, Text, Token};
 use hp_names::Names;
 use hp_tokens::{
-    AnyAttributeNameText, AnyTagNameText, Building, Cursor, DoubleQuotedText, LexState, LongRun,
-    Machine, NewAttribute, NewTag, NoMemory, OwnedText, Run, SingleQuotedText, State, UnquotedText,
-    add,
+    AnyAttributeNameText, AnyTagNameText, Cursor, DoubleQuotedText, LexState, LongRun, Machine,
+    NoMemory, OwnedText, Run, SingleQuotedText, State, UnquotedText, add,
 };
 use std::alloc::Global;
 
@@ -70,23 +69,8 @@ enum Way {
     At(State),
     /// To the end.
     Whole { self_closing: bool },
-    /// So far that the rows go on, in this state.
-    Left(State),
-}
-
-/// An attribute that was read.
-#[derive(Drop)]
-struct ReadAttribute {
-    name: Name,
-    value: Text<'static>,
-}
-
-/// The start tag that is read: its name, its finished attributes, and the one read last.
-#[derive(Drop)]
-struct Reading {
-    name: Name,
-    attributes: Chain<Attribute>,
-    last: Option<ReadAttribute>,
+    /// Not to its end: it is for the rows.
+    Left,
 }
 
 /// A text of its own.
@@ -98,51 +82,18 @@ fn owned(alloc: Global, text: &str) -> Result<OwnedText, NoMemory>
     Ok(own)
 }
 
-/// An attribute goes behind the others, unless one of them has its name. The first one needs no look at the others.
+/// The attribute with that name and value goes behind the others, unless one of them has its name.
 #[inline(always)]
-fn join(
+fn keep(
     alloc: Global,
     attributes: &mut Chain<Attribute>,
-    attribute: Attribute,
+    name: Name,
+    value: Text<'static>,
 ) -> Result<(), NoMemory>
-    ensures { OnOk result (attributes.new ≡ joined attributes.old attribute) }
+    ensures { OnOk result (attributes.new ≡ added attributes.old (Some (record { name = name; value = value.entry }))) }
 {
-    if !attributes.is_empty() {
-        return add(alloc, attributes, attribute);
-    }
-    attributes.push(alloc, attribute)?;
-    Ok(())
-}
-
-/// The attribute read last goes behind the finished ones.
-#[inline(always)]
-fn fold(alloc: Global, reading: &mut Reading) -> Result<(), NoMemory>
-    ensures { OnOk result (reading.new ≡ record reading.old { attributes = added reading.old.attributes (begun reading.old.last); last = None }) }
-{
-    if let None = &reading.last {
-        return Ok(());
-    }
-    match reading.last.take() {
-        Some(ReadAttribute { name, value }) => {
-            let space = AttributeSpace::Plain;
-            join(
-                alloc,
-                &mut reading.attributes,
-                Attribute { space, name, value },
-            )
-        }
-        None => Ok(()),
-    }
-}
-
-/// The attribute with that name and value is the one read last.
-#[inline(always)]
-fn keep(alloc: Global, reading: &mut Reading, name: Name, value: &str) -> Result<(), NoMemory>
-    ensures { OnOk result (reading.new ≡ record reading.old { last = Some (record { name = name; value = chars value.now }) }) }
-{
-    let value = Text::from_str(alloc, value)?;
-    reading.last = Some(ReadAttribute { name, value });
-    Ok(())
+    let space = AttributeSpace::Plain;
+    add(alloc, attributes, Attribute { space, name, value })
 }
 
 /// What ends the tag, if it comes next: `>`, or `/` and `>`.
@@ -157,12 +108,12 @@ fn close(input: &mut Cursor<'_>, state: State) -> Way
         };
     }
     if !input.take_byte(b'/') {
-        return Way::Left(state);
+        return Way::Left;
     }
     if input.take_byte(b'>') {
         return Way::Whole { self_closing: true };
     }
-    Way::Left(State::SelfClosingStartTag)
+    Way::Left
 }
 
 /// The state behind blanks.
@@ -201,7 +152,7 @@ fn behind_unquoted(input: &mut Cursor<'_>) -> Way
             self_closing: false,
         };
     }
-    Way::Left(State::AttributeValueUnquoted)
+    Way::Left
 }
 
 /// A named reference at the front that is decided whatever follows, which is taken.
@@ -249,7 +200,7 @@ fn close_quoted<R: Run>(input: &mut Cursor<'_>, mark: u8, state: State) -> Way
     if input.take_byte(mark) {
         return behind(input, State::AfterAttributeValueQuoted);
     }
-    Way::Left(state)
+    Way::Left
 }
 
 /// A value in quotes, behind its first run.
@@ -257,19 +208,20 @@ fn close_quoted<R: Run>(input: &mut Cursor<'_>, mark: u8, state: State) -> Way
 fn read_behind_run<R: Run>(
     alloc: Global,
     names: &Names,
-    reading: &mut Reading,
-    named: ReadAttribute,
+    attributes: &mut Chain<Attribute>,
+    name: Name,
+    value: Text<'static>,
     input: &mut Cursor<'_>,
     mark: u8,
     state: State,
 ) -> Result<Way, NoMemory>
     requires ascii { mark < 128 }
     requires quoted { IsQuoted R.passes mark state }
-    ensures { IfOk result (Arrives names.now state (naming reading.old named.name named.value) input.old reading.new input.new) }
+    ensures { IfOk result (ValueKept names.now state name value.entry attributes.old input.old attributes.new input.new) }
 {
-    let ReadAttribute { name, mut value } = named;
+    let mut value = value;
     read_references::<R>(alloc, names, &mut value, input, mark, state)?;
-    reading.last = Some(ReadAttribute { name, value });
+    keep(alloc, attributes, name, value)?;
     Ok(close_quoted::<R>(input, mark, state))
 }
 
@@ -278,7 +230,7 @@ fn read_behind_run<R: Run>(
 fn read_quoted<R: LongRun>(
     alloc: Global,
     names: &Names,
-    reading: &mut Reading,
+    attributes: &mut Chain<Attribute>,
     name: Name,
     input: &mut Cursor<'_>,
     mark: u8,
@@ -286,16 +238,15 @@ fn read_quoted<R: LongRun>(
 ) -> Result<Way, NoMemory>
     requires ascii { mark < 128 }
     requires quoted { IsQuoted R.passes mark state }
-    ensures { IfOk result (Arrives names.now state (naming reading.old name []) input.old reading.new input.new) }
+    ensures { IfOk result (ValueKept names.now state name [] attributes.old input.old attributes.new input.new) }
 {
     let run = input.take_long_run::<R>();
+    let value = Text::from_str(alloc, run)?;
     if input.take_byte(mark) {
-        keep(alloc, reading, name, run)?;
+        keep(alloc, attributes, name, value)?;
         return Ok(behind(input, State::AfterAttributeValueQuoted));
     }
-    let value = Text::from_str(alloc, run)?;
-    let named = ReadAttribute { name, value };
-    let way = read_behind_run::<R>(alloc, names, reading, named, input, mark, state)?;
+    let way = read_behind_run::<R>(alloc, names, attributes, name, value, input, mark, state)?;
     Ok(way)
 }
 
@@ -304,14 +255,14 @@ fn read_quoted<R: LongRun>(
 fn read_single_quoted(
     alloc: Global,
     names: &Names,
-    reading: &mut Reading,
+    attributes: &mut Chain<Attribute>,
     name: Name,
     input: &mut Cursor<'_>,
 ) -> Result<Way, NoMemory>
-    ensures { IfOk result (Arrives names.now states.AttributeValueSingleQuoted (naming reading.old name []) input.old reading.new input.new) }
+    ensures { IfOk result (ValueKept names.now states.AttributeValueSingleQuoted name [] attributes.old input.old attributes.new input.new) }
 {
     let state = State::AttributeValueSingleQuoted;
-    let way = read_quoted::<SingleQuotedText>(alloc, names, reading, name, input, b'\'', state)?;
+    let way = read_quoted::<SingleQuotedText>(alloc, names, attributes, name, input, b'\'', state)?;
     Ok(way)
 }
 
@@ -320,13 +271,14 @@ fn read_single_quoted(
 fn read_unquoted(
     alloc: Global,
     names: &Names,
-    reading: &mut Reading,
+    attributes: &mut Chain<Attribute>,
     name: Name,
     input: &mut Cursor<'_>,
 ) -> Result<Way, NoMemory>
-    ensures { IfOk result (Arrives names.now states.AttributeValueUnquoted (naming reading.old name []) input.old reading.new input.new) }
+    ensures { IfOk result (ValueKept names.now states.AttributeValueUnquoted name [] attributes.old input.old attributes.new input.new) }
 {
-    keep(alloc, reading, name, input.take_run::<UnquotedText>())?;
+    let value = Text::from_str(alloc, input.take_run::<UnquotedText>())?;
+    keep(alloc, attributes, name, value)?;
     Ok(behind_unquoted(input))
 }
 
@@ -346,23 +298,23 @@ fn begins_value(input: &Cursor<'_>) -> bool
 fn read_other_value(
     alloc: Global,
     names: &Names,
-    reading: &mut Reading,
+    attributes: &mut Chain<Attribute>,
     name: Name,
     input: &mut Cursor<'_>,
 ) -> Result<Way, NoMemory>
     requires other { first input.old.text ≢ Some 34 }
-    ensures { IfOk result (Arrives names.now states.BeforeAttributeValue (naming reading.old name []) input.old reading.new input.new) }
+    ensures { IfOk result (ValueKept names.now states.BeforeAttributeValue name [] attributes.old input.old attributes.new input.new) }
 {
     if input.take_byte(b'\'') {
-        let single = read_single_quoted(alloc, names, reading, name, input)?;
+        let single = read_single_quoted(alloc, names, attributes, name, input)?;
         return Ok(single);
     }
     if begins_value(input) {
-        let unquoted = read_unquoted(alloc, names, reading, name, input)?;
+        let unquoted = read_unquoted(alloc, names, attributes, name, input)?;
         return Ok(unquoted);
     }
-    keep(alloc, reading, name, "")?;
-    Ok(Way::Left(State::BeforeAttributeValue))
+    keep(alloc, attributes, name, Text::new())?;
+    Ok(Way::Left)
 }
 
 /// The value of an attribute, behind its `=`.
@@ -370,20 +322,20 @@ fn read_other_value(
 fn read_value(
     alloc: Global,
     names: &Names,
-    reading: &mut Reading,
+    attributes: &mut Chain<Attribute>,
     name: Name,
     input: &mut Cursor<'_>,
 ) -> Result<Way, NoMemory>
-    ensures { IfOk result (Arrives names.now states.BeforeAttributeValue (naming reading.old name []) input.old reading.new input.new) }
+    ensures { IfOk result (ValueKept names.now states.BeforeAttributeValue name [] attributes.old input.old attributes.new input.new) }
 {
     if input.take_byte(b'"') {
         let state = State::AttributeValueDoubleQuoted;
         let double = read_quoted::<DoubleQuotedText>(
-            alloc, names, reading, name, input, b'"', state,
+            alloc, names, attributes, name, input, b'"', state,
         )?;
         return Ok(double);
     }
-    let other = read_other_value(alloc, names, reading, name, input)?;
+    let other = read_other_value(alloc, names, attributes, name, input)?;
     Ok(other)
 }
 
@@ -403,22 +355,21 @@ fn begins_name(input: &Cursor<'_>) -> bool
 fn read_attribute(
     alloc: Global,
     names: &Names,
-    reading: &mut Reading,
+    attributes: &mut Chain<Attribute>,
     input: &mut Cursor<'_>,
     state: State,
 ) -> Result<Way, NoMemory>
     requires between { is_between state ≡ true }
     requires name { BeginsBy (none_of attribute_name_stops) input.old.text }
-    ensures { IfOk result (Arrives names.now state (building.StartTag (tag_of reading.old)) input.old reading.new input.new) }
+    ensures { IfOk result (TagGrows names.now state attributes.old input.old attributes.new input.new) }
 {
     let _state = state;
-    fold(alloc, reading)?;
     let name = Name::from_lowered(alloc, input.take_run::<AttributeNameBytes>())?;
     if input.take_byte(b'=') {
-        let way = read_value(alloc, names, reading, name, input)?;
+        let way = read_value(alloc, names, attributes, name, input)?;
         return Ok(way);
     }
-    keep(alloc, reading, name, "")?;
+    keep(alloc, attributes, name, Text::new())?;
     Ok(behind(input, State::AttributeName))
 }
 
@@ -427,15 +378,15 @@ fn read_attribute(
 fn read_on(
     alloc: Global,
     names: &Names,
-    reading: &mut Reading,
+    attributes: &mut Chain<Attribute>,
     input: &mut Cursor<'_>,
     state: State,
 ) -> Result<Way, NoMemory>
     requires { is_between state ≡ true }
-    ensures { IfOk result (Arrives names.now state (building.StartTag (tag_of reading.old)) input.old reading.new input.new) }
+    ensures { IfOk result (TagGrows names.now state attributes.old input.old attributes.new input.new) }
 {
     if begins_name(input) {
-        let way = read_attribute(alloc, names, reading, input, state)?;
+        let way = read_attribute(alloc, names, attributes, input, state)?;
         return Ok(way);
     }
     Ok(close(input, state))
@@ -445,16 +396,16 @@ fn read_on(
 fn read_attributes(
     alloc: Global,
     names: &Names,
-    reading: &mut Reading,
+    attributes: &mut Chain<Attribute>,
     input: &mut Cursor<'_>,
     state: State,
 ) -> Result<Way, NoMemory>
     requires { is_between state ≡ true }
-    ensures { IfOk result (Arrives names.now state (building.StartTag (tag_of reading.old)) input.old reading.new input.new) }
+    ensures { IfOk result (TagGrows names.now state attributes.old input.old attributes.new input.new) }
 {
     let mut now = state;
     'attributes: loop {
-        let way = read_on(alloc, names, reading, input, now)?;
+        let way = read_on(alloc, names, attributes, input, now)?;
         match way {
             Way::At(next) => now = next,
             _ => return Ok(way),
@@ -467,15 +418,20 @@ fn read_attributes(
 fn read_rest(
     alloc: Global,
     names: &Names,
-    reading: &mut Reading,
+    attributes: &mut Chain<Attribute>,
     input: &mut Cursor<'_>,
 ) -> Result<Way, NoMemory>
-    ensures { IfOk result (Arrives names.now states.TagName (building.StartTag (tag_of reading.old)) input.old reading.new input.new) }
+    ensures { IfOk result (TagGrows names.now states.TagName attributes.old input.old attributes.new input.new) }
 {
+    if input.take_byte(b'>') {
+        return Ok(Way::Whole {
+            self_closing: false,
+        });
+    }
     let way = behind(input, State::TagName);
     match way {
         Way::At(state) => {
-            let end = read_attributes(alloc, names, reading, input, state)?;
+            let end = read_attributes(alloc, names, attributes, input, state)?;
             Ok(end)
         }
         _ => Ok(way),
@@ -523,44 +479,6 @@ fn start_tag<'p>(name: Name, attributes: Chain<Attribute>, self_closing: bool) -
     Token::Start { self_closing, tag }
 }
 
-/// The attribute as one under construction.
-fn under_construction(
-    alloc: Global,
-    attribute: Option<ReadAttribute>,
-) -> Result<Option<NewAttribute>, NoMemory>
-    ensures { IfOk result (λ new. new ≡ begun attribute) }
-{
-    match attribute {
-        None => Ok(None),
-        Some(attribute) => Ok(Some(NewAttribute {
-            name: owned(alloc, attribute.name.as_str())?,
-            value: owned(alloc, attribute.value.as_str())?,
-        })),
-    }
-}
-
-/// The tag is left to the rows, in this state.
-#[inline(never)]
-fn leave(
-    alloc: Global,
-    machine: &mut Machine,
-    reading: Reading,
-    state: State,
-) -> Result<(), NoMemory>
-    requires clear { machine.old.after_cr ≡ false }
-    requires alone { uses_token_alone state ≡ true }
-    ensures { OnOk result (machine.new ≡ tagging machine.old.last_tag state (building.StartTag (tag_of reading))) }
-{
-    machine.enter(state);
-    machine.building = Building::StartTag(NewTag {
-        name: owned(alloc, reading.name.as_str())?,
-        attributes: reading.attributes,
-        attribute: under_construction(alloc, reading.last)?,
-        self_closing: false,
-    });
-    Ok(())
-}
-
 /// The name of a tag, in lower case.
 #[inline(always)]
 fn read_name(alloc: Global, input: &mut Cursor<'_>) -> Result<Name, NoMemory>
@@ -582,44 +500,17 @@ fn read_start_tag<'p>(
     requires opens { opens_start_tag input.old.text ≡ true }
     ensures { IfOk result (TagRead names.now machine.old input.old machine.new input.new) }
 {
+    let start = input.copy();
     input.skip_ascii(1);
     let name = read_name(alloc, input)?;
-    if input.take_byte(b'>') {
+    let mut attributes = Chain::new();
+    let way = read_rest(alloc, names, &mut attributes, input)?;
+    if let Way::Whole { self_closing } = way {
         stand_behind(alloc, machine, &name)?;
-        return Ok(Some(start_tag(name, Chain::new(), false)));
+        return Ok(Some(start_tag(name, attributes, self_closing)));
     }
-    let mut reading = Reading {
-        name,
-        attributes: Chain::new(),
-        last: None,
-    };
-    let way = read_rest(alloc, names, &mut reading, input)?;
-    match way {
-        Way::Whole { self_closing } => {
-            fold(alloc, &mut reading)?;
-            stand_behind(alloc, machine, &reading.name)?;
-            Ok(Some(start_tag(reading.name, reading.attributes, self_closing)))
-        }
-        Way::At(state) => {
-            leave(alloc, machine, reading, state)?;
-            Ok(None)
-        }
-        Way::Left(state) => {
-            leave(alloc, machine, reading, state)?;
-            Ok(None)
-        }
-    }
-}
-
-/// The end tag is left to the rows, behind its name.
-#[inline(never)]
-fn leave_end_tag(alloc: Global, machine: &mut Machine, name: Name) -> Result<(), NoMemory>
-    requires clear { machine.old.after_cr ≡ false }
-    ensures { OnOk result (machine.new ≡ tagging machine.old.last_tag states.TagName (building.EndTag name)) }
-{
-    machine.enter(State::TagName);
-    machine.building = Building::EndTag(owned(alloc, name.as_str())?);
-    Ok(())
+    *input = start;
+    Ok(None)
 }
 
 /// An end tag, of which `</` comes next and then a letter; `None` where the rows go on.
@@ -635,6 +526,7 @@ fn read_end_tag<'p>(
     requires opens { opens_end_tag input.old.text ≡ true }
     ensures { IfOk result (TagRead names.now machine.old input.old machine.new input.new) }
 {
+    let start = input.copy();
     input.skip_ascii(1);
     input.skip_ascii(1);
     let name = read_name(alloc, input)?;
@@ -642,7 +534,7 @@ fn read_end_tag<'p>(
         machine.enter(State::Data);
         return Ok(Some(Token::EndTag { name }));
     }
-    leave_end_tag(alloc, machine, name)?;
+    *input = start;
     Ok(None)
 }
 

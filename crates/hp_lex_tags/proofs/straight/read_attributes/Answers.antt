@@ -1,19 +1,31 @@
+use Rattle.std.proofs.Common.{[], refl, ◌∙◌}
 use Rattle.hp_tokens.specs.declared.building.Building.TheVariants.{StartTag}
-use Rattle.hp_lex_tags.specs.Straight.{tag_of}
+use Rattle.hp_lex_tags.specs.Straight.{bare, tag_of}
 use Rattle.hp_lex_tags.specs.declared.straight.Way.TheVariants as way
-use Rattle.hp_lex_tags.proofs.StraightMoves.{onto_same, onto_join, arrives_join, arrives_as}
+use Rattle.hp_lex_tags.proofs.StraightMoves.{onto_same, onto_join, arrives_join}
+use Rattle.hp_lex_tags.proofs.StraightParts.{grows_as}
 use Rattle.hp_lex_tags.proofs.straight.read_attributes.Goals as goal
 
 pub attributes-init : goal.attributes-init
-attributes-init c = (onto_same c.args.state (StartTag (tag_of c.args.reading.now)) c.args.input.now, c.requires)
+attributes-init c = (c.requires, λ front e. record { to = front; named = refl; gathers = e; onto = onto_same c.args.state (StartTag (tag_of front)) c.args.input.now })
 
 pub attributes-preserved : goal.attributes-preserved
 attributes-preserved c =
-    let h = arrives_as c.args.names.now c.attributes.now (StartTag (tag_of c.attributes.reading)) c.attributes.input c.read_on.new.input c.read_on.new.reading c.in_ok-way.way (way.At c.in-At.next) c.in-At.is c.in_ok-way.ensures in
-    (onto_join c.attributes.invariant.0 h.0, h.1)
+    let grows = grows_as c.args.names.now c.attributes.now c.attributes.attributes c.read_on.new.attributes c.attributes.input c.read_on.new.input c.in_ok-way.way (way.At c.in-At.next) c.in-At.is c.in_ok-way.ensures in (
+      (grows (bare [] c.attributes.attributes) refl).arrives.1,
+      λ front e.
+          let before = c.attributes.invariant.1 front e in
+          let then = grows before.to before.gathers in
+          record { to = then.to; named = then.named ∙ before.named; gathers = then.gathers; onto = onto_join before.onto then.arrives.0 },
+    )
 
 pub attributes-smaller : goal.attributes-smaller
-attributes-smaller c = (arrives_as c.args.names.now c.attributes.now (StartTag (tag_of c.attributes.reading)) c.attributes.input c.read_on.new.input c.read_on.new.reading c.in_ok-way.way (way.At c.in-At.next) c.in-At.is c.in_ok-way.ensures).2
+attributes-smaller c =
+    (grows_as c.args.names.now c.attributes.now c.attributes.attributes c.read_on.new.attributes c.attributes.input c.read_on.new.input c.in_ok-way.way (way.At c.in-At.next) c.in-At.is c.in_ok-way.ensures
+    (bare [] c.attributes.attributes) refl).arrives.2
 
 pub returns-in_default : goal.returns-in_default
-returns-in_default c = arrives_join c.read_on.new.input c.read_on.new.reading c.in_ok-way.way c.attributes.invariant.0 c.in_ok-way.ensures
+returns-in_default c = λ front e.
+    let before = c.attributes.invariant.1 front e in
+    let then = c.in_ok-way.ensures before.to before.gathers in
+    record { to = then.to; named = then.named ∙ before.named; gathers = then.gathers; arrives = arrives_join c.read_on.new.input then.to c.in_ok-way.way before.onto then.arrives }

@@ -1,20 +1,24 @@
-use Rattle.std.proofs.Common.{refl}
-use Rattle.std.proofs.lemmas.Str.{chars-nil}
-use Rattle.hp_lex_tags.proofs.StraightParts.{single_later, unquoted_later, value_later}
+use Rattle.std.proofs.Common.{[], refl}
+use Rattle.hp_tokens.specs.declared.state.State.TheVariants.{BeforeAttributeValue, AttributeValueSingleQuoted, AttributeValueUnquoted}
+use Rattle.hp_lex_tags.specs.declared.straight.Way.TheVariants.{Left}
+use Rattle.hp_lex_tags.proofs.StraightParts.{single_later, unquoted_later, value_whole, value_on}
 use Rattle.hp_lex_tags.proofs.straight.read_other_value.Goals as goal
 
 pub returns-then-take_byte : goal.returns-then-take_byte
 returns-then-take_byte c =
-    single_later c.args.names.now c.args.reading.now c.read_single_quoted.new.reading c.args.name c.args.input.now c.args.input.now c.take_byte.new.self c.read_single_quoted.new.input c.in_ok-single.single
-    refl (c.if-take_byte.ensures.taken refl) c.in_ok-single.ensures
+    value_on c.args.names.now BeforeAttributeValue AttributeValueSingleQuoted c.args.name [] [] c.args.attributes.now c.read_single_quoted.new.attributes c.args.input.now c.take_byte.new.self c.read_single_quoted.new.input c.in_ok-single.single
+    (λ reading to. single_later c.args.names.now reading to c.args.name c.args.input.now c.args.input.now c.take_byte.new.self c.read_single_quoted.new.input c.in_ok-single.single
+    refl (c.if-take_byte.ensures.taken refl))
+    c.in_ok-single.ensures
 
 pub returns-then-begins_value : goal.returns-then-begins_value
 returns-then-begins_value c =
-    unquoted_later c.args.names.now c.args.reading.now c.read_unquoted.new.reading c.args.name c.args.input.now c.args.input.now c.take_byte.new.self c.read_unquoted.new.input c.in_ok-unquoted.unquoted
+    value_on c.args.names.now BeforeAttributeValue AttributeValueUnquoted c.args.name [] [] c.args.attributes.now c.read_unquoted.new.attributes c.args.input.now c.take_byte.new.self c.read_unquoted.new.input c.in_ok-unquoted.unquoted
+    (λ reading to. unquoted_later c.args.names.now reading to c.args.name c.args.input.now c.args.input.now c.take_byte.new.self c.read_unquoted.new.input c.in_ok-unquoted.unquoted
     refl (c.if-take_byte.ensures.left refl).0 c.requires.other (c.if-take_byte.ensures.left refl).1
-    (c.if-begins_value.ensures refl) c.in_ok-unquoted.ensures
+    (c.if-begins_value.ensures refl))
+    c.in_ok-unquoted.ensures
 
 pub returns : goal.returns
 returns c =
-    value_later c.args.reading.now c.keep.new.reading c.args.name _ c.args.input.now c.args.input.now c.take_byte.new.self
-    refl (c.if-take_byte.ensures.left refl).0 chars-nil c.in_ok-keep.ensures
+    value_whole c.args.names.now BeforeAttributeValue c.args.name [] c.new.result c.args.attributes.now c.keep.new.attributes c.args.input.now c.take_byte.new.self Left c.in_ok-keep.ensures (λ reading to kept. tt)
