@@ -1,5 +1,6 @@
 pub mod Decimals
 pub mod NamedSteps
+pub mod NameRuns
 pub mod PlainRows
 pub mod Semicolons
 pub mod Steady

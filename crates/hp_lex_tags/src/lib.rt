@@ -1,6 +1,7 @@
 //! The lexer's states for text, tags and character references.
 #![tactic(auto)]
 
+mod attribute_name;
 mod named;
 mod references;
 mod rows;

@@ -15,33 +15,15 @@ ghost use Rattle.hp_lex_tags.specs.Straight.{Reading, tagging, tag_of, ends_part
 ghost use Rattle.hp_tokens.specs.Plain.{none_of, tag_name_stops, attribute_name_stops, unquoted_stops};
 ghost use Rattle.hp_tokens.specs.PlainLaws.{none-high};
 
+use crate::attribute_name::AttributeNameBytes;
 use crate::usual_reference::{is_at_ampersand, usual_name};
 use hp_elements::{Attribute, AttributeSpace, Chain, Name, Namespace, Tag, Text, Token};
 use hp_names::Names;
 use hp_tokens::{
-    AnyAttributeNameText, AnyTagNameText, Cursor, DoubleQuotedText, LexState, LongRun, Machine,
-    NoMemory, OwnedText, Run, SingleQuotedText, State, UnquotedText, add,
+    AnyTagNameText, Cursor, DoubleQuotedText, LexState, LongRun, Machine, NoMemory, OwnedText, Run,
+    SingleQuotedText, State, UnquotedText, add,
 };
 use std::alloc::Global;
-
-/// The name of an attribute, in any case. Most of its bytes are letters, which stand above `>`.
-#[derive(Drop)]
-struct AttributeNameBytes;
-
-impl Run for AttributeNameBytes {
-    ghost passes = { none_of attribute_name_stops };
-
-    #[inline]
-    fn passes(byte: u8) -> bool
-        ensures { result ≡ none_of attribute_name_stops byte }
-    {
-        byte > b'>' || (byte != b'=' && AnyAttributeNameText::passes(byte))
-    }
-
-    ghost high = { none-high attribute_name_stops refl };
-
-    ghost no_cr = { refl };
-}
 
 /// The name of a tag, in any case. Most of its bytes are letters, which stand above `>`.
 #[derive(Drop)]
@@ -82,7 +64,8 @@ fn owned(alloc: Global, text: &str) -> Result<OwnedText, NoMemory>
     Ok(own)
 }
 
-/// The attribute with that name and value goes behind the others, unless one of them has its name.
+/// The attribute with that name and value goes behind the others, unless one of them has its name. The first one needs no
+/// look at the others.
 #[inline(always)]
 fn keep(
     alloc: Global,
@@ -93,6 +76,10 @@ fn keep(
     ensures { OnOk result (attributes.new ≡ added attributes.old (Some (record { name = name; value = value.entry }))) }
 {
     let space = AttributeSpace::Plain;
+    if attributes.is_empty() {
+        attributes.push(alloc, Attribute { space, name, value })?;
+        return Ok(());
+    }
     add(alloc, attributes, Attribute { space, name, value })
 }
 
@@ -133,6 +120,11 @@ fn behind(input: &mut Cursor<'_>, state: State) -> Way
     requires { ends_part state ≡ true }
     ensures { (names : List Reference) (reading : Reading) → Arrives names state (building.StartTag (tag_of reading)) input.old reading input.new result }
 {
+    if input.take_byte(b'>') {
+        return Way::Whole {
+            self_closing: false,
+        };
+    }
     if input.skip_blanks() {
         return Way::At(behind_blanks(state));
     }
@@ -364,7 +356,7 @@ fn read_attribute(
     ensures { IfOk result (TagGrows names.now state attributes.old input.old attributes.new input.new) }
 {
     let _state = state;
-    let name = Name::from_lowered(alloc, input.take_run::<AttributeNameBytes>())?;
+    let name = Name::from_lowered(alloc, input.take_long_run::<AttributeNameBytes>())?;
     if input.take_byte(b'=') {
         let way = read_value(alloc, names, attributes, name, input)?;
         return Ok(way);
@@ -423,11 +415,6 @@ fn read_rest(
 ) -> Result<Way, NoMemory>
     ensures { IfOk result (TagGrows names.now states.TagName attributes.old input.old attributes.new input.new) }
 {
-    if input.take_byte(b'>') {
-        return Ok(Way::Whole {
-            self_closing: false,
-        });
-    }
     let way = behind(input, State::TagName);
     match way {
         Way::At(state) => {
@@ -538,34 +525,17 @@ fn read_end_tag<'p>(
     Ok(None)
 }
 
-/// A tag at the front, if it is a usual one, in the data state.
-#[inline]
-fn tag_in_data<'p>(
-    alloc: Global,
-    names: &Names,
-    state: &mut LexState,
-    input: &mut Cursor<'p>,
-    rested: &mut u64,
-) -> Result<Option<Token<'p>>, NoMemory>
-    requires data { state.old.machine.state ≡ states.Data }
-    requires held { held state.old ≤ input.old.place }
-    ensures tag { IfOk result (λ tag. TagTurned names.now (lexing state.old input.old rested.old) tag (lexing state.new input.new rested.new) rested.new) }
-    ensures held { IfOk result (λ tag. held state.new ≤ input.new.place) }
-    ensures ahead { OnOk result (state.new.ahead ≡ state.old.ahead) }
+/// Whether the lexer stands in the data state, with nothing held back.
+#[inline(always)]
+fn stands_in_data(state: &LexState) -> bool
+    ensures data { result ≡ true → state.now.machine.state ≡ states.Data }
+    ensures clear { result ≡ true → state.now.machine.after_cr ≡ false }
+    ensures ahead { result ≡ true → state.now.ahead ≡ [] }
 {
-    if state.machine.after_cr || !state.ahead.is_empty() {
-        return Ok(None);
+    match state.machine.state {
+        State::Data => !state.machine.after_cr && state.ahead.is_empty(),
+        _ => false,
     }
-    let place = input.place();
-    if input.opens_start_tag() {
-        *rested = place;
-        return read_start_tag(alloc, names, &mut state.machine, input);
-    }
-    if input.opens_end_tag() {
-        *rested = place;
-        return read_end_tag(alloc, names, &mut state.machine, input);
-    }
-    Ok(None)
 }
 
 /// In the data state, a tag at the front, if it is a usual one: the last of the moves that were made emitted it. With `None` moves
@@ -584,8 +554,17 @@ pub fn next_tag<'p>(
     ensures held { IfOk result (λ tag. held state.new ≤ input.new.place) }
     ensures ahead { OnOk result (state.new.ahead ≡ state.old.ahead) }
 {
-    match state.machine.state {
-        State::Data => tag_in_data(alloc, names, state, input, rested),
-        _ => Ok(None),
+    if !stands_in_data(state) {
+        return Ok(None);
     }
+    let place = input.place();
+    if input.opens_start_tag() {
+        *rested = place;
+        return read_start_tag(alloc, names, &mut state.machine, input);
+    }
+    if input.opens_end_tag() {
+        *rested = place;
+        return read_end_tag(alloc, names, &mut state.machine, input);
+    }
+    Ok(None)
 }

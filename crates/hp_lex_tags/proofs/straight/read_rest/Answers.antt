@@ -1,35 +1,27 @@
-use Rattle.std.proofs.Common.{[], refl, subst}
+use Rattle.std.proofs.Common.{[], refl}
 use Rattle.hp_tokens.specs.declared.state.State.TheVariants.{TagName}
 use Rattle.hp_tokens.specs.declared.building.Building.TheVariants.{StartTag}
-use Rattle.hp_tokens.specs.Reading.{Unread}
-use Rattle.hp_lex_tags.specs.Straight.{Reading, bare, tag_of, Arrives}
-use Rattle.hp_lex_tags.specs.declared.straight.Way.{Way}
+use Rattle.hp_lex_tags.specs.Straight.{bare, tag_of}
 use Rattle.hp_lex_tags.specs.declared.straight.Way.TheVariants as way
-use Rattle.hp_lex_tags.proofs.StraightMoves.{closes_on, arrives_join, arrives_as}
+use Rattle.hp_lex_tags.proofs.StraightMoves.{arrives_join, arrives_as}
 use Rattle.hp_lex_tags.proofs.straight.read_rest.Goals as goal
-
-pub returns-then-take_byte : goal.returns-then-take_byte
-returns-then-take_byte c = λ front e. record { to = front; named = refl; gathers = e; arrives = closes_on TagName front c.args.input.now c.take_byte.new.self refl (c.if-take_byte.ensures.taken refl) }
 
 pub read_attributes-requires : goal.read_attributes-requires
 read_attributes-requires c =
     let front = bare [] c.args.attributes.now in
-    (arrives_as c.args.names.now TagName (StartTag (tag_of front)) c.take_byte.new.self c.behind-way.new.input front c.behind-way.result (way.At c.in-At.state) c.in-At.is (c.behind-way.ensures c.args.names.now front)).1
+    (arrives_as c.args.names.now TagName (StartTag (tag_of front)) c.args.input.now c.behind-way.new.input front c.behind-way.result (way.At c.in-At.state) c.in-At.is (c.behind-way.ensures c.args.names.now front)).1
 
 pub returns-in_ok-end-in-At : goal.returns-in_ok-end-in-At
 returns-in_ok-end-in-At c = λ front e.
     let then = c.in_ok-end-in-At.ensures front e in
-    let P : Unread → Type 0 = λ u. Arrives c.args.names.now TagName (StartTag (tag_of front)) u then.to c.read_attributes.new.input c.in_ok-end-in-At.end in
     record {
       to = then.to;
       named = then.named;
       gathers = then.gathers;
-      arrives = subst P (c.if-take_byte.ensures.left refl).0 (arrives_join c.read_attributes.new.input then.to c.in_ok-end-in-At.end
-          (arrives_as c.args.names.now TagName (StartTag (tag_of front)) c.take_byte.new.self c.behind-way.new.input front c.behind-way.result (way.At c.in-At.state) c.in-At.is (c.behind-way.ensures c.args.names.now front)).0
-          then.arrives);
+      arrives = arrives_join c.read_attributes.new.input then.to c.in_ok-end-in-At.end
+          (arrives_as c.args.names.now TagName (StartTag (tag_of front)) c.args.input.now c.behind-way.new.input front c.behind-way.result (way.At c.in-At.state) c.in-At.is (c.behind-way.ensures c.args.names.now front)).0
+          then.arrives;
     }
 
 pub returns-in_default : goal.returns-in_default
-returns-in_default c = λ front e.
-    let P : Unread → Type 0 = λ u. Arrives c.args.names.now TagName (StartTag (tag_of front)) u front c.behind-way.new.input c.behind-way.result in
-    record { to = front; named = refl; gathers = e; arrives = subst P (c.if-take_byte.ensures.left refl).0 (c.behind-way.ensures c.args.names.now front) }
+returns-in_default c = λ front e. record { to = front; named = refl; gathers = e; arrives = c.behind-way.ensures c.args.names.now front }
