@@ -28,12 +28,11 @@ use Rattle.hp_tokens.specs.Plain.{none_of, tag_name_stops, attribute_name_stops,
 use Rattle.hp_tokens.specs.PlainLaws.{unlike, apart, none-high}
 use Rattle.hp_lex_tags.specs.Rows.{has_row, row, row_of, tag_open, end_tag_open, tag_name, attribute_name, before_attribute_value}
 use Rattle.hp_lex_tags.specs.declared.straight.Way.{Way}
-use Rattle.hp_lex_tags.specs.declared.straight.Way.TheVariants as way
 use Rattle.hp_lex_tags.specs.Straight.{Reading, tagging, within, standing_at, tag_of, naming, bare, ending, gathered, is_between, uses_token_alone, Onto, Arrives, ValueKept, TagGrows, IsQuoted, BeginsBy, ValueGrows}
 use Rattle.hp_lex_tags.specs.Usual.{ReferenceTaken}
 use Rattle.hp_lex_tags.proofs.ValueReferences.{reference_onto}
 use Rattle.hp_lex_tags.proofs.PlainRows.{double_quoted_plain, single_quoted_plain, unquoted_plain}
-use Rattle.hp_lex_tags.proofs.StraightMoves.{reread, consumed_move, consumes, rereads, onto_same, onto_join, arrives_join, over_run, between_row}
+use Rattle.hp_lex_tags.proofs.StraightMoves.{reread, consumed_move, consumes, rereads, onto_join, arrives_join, over_run, between_row}
 
 -- a lowered code point is U+0000 only where it was before
 lowered_zero : (c : ℕ) → (c == 0) ≡ false → (lowered c == 0) ≡ false

@@ -1,21 +1,20 @@
 -- A usual tag as a whole.
-use Rattle.std.proofs.Common.{◌≡◌, ℕ, ◌-◌, ◌≤◌, List, [], ◌∷◌, ◌++◌, Bool, true, false, ◌&&◌, not, cond, refl, ap, ◌∙◌, sym, subst, arith, Option, None, Some, eqb-true, append-nil}
+use Rattle.std.proofs.Common.{◌≡◌, ℕ, ◌-◌, ◌≤◌, List, [], ◌∷◌, ◌++◌, Bool, true, false, ◌&&◌, cond, refl, ap, ◌∙◌, sym, subst, arith, Option, None, Some, eqb-true, append-nil}
 use Rattle.std.specs.Prelude.{◌==◌, ◌+◌, drop, nat_lt, sum_by}
 use Rattle.std.specs.Char.{len_utf8}
-use Rattle.std.proofs.lemmas.Bool.{and_parts, not-true}
+use Rattle.std.proofs.lemmas.Bool.{and_parts}
 use Rattle.hp_names.specs.References.{Reference}
 use Rattle.hp_elements.specs.Names.{lowered as lowered_text}
 use Rattle.hp_elements.specs.declared.token.Token.{Token}
 use Rattle.hp_elements.specs.declared.token.Token.TheVariants as token
 use Rattle.hp_tokens.specs.declared.state.State.{State}
-use Rattle.hp_tokens.specs.declared.state.State.TheVariants.{Data, TagName, BeforeAttributeName, AfterAttributeName}
-use Rattle.hp_tokens.specs.declared.state.Return.TheVariants as returns
+use Rattle.hp_tokens.specs.declared.state.State.TheVariants.{Data, TagName}
 use Rattle.hp_tokens.specs.declared.building.Building.{Building}
 use Rattle.hp_tokens.specs.declared.building.Building.TheVariants.{Nothing, StartTag, EndTag}
 use Rattle.hp_tokens.specs.declared.machine.Machine.{Machine}
 use Rattle.hp_tokens.specs.declared.lexing.LexState.{LexState}
 use Rattle.hp_tokens.specs.Reading.{Unread, first, Reads, IsAsciiFront, ReadsAscii}
-use Rattle.hp_tokens.specs.States.{enter, uses_token, uses_buffer, uses_return, uses_value, is_resting}
+use Rattle.hp_tokens.specs.States.{enter, is_resting}
 use Rattle.hp_tokens.specs.Parts.{finished_tag}
 use Rattle.hp_tokens.specs.Moves.{Lexing, standing, move}
 use Rattle.hp_tokens.specs.Runs.{Leads, here, onward}

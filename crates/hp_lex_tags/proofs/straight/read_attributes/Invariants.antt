@@ -1,5 +1,4 @@
 use Rattle.std.proofs.Common.{◌≡◌, length, true}
-use Rattle.hp_elements.specs.declared.tag.Attribute.{Attribute}
 use Rattle.hp_lex_tags.specs.Straight.{Reading, gathered, is_between, Stands}
 use Rattle.hp_lex_tags.proofs.straight.read_attributes.Given as goal
 

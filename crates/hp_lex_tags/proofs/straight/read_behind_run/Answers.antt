@@ -1,4 +1,3 @@
-use Rattle.std.proofs.Common.{Some}
 use Rattle.hp_lex_tags.specs.Straight.{bare, ending}
 use Rattle.hp_lex_tags.proofs.StraightMoves.{arrives_join}
 use Rattle.hp_lex_tags.proofs.straight.read_behind_run.Goals as goal

@@ -1,4 +1,4 @@
-use Rattle.std.proofs.Common.{[], ◌≡◌, refl, subst, sym, Some}
+use Rattle.std.proofs.Common.{[], refl, subst, sym, Some}
 use Rattle.std.specs.Prelude.{◌≢◌}
 use Rattle.hp_tokens.specs.Reading.{Unread, first}
 use Rattle.hp_tokens.specs.declared.state.State.TheVariants.{BeforeAttributeValue, AttributeValueDoubleQuoted}
