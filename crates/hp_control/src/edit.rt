@@ -3,6 +3,7 @@
 ghost use Rattle.std.specs.Prelude.{◌≡◌, ◌+◌, ◌∷◌, ◌++◌, [], length, IsTrue, ◌↔◌, IfOk, OnOk, OnErr};
 ghost use Rattle.hp_control.specs.Edits.{room_of, room_of_all};
 
+use crate::items::{begin, lose};
 use hp_elements::{Attribute, Chain, Doctype, Tag, Text};
 use std::alloc::{AllocError, Global};
 use std::marker::Model;
@@ -124,6 +125,29 @@ impl<'p> Edits<'p> {
         Ok(())
     }
 
+    /// An element made for the tag, which has so many attributes, and put into a place, after the others.
+    #[inline(always)]
+    pub fn push_element(
+        &mut self,
+        alloc: Global,
+        tag: Tag,
+        attributes: usize,
+        node: Ref,
+        place: Place,
+    ) -> Result<(), AllocError>
+        requires { attributes ≡ length tag.attributes }
+        ensures ok { OnOk result (self.new ≡ (self.old ++ NewElement tag ∷ []) ++ Put (Element node) place ∷ []) }
+        ensures err { OnErr result (self.new ≡ self.old) }
+    {
+        let Some(room) = self.room.checked_add(attributes as u64 + 2) else {
+            lose(tag);
+            return Err(AllocError);
+        };
+        add_element(alloc, &mut self.items, tag, node, place)?;
+        self.room = room;
+        Ok(())
+    }
+
     pub fn len(&self) -> usize
         ensures { result ≡ length self.now }
     {
@@ -185,27 +209,47 @@ fn add<'p>(
     ensures ok { OnOk result (held edits.new ≡ held edits.old ++ edit.entry ∷ []) }
     ensures err { OnErr result (held edits.new ≡ held edits.old) }
 {
+    begin(alloc, edits);
     match edits {
         Some(items) => {
             items.reserve(1)?;
             items.push_reserved(edit);
             Ok(())
         }
-        None => {
-            *edits = Some(one_edit(alloc, edit)?);
-            Ok(())
-        }
+        None => unreachable!(),
+    }
+}
+
+/// An element more, put into a place. At an `Err` the edits are as before.
+#[inline(always)]
+fn add_element<'p>(
+    alloc: Global,
+    edits: &mut Option<Vec<Edit<'p>>>,
+    tag: Tag,
+    node: Ref,
+    place: Place,
+) -> Result<(), AllocError>
+    ensures ok { OnOk result (held edits.new ≡ (held edits.old ++ NewElement tag ∷ []) ++ Put (Element node) place ∷ []) }
+    ensures err { OnErr result (held edits.new ≡ held edits.old) }
+{
+    begin(alloc, edits);
+    match edits {
+        Some(items) => match items.reserve(2) {
+            Ok(()) => {
+                items.push_reserved(Edit::NewElement { tag });
+                let child = Child::Element(node);
+                items.push_reserved(Edit::Put { child, place });
+                Ok(())
+            }
+            Err(failed) => {
+                lose(tag);
+                Err(failed)
+            }
+        },
+        None => unreachable!(),
     }
 }
 
 ghost use Rattle.hp_control.specs.Held.{held};
-
-/// A `Vec` of one edit.
-#[inline(never)]
-fn one_edit<'p>(alloc: Global, edit: Edit<'p>) -> Result<Vec<Edit<'p>>, AllocError>
-    ensures { IfOk result (λ items. items.items ≡ edit.entry ∷ []) }
-{
-    let mut items = Vec::new(alloc);
-    items.push(edit)?;
-    Ok(items)
-}
+ghost use Rattle.hp_control.specs.declared.edit.Child.TheVariants.{Element};
+ghost use Rattle.hp_control.specs.declared.edit.Edit.TheVariants.{NewElement, Put};

@@ -9,6 +9,7 @@ mod control;
 mod copies;
 mod edit;
 mod element;
+mod items;
 mod kinds;
 pub mod laws;
 mod open_elements;

@@ -167,10 +167,7 @@ impl OpenElements {
         ensures err { OnErr result (self.new ≡ self.old) }
     {
         let end = paragraph_from(&element, self.paragraph());
-        match self.standing.push(alloc, Standing { element, end }) {
-            Ok(()) => Ok(()),
-            Err(_) => Err(NoMemory),
-        }
+        self.standing.add(alloc, Standing { element, end })
     }
 
     /// Takes the top `count` elements off.

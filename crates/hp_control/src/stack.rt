@@ -1,15 +1,16 @@
 //! Stacks, which contracts see as lists with their top first.
 ghost use Rattle.std.specs.Prelude.{◌≡◌, ◌+◌, ◌-◌, ◌<◌, ◌≤◌, ◌==◌, [], ◌∷◌, ◌++◌, length, take, drop, OnOk, OnErr, IfErr, slice_index_or};
 
-use hp_elements::List;
+use crate::items::Items;
+use hp_elements::NoMemory;
 use std::alloc::{AllocFailed, Global};
 use std::marker::Model;
 
 /// A list whose end is its top, as the stack of open elements and the list of formatting elements are. A contract sees
-/// its items with the top first. One of none or one item takes no heap.
+/// its items with the top first. One that never had an item takes no heap.
 #[derive(Drop)]
 pub struct Stack<T> {
-    pub(crate) items: List<T>,
+    pub(crate) items: Items<T>,
 }
 
 impl<T> Model for Stack<T> {
@@ -25,7 +26,9 @@ impl<T> Stack<T> {
     pub fn new() -> Stack<T>
         ensures { result ≡ [] }
     {
-        Stack { items: List::new() }
+        Stack {
+            items: Items::new(),
+        }
     }
 
     /// The number of items.
@@ -54,7 +57,6 @@ impl<T> Stack<T> {
 
 impl<T: Drop> Stack<T> {
     /// Puts an item on top. At an `Err`, which comes only for want of memory, the stack is as before and the item comes back.
-    #[inline(always)]
     pub fn push(&mut self, alloc: Global, item: T) -> Result<(), AllocFailed<T>>
         ensures ok { OnOk result (self.new ≡ item ∷ self.old) }
         ensures err { OnErr result (self.new ≡ self.old) }
@@ -63,9 +65,41 @@ impl<T: Drop> Stack<T> {
         self.items.push(alloc, item)
     }
 
+    /// The same, but an item for which there is no memory is dropped.
+    #[inline(always)]
+    pub fn add(&mut self, alloc: Global, item: T) -> Result<(), NoMemory>
+        ensures ok { OnOk result (self.new ≡ item ∷ self.old) }
+        ensures err { OnErr result (self.new ≡ self.old) }
+    {
+        self.items.add(alloc, item)?;
+        Ok(())
+    }
+
     /// Takes the top `count` items off.
     #[inline(always)]
     pub fn drop_top(&mut self, count: usize)
+        requires { count ≤ length self.old }
+        ensures { self.new ≡ drop count self.old }
+    {
+        match count {
+            0 => {}
+            1 => self.drop_one(),
+            _ => self.drop_many(count),
+        }
+    }
+
+    /// Takes the top item off.
+    #[inline(always)]
+    fn drop_one(&mut self)
+        requires { 1 ≤ length self.old }
+        ensures { self.new ≡ drop 1 self.old }
+    {
+        let _ = self.items.pop();
+    }
+
+    /// Takes the top `count` items off, one by one.
+    #[inline(never)]
+    fn drop_many(&mut self, count: usize)
         requires { count ≤ length self.old }
         ensures { self.new ≡ drop count self.old }
     {

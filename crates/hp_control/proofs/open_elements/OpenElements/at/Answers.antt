@@ -6,7 +6,7 @@ pub at-requires : goal.at-requires
 at-requires c =
     let e = elements_count c.self.inside.standing in
     let f = ap length c.self.view_is in
-    (omega arith, omega (arith, c.requires))
+    omega (arith, c.requires)
 
 pub returns : goal.returns
 returns c =

@@ -7,7 +7,7 @@ pub drop_top-requires : goal.drop_top-requires
 drop_top-requires c =
     let e = elements_count c.self.inside.standing in
     let f = ap length c.self.view_is in
-    (omega arith, omega (arith, c.requires))
+    omega (arith, c.requires)
 
 pub invariant_of-self : goal.invariant_of-self
 invariant_of-self c = told_below c.self.inside.standing c.drop_top.new.self c.args.count (ends_dropped c.args.count c.self.invariant) c.drop_top.ensures

@@ -6,7 +6,7 @@ pub take_out-requires : goal.take_out-requires
 take_out-requires c =
     let e = elements_count c.self.inside.standing in
     let f = ap length c.self.view_is in
-    (omega arith, omega (arith, c.requires))
+    omega (arith, c.requires)
 
 pub renew-requires : goal.renew-requires
 renew-requires c =
