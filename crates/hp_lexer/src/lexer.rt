@@ -161,6 +161,7 @@ impl Lexer {
         ensures none { IfNone result ((self.new ≡ self.old) × (input.new ≡ input.old)) }
         ensures held { held self.new.lex ≤ input.new.place }
         ensures names { self.new.names ≡ self.old.names }
+        ensures ahead { self.new.lex.ahead ≡ self.old.lex.ahead }
     {
         match self.asked {
             Asked::Nothing => {
@@ -180,6 +181,7 @@ impl Lexer {
         ensures none { IfNone result ((self.new ≡ self.old) × (input.new ≡ input.old)) }
         ensures held { held self.new.lex ≤ input.new.place }
         ensures names { self.new.names ≡ self.old.names }
+        ensures ahead { self.new.lex.ahead ≡ self.old.lex.ahead }
     {
         match self.asked {
             Asked::Nothing => {
@@ -208,18 +210,12 @@ impl Lexer {
         ensures held { IfOk result (λ token. held self.new.lex ≤ input.new.place) }
         ensures asked { self.new.asked ≡ self.old.asked }
         ensures names { self.new.names ≡ self.old.names }
+        ensures ahead { OnOk result (self.new.lex.ahead ≡ self.old.lex.ahead) }
     {
         match self.asked {
             Asked::Nothing => {
                 let lex = &mut self.lex;
-                let token = hp_lex_tags::next_tag(
-                    alloc,
-                    &self.names,
-                    lex,
-                    input,
-                    &mut self.rested,
-                )?;
-                Ok(token)
+                hp_lex_tags::next_tag(alloc, &self.names, lex, input, &mut self.rested)
             }
             _ => Ok(None),
         }
