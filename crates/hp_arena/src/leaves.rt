@@ -218,6 +218,7 @@ pub fn add_text<'p>(
 }
 
 /// Puts a new leaf before a node.
+#[inline(always)]
 pub fn add_leaf<'p>(nodes: &mut Vec<Node>, leaves: &mut Vec<Leaf<'p>>, at: u32, leaf: Leaf<'p>)
     requires nodes_room { vec_len nodes.old < vec_capacity nodes.old }
     requires leaves_room { vec_len leaves.old < vec_capacity leaves.old }

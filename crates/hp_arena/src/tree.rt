@@ -1,7 +1,7 @@
 //! The tree that callers see: its edits and its readers.
 
 ghost use Rattle.std.specs.Prelude.{◌≡◌, ◌+◌, ◌<◌, ◌≤◌, length, map, [], ℕ, IfOk, IfSome, OnOk, OnErr, MatchOption};
-ghost use Rattle.hp_control.specs.Apply.{named, named_child, named_edit, named_place};
+ghost use Rattle.hp_control.specs.Apply.{named, named_child, named_edit};
 ghost use Rattle.hp_control.specs.Nothing.{nothing};
 ghost use Rattle.hp_control.specs.Edits.{room_of, room_of_all};
 ghost use Rattle.hp_control.specs.Tree.{document, applied, applied_all, branch, IsForest};
@@ -10,7 +10,7 @@ ghost use Rattle.hp_control.specs.declared.edit.Place.{Place};
 ghost use Rattle.hp_arena.specs.Shape.{attribute_count};
 ghost use Rattle.hp_arena.specs.Readers.{IsAt, IsIn, IsFirstChild, IsShown, HasTag, children, list_of, contents_of, siblings, parent_of, place_of};
 
-use crate::arena::{Arena, id_of};
+use crate::arena::Arena;
 use crate::readers::{At, NodeView, is_template};
 use crate::roots::Roots;
 use hp_control::{Child, Edit, Edits, Place, Ref};
@@ -114,26 +114,27 @@ impl<'p> Tree<'p> {
         ensures spare { self.old.spare ≤ self.new.spare + room_of edit.old }
     {
         match edit {
-            Edit::NewElement { tag } => self.new_element(taken_tag(tag)),
-            Edit::Put { place, .. } => {
-                let place = told_place(*place);
-                self.put(edit, place);
+            Edit::NewElement { tag } => self.new_element(tag),
+            Edit::Put {
+                place: Place::Into(parent),
+                ..
+            } => {
+                let parent = told(*parent);
+                self.put_into(edit, parent);
             }
-            Edit::Detach { .. } | Edit::MoveChildren { .. } | Edit::AddMissing { .. } => {
-                self.make_seldom(edit);
-            }
+            _ => self.make_seldom(edit),
         }
     }
 
-    /// Puts the child of an edit, told where no older state is below, into a place.
+    /// Puts the child of an edit, told where no older state is below, last into an element.
     #[inline(always)]
-    fn put(&mut self, edit: &mut Edit<'p>, place: Place)
+    fn put_into(&mut self, edit: &mut Edit<'p>, parent: u64)
         requires { 0 < self.old.spare }
-        ensures branches { (child : Child) (raw : Place) → edit.old ≡ Edit.Put child raw → self.new.branches ≡ applied self.old.branches (Edit.Put (named_child nothing child) place) }
+        ensures branches { (child : Child) (place : Place) → edit.old ≡ Edit.Put child place → self.new.branches ≡ applied self.old.branches (Edit.Put (named_child nothing child) (Place.Into (Ref.Fixed parent))) }
         ensures spare { self.old.spare ≤ self.new.spare + 1 }
     {
         match edit {
-            Edit::Put { child, .. } => self.put_child(child, place),
+            Edit::Put { child, .. } => self.put_child(child, parent),
             Edit::NewElement { .. }
             | Edit::Detach { .. }
             | Edit::MoveChildren { .. }
@@ -141,88 +142,80 @@ impl<'p> Tree<'p> {
         }
     }
 
-    /// Puts a child, told where no older state is below, into a place.
-    #[inline(always)]
-    fn put_child(&mut self, child: &mut Child<'p>, place: Place)
-        requires { 0 < self.old.spare }
-        ensures branches { self.new.branches ≡ applied self.old.branches (Edit.Put (named_child nothing child.old) place) }
-        ensures spare { self.old.spare ≤ self.new.spare + 1 }
-    {
-        match place {
-            Place::Into(parent) => self.put_into(child, parent),
-            Place::Foster { .. } => self.put_seldom(child, place),
-        }
-    }
-
     /// Puts a child, told where no older state is below, last into an element.
     #[inline(always)]
-    fn put_into(&mut self, child: &mut Child<'p>, parent: Ref)
+    fn put_child(&mut self, child: &mut Child<'p>, parent: u64)
         requires { 0 < self.old.spare }
-        ensures branches { self.new.branches ≡ applied self.old.branches (Edit.Put (named_child nothing child.old) (Place.Into parent)) }
+        ensures branches { self.new.branches ≡ applied self.old.branches (Edit.Put (named_child nothing child.old) (Place.Into (Ref.Fixed parent))) }
         ensures spare { self.old.spare ≤ self.new.spare + 1 }
     {
         match child {
-            Child::Text(text) => self.put_text(taken_text(text), parent),
+            Child::Text(text) => self.put_text(text, parent),
             Child::Element(node) => self.put_element(told(*node), parent),
-            Child::Comment(_) | Child::Doctype(_) => self.put_seldom(child, Place::Into(parent)),
+            Child::Comment(_) | Child::Doctype(_) => self.put_seldom(child, parent),
         }
     }
 
-    /// Puts any child, told where no older state is below, into any place.
+    /// Puts any child last into an element.
     #[inline(never)]
-    fn put_seldom(&mut self, child: &mut Child<'p>, place: Place)
+    fn put_seldom(&mut self, child: &mut Child<'p>, parent: u64)
         requires { 0 < self.old.spare }
-        ensures branches { self.new.branches ≡ applied self.old.branches (Edit.Put (named_child nothing child.old) place) }
+        ensures branches { self.new.branches ≡ applied self.old.branches (Edit.Put (named_child nothing child.old) (Place.Into (Ref.Fixed parent))) }
         ensures spare { self.old.spare ≤ self.new.spare + 1 }
     {
         let child = told_child(taken_child(child));
-        self.apply(Edit::Put { child, place });
+        self.apply(Edit::Put {
+            child,
+            place: Place::Into(Ref::Fixed(parent)),
+        });
     }
 
     /// Makes the next element, which has no parent.
-    #[inline(always)]
-    fn new_element(&mut self, tag: Tag)
-        requires { length tag.attributes < self.old.spare }
-        ensures branches { self.new.branches ≡ applied self.old.branches (Edit.NewElement tag) }
-        ensures spare { self.old.spare ≤ self.new.spare + (length tag.attributes + 1) }
+    #[inline(never)]
+    fn new_element(&mut self, tag: &mut Tag)
+        requires { length tag.old.attributes < self.old.spare }
+        ensures branches { self.new.branches ≡ applied self.old.branches (Edit.NewElement tag.old) }
+        ensures spare { self.old.spare ≤ self.new.spare + (length tag.old.attributes + 1) }
     {
-        self.arena.new_element(tag);
+        self.arena.new_element(taken_tag(tag));
     }
 
     /// Puts a text last into an element.
-    #[inline(always)]
-    fn put_text(&mut self, text: Text<'p>, parent: Ref)
+    #[inline(never)]
+    fn put_text(&mut self, text: &mut Text<'p>, parent: u64)
         requires { 0 < self.old.spare }
-        ensures branches { self.new.branches ≡ applied self.old.branches (Edit.Put (Child.Text text.entry) (Place.Into parent)) }
+        ensures branches { self.new.branches ≡ applied self.old.branches (Edit.Put (Child.Text text.old) (Place.Into (Ref.Fixed parent))) }
         ensures spare { self.old.spare ≤ self.new.spare + 1 }
     {
-        self.arena.put_text_into(text, parent);
+        self.arena
+            .put_text_into(taken_text(text), Ref::Fixed(parent));
     }
 
     /// Puts an element last into another.
     #[inline(always)]
-    fn put_element(&mut self, node: Ref, parent: Ref)
+    fn put_element(&mut self, node: u64, parent: u64)
         requires { 0 < self.old.spare }
-        ensures branches { self.new.branches ≡ applied self.old.branches (Edit.Put (Child.Element node) (Place.Into parent)) }
+        ensures branches { self.new.branches ≡ applied self.old.branches (Edit.Put (Child.Element (Ref.Fixed node)) (Place.Into (Ref.Fixed parent))) }
         ensures spare { self.old.spare ≤ self.new.spare + 1 }
     {
-        if id_of(parent) == 0 {
-            self.put_root(node, parent);
+        if parent == 0 {
+            self.put_root(node);
         } else {
-            self.arena.put_element_into(node, parent);
+            self.arena
+                .put_element_into(Ref::Fixed(node), Ref::Fixed(parent));
         }
     }
 
-    /// Puts an element last into another, which may be the document.
+    /// Puts an element last into the document.
     #[inline(never)]
-    fn put_root(&mut self, node: Ref, parent: Ref)
+    fn put_root(&mut self, node: u64)
         requires { 0 < self.old.spare }
-        ensures branches { self.new.branches ≡ applied self.old.branches (Edit.Put (Child.Element node) (Place.Into parent)) }
+        ensures branches { self.new.branches ≡ applied self.old.branches (Edit.Put (Child.Element (Ref.Fixed node)) (Place.Into (Ref.Fixed 0))) }
         ensures spare { self.old.spare ≤ self.new.spare + 1 }
     {
         self.apply(Edit::Put {
-            child: Child::Element(node),
-            place: Place::Into(parent),
+            child: Child::Element(Ref::Fixed(node)),
+            place: Place::Into(Ref::Fixed(0)),
         });
     }
 
@@ -276,13 +269,25 @@ fn taken_edit<'p>(edit: &mut Edit<'p>) -> Edit<'p>
     )
 }
 
-/// The element told by its id, where no older state is below.
-fn told(node: Ref) -> Ref
-    ensures { result ≡ named nothing node }
+/// The id of an element, where no older state is below.
+fn told(node: Ref) -> u64
+    ensures { named nothing node ≡ Ref.Fixed result }
 {
     match node {
-        Ref::Fixed(id) | Ref::Own(id) => Ref::Fixed(id),
-        Ref::Older(_) => Ref::Fixed(0),
+        Ref::Fixed(id) | Ref::Own(id) => id,
+        Ref::Older(_) => 0,
+    }
+}
+
+/// The child told so.
+fn told_child(child: Child<'_>) -> Child<'_>
+    ensures { result ≡ named_child nothing child.entry }
+{
+    match child {
+        Child::Element(node) => Child::Element(Ref::Fixed(told(node))),
+        Child::Text(text) => Child::Text(text),
+        Child::Comment(text) => Child::Comment(text),
+        Child::Doctype(doctype) => Child::Doctype(doctype),
     }
 }
 
@@ -404,30 +409,5 @@ impl<'p> Tree<'p> {
                 _ => None,
             },
         }
-    }
-}
-
-/// The place told so.
-fn told_place(place: Place) -> Place
-    ensures { result ≡ named_place nothing place }
-{
-    match place {
-        Place::Into(parent) => Place::Into(told(parent)),
-        Place::Foster { table, above } => Place::Foster {
-            table: told(table),
-            above: told(above),
-        },
-    }
-}
-
-/// The child told so.
-fn told_child(child: Child<'_>) -> Child<'_>
-    ensures { result ≡ named_child nothing child.entry }
-{
-    match child {
-        Child::Element(node) => Child::Element(told(node)),
-        Child::Text(text) => Child::Text(text),
-        Child::Comment(text) => Child::Comment(text),
-        Child::Doctype(doctype) => Child::Doctype(doctype),
     }
 }
