@@ -49,10 +49,7 @@ pub fn push_within<T: Drop>(items: &mut Vec<T>, item: T)
     ensures len { vec_len items.new ≡ vec_len items.old + 1 }
     ensures capacity { vec_capacity items.old ≤ vec_capacity items.new }
 {
-    match items.push(item) {
-        Ok(()) => {}
-        Err(_) => unreachable!(),
-    }
+    items.push_reserved(item);
 }
 
 /// A list of this one text, in a cell that was made before.
@@ -221,6 +218,7 @@ pub fn add_text<'p>(
 }
 
 /// Puts a new leaf before a node.
+#[inline(always)]
 pub fn add_leaf<'p>(nodes: &mut Vec<Node>, leaves: &mut Vec<Leaf<'p>>, at: u32, leaf: Leaf<'p>)
     requires nodes_room { vec_len nodes.old < vec_capacity nodes.old }
     requires leaves_room { vec_len leaves.old < vec_capacity leaves.old }

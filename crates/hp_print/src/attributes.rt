@@ -48,6 +48,7 @@ fn space_text(space: AttributeSpace) -> &'static str
 }
 
 /// Prints an attribute.
+#[inline(always)]
 fn print_attribute<K: Sink>(out: &mut Out, sink: &mut K, attribute: Shown<'_>, depth: u64)
     requires { depth < 2 ^ 63 }
     ensures { Prints out.old out.new (K.taken sink.old, K.faults sink.old) (K.taken sink.new, K.faults sink.new) (attribute_line depth (attribute_of attribute.entry)) }
@@ -95,6 +96,7 @@ fn compare(word: &str, name: &str, other_word: &str, other_name: &str) -> Orderi
 }
 
 /// How two names compare whose first letters are ASCII and differ.
+#[inline(always)]
 fn compare_fronts(name: &str, other: &str) -> Option<Ordering>
     ensures { IfSome result (λ order. order ≡ by_units (chars name.now) (chars other.now)) }
 {
@@ -113,6 +115,7 @@ fn compare_fronts(name: &str, other: &str) -> Option<Ordering>
 }
 
 /// How the printed names of two attributes compare, where their first letters tell.
+#[inline(always)]
 fn compare_plain(first: Shown<'_>, second: Shown<'_>) -> Option<Ordering>
     ensures { IfSome result (λ order. order ≡ by_units (printed_name (attribute_of first.entry)) (printed_name (attribute_of second.entry))) }
 {
@@ -123,12 +126,21 @@ fn compare_plain(first: Shown<'_>, second: Shown<'_>) -> Option<Ordering>
 }
 
 /// How the printed names of two attributes compare.
+#[inline(always)]
 fn compare_names(first: Shown<'_>, second: Shown<'_>) -> Ordering
     ensures { result ≡ by_units (printed_name (attribute_of first.entry)) (printed_name (attribute_of second.entry)) }
 {
-    if let Some(order) = compare_plain(first, second) {
-        return order;
+    match compare_plain(first, second) {
+        Some(order) => order,
+        None => compare_whole(first, second),
     }
+}
+
+/// The same by all their letters.
+#[inline(never)]
+fn compare_whole(first: Shown<'_>, second: Shown<'_>) -> Ordering
+    ensures { result ≡ by_units (printed_name (attribute_of first.entry)) (printed_name (attribute_of second.entry)) }
+{
     let word = space_text(first.space);
     let other_word = space_text(second.space);
     compare(word, first.name, other_word, second.name)
@@ -156,6 +168,7 @@ fn sort(shown: &mut Vec<Shown<'_>>) -> Result<(), NoMemory>
 }
 
 /// Whether an attribute doesn't come before the one that it follows, if any.
+#[inline(always)]
 fn follows(before: Option<Shown<'_>>, shown: Shown<'_>) -> bool
     ensures { result ≡ follows before.entry shown.entry }
 {
@@ -258,6 +271,35 @@ fn sorted<'t>(alloc: Global, attributes: &'t Chain<Attribute>) -> Result<Vec<Sho
     Ok(sorted)
 }
 
+/// Prints two attributes in their order.
+#[inline(never)]
+fn print_two<K: Sink>(out: &mut Out, sink: &mut K, attributes: &Chain<Attribute>, depth: u64)
+    requires two { length attributes.now ≡ 2 }
+    requires depth { depth < 2 ^ 63 }
+    ensures { Prints out.old out.new (K.taken sink.old, K.faults sink.old) (K.taken sink.new, K.faults sink.new) (attribute_lines depth (in_order attributes.now)) }
+{
+    let mut rest = attributes.iter();
+    let Some(first) = rest.next() else { return };
+    let Some(second) = rest.next() else { return };
+    let first = Shown::of(first);
+    let second = Shown::of(second);
+    if follows(Some(first), second) {
+        print_both(out, sink, first, second, depth);
+    } else {
+        print_both(out, sink, second, first, depth);
+    }
+}
+
+/// Prints one attribute and then another.
+#[tactic(auto, using(crate::proofs::Pieces::prints_then))]
+fn print_both<K: Sink>(out: &mut Out, sink: &mut K, first: Shown<'_>, second: Shown<'_>, depth: u64)
+    requires { depth < 2 ^ 63 }
+    ensures { Prints out.old out.new (K.taken sink.old, K.faults sink.old) (K.taken sink.new, K.faults sink.new) (attribute_line depth (attribute_of first.entry) ++ attribute_line depth (attribute_of second.entry)) }
+{
+    print_attribute(out, sink, first, depth);
+    print_attribute(out, sink, second, depth);
+}
+
 /// More attributes than these are sorted where there is memory for it: putting them into order one by one takes time by the square
 /// of their number.
 const FEW: usize = 20;
@@ -277,6 +319,10 @@ pub fn print_attributes<'t, K: Sink>(
     ensures printed { Prints out.old out.new (K.taken sink.old, K.faults sink.old) (K.taken sink.new, K.faults sink.new) (attribute_lines depth (in_order attributes.now)) }
     ensures room { vec_capacity list.old ≤ vec_capacity list.new }
 {
+    if attributes.len() == 2 {
+        print_two(out, sink, attributes, depth);
+        return;
+    }
     if attributes.len() < 2 || is_in_order(attributes) {
         print_unsorted(out, sink, attributes, depth);
         return;

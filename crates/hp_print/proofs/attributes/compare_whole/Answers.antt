@@ -2,7 +2,7 @@ use Rattle.std.proofs.Common.{◌≡◌, ◌++◌, ap, ◌∙◌}
 use Rattle.std.specs.Str.{chars}
 use Rattle.hp_print.specs.Order.{by_units, space_word}
 use Rattle.hp_print.proofs.Sorting.{chars_word}
-use Rattle.hp_print.proofs.attributes.compare_names.Goals as goal
+use Rattle.hp_print.proofs.attributes.compare_whole.Goals as goal
 
 pub returns : goal.returns
 returns c =
