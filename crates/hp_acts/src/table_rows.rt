@@ -15,19 +15,19 @@ use std::alloc::Global;
 pub(crate) fn begin_row<'p, B: Below>(
     alloc: Global,
     view: &mut View<'p, B>,
-    tag: Tag,
+    tag: &mut Tag,
 ) -> Result<(), Refusal>
-    requires html { tag.namespace ≡ Html }
-    ensures { Carries result (sight B.heard view.old) (sight B.heard view.new) (row_plan tag) }
+    requires html { tag.old.namespace ≡ Html }
+    ensures { Carries result (sight B.heard view.old) (sight B.heard view.new) (row_plan tag.old) }
 {
     view.pop_to(alloc, Kinds::Set(SetName::TableBodyContext))?;
     enter_row(alloc, view, tag)
 }
 
 #[inline(always)]
-fn enter_row<'p, B: Below>(alloc: Global, view: &mut View<'p, B>, tag: Tag) -> Result<(), Refusal>
-    requires html { tag.namespace ≡ Html }
-    ensures { Carries result (sight B.heard view.old) (sight B.heard view.new) (row_after_plan tag) }
+fn enter_row<'p, B: Below>(alloc: Global, view: &mut View<'p, B>, tag: &mut Tag) -> Result<(), Refusal>
+    requires html { tag.old.namespace ≡ Html }
+    ensures { Carries result (sight B.heard view.old) (sight B.heard view.new) (row_after_plan tag.old) }
 {
     insert(alloc, view, tag)?;
     view.switch_to(alloc, Mode::InRow)
@@ -38,19 +38,19 @@ fn enter_row<'p, B: Below>(alloc: Global, view: &mut View<'p, B>, tag: Tag) -> R
 pub(crate) fn begin_cell<'p, B: Below>(
     alloc: Global,
     view: &mut View<'p, B>,
-    tag: Tag,
+    tag: &mut Tag,
 ) -> Result<(), Refusal>
-    requires html { tag.namespace ≡ Html }
-    ensures { Carries result (sight B.heard view.old) (sight B.heard view.new) (cell_plan tag) }
+    requires html { tag.old.namespace ≡ Html }
+    ensures { Carries result (sight B.heard view.old) (sight B.heard view.new) (cell_plan tag.old) }
 {
     view.pop_to(alloc, Kinds::Set(SetName::TableRowContext))?;
     enter_cell(alloc, view, tag)
 }
 
 #[inline(always)]
-fn enter_cell<'p, B: Below>(alloc: Global, view: &mut View<'p, B>, tag: Tag) -> Result<(), Refusal>
-    requires html { tag.namespace ≡ Html }
-    ensures { Carries result (sight B.heard view.old) (sight B.heard view.new) (cell_after_plan tag) }
+fn enter_cell<'p, B: Below>(alloc: Global, view: &mut View<'p, B>, tag: &mut Tag) -> Result<(), Refusal>
+    requires html { tag.old.namespace ≡ Html }
+    ensures { Carries result (sight B.heard view.old) (sight B.heard view.new) (cell_after_plan tag.old) }
 {
     insert(alloc, view, tag)?;
     mark_cell(alloc, view)
