@@ -1,8 +1,7 @@
 -- What an end tag does by which the current node ends: it is popped.
-use Rattle.std.proofs.Common.{◌≡◌, ℕ, suc, ◌-◌, ◌≤◌, Bool, true, false, ◌&&◌, List, [], ◌∷◌, Option, Some, None, Result, Ok, Err, length, drop, ap, refl, sym, subst, ◌∙◌, arith}
-use Rattle.std.specs.Prelude.{not, if◌then◌else◌}
+use Rattle.std.proofs.Common.{◌≡◌, ℕ, ◌-◌, ◌≤◌, Bool, true, false, ◌&&◌, List, [], ◌∷◌, Option, Some, None, Result, Ok, Err, length, ap, refl, sym, subst, ◌∙◌, arith, inl, inr}
+use Rattle.std.specs.Prelude.{not, min, drop, if◌then◌else◌}
 use Rattle.hp_elements.specs.Names.{known_of, text_of}
-use Rattle.hp_elements.specs.declared.act.Scope.TheVariants as scope
 use Rattle.hp_elements.specs.declared.kinds.Kinds.{Kinds}
 use Rattle.hp_elements.specs.declared.kinds.Kinds.TheVariants as kinds
 use Rattle.hp_elements.specs.declared.known.Known.{Known}
@@ -16,14 +15,14 @@ use Rattle.hp_control.specs.Faithful.{Page, Split}
 use Rattle.hp_control.specs.KindTests.{within}
 use Rattle.hp_control.specs.Plan.{Plan, Heard, gives, followed_by, Runs}
 use Rattle.hp_control.specs.Running.{runs_gives}
-use Rattle.hp_views.specs.ClosingPlans.{close_paragraph_plan}
-use Rattle.hp_views.specs.StackPlans.{in_scope_plan, own_popped, own_popped_on, pop_run_on, pop_run_plan, seen_on, seen_plan, through_on, through_plan}
+use Rattle.hp_views.specs.ClosingPlans.{close_paragraph_plan, close_plan, either, leaves_it}
+use Rattle.hp_views.specs.StackPlans.{own_popped, own_popped_on, pop_run_on, pop_run_plan, seen_on, seen_plan, through_on, through_plan}
 use Rattle.hp_views.specs.View.{Sight, Carries}
 use Rattle.hp_views.specs.Walks.{deeper, run_walk, walk_of}
 use Rattle.hp_views.specs.declared.walks.Walk.{Walk}
 use Rattle.hp_views.specs.declared.walks.Walk.TheVariants.{Found, Stopped}
 use Rattle.hp_acts.specs.Plans.{implied_but_plan}
-use Rattle.hp_acts.specs.TopEnds.{ends_top}
+use Rattle.hp_acts.specs.TopEnds.{EndsDescription, ends_top}
 use Rattle.hp_acts.specs.Usual.{block_end_by, block_end_plan, cell_closed_plan, cell_end_by, cell_end_plan, cell_left_plan, description_end_by, description_end_plan, item_end_by, item_end_plan, paragraph_end_by, paragraph_end_plan}
 
 first_of : (a b : Bool) → (a && b) ≡ true → a ≡ true
@@ -55,15 +54,18 @@ tops_by : (passed : SetName) (name : List ℕ) (v : Split) (es : List OpenElemen
 tops_by passed name v [] p h = absurd (cc)
 tops_by passed name v (e ∷ es) p h = record {
   found = λ stops. ap (walk_of (kinds.Html name) stops) (sym p) ∙ found_first name stops e es (first_of (within (kinds.Html name) e) (not (within (kinds.Set passed) e)) h);
-  stays = ap (run_walk (kinds.Set passed)) (sym p) ∙ stays_first passed e es (second_of (within (kinds.Html name) e) (within (kinds.Set passed) e) h)
+  stays = ap (run_walk (kinds.Set passed)) (sym p) ∙ stays_first passed e es (second_of (within (kinds.Html name) e) (within (kinds.Set passed) e) h);
 }
 
 tops : (passed : SetName) (name : List ℕ) (v : Split) → ends_top passed name v.change.stack ≡ true → Tops passed name v
 tops passed name v h = tops_by passed name v v.change.stack refl h
 
+none_least : (n : ℕ) → min 0 n ≡ 0
+none_least n = omega arith
+
 popped_none : (page : Option Page) (es : List OpenElement) → own_popped_on page 0 es ≡ es
 popped_none None es = refl
-popped_none (Some p) es = refl
+popped_none (Some p) es = ap (λ (n : ℕ). drop n es) (none_least (length es - 1))
 
 none_popped : (v : Split) → own_popped 0 v ≡ v
 none_popped v = ap (λ (es : List OpenElement). record v { change = record v.change { stack = es } }) (popped_none v.page v.change.stack)
@@ -88,10 +90,9 @@ item_ends : (v : Split) → Tops set.ImpliedButLi (text_of known.Li) v → item_
 item_ends v t = ap (λ (p : Plan Bool). followed_by p (item_end_by v)) (seen set.ImpliedButLi (text_of known.Li) v (kinds.Set set.ListItemScopeEnds) t) ∙ closed set.ImpliedButLi (text_of known.Li) v t
 
 paragraph_closes : (v : Split) → Tops set.ImpliedButP (text_of known.P) v → close_paragraph_plan v ≡ gives (own_popped 1 v)
-paragraph_closes v t = closed_by (seen set.ImpliedButP (text_of known.P) v (kinds.Set set.ButtonScopeEnds) t)
-  where
-    closed_by : in_scope_plan scope.Button (kinds.Html (text_of known.P)) v ≡ gives true → close_paragraph_plan v ≡ gives (own_popped 1 v)
-    closed_by s = ap (λ (p : Plan Bool). followed_by p (λ b. either (close_plan known.P) leaves_it b v)) s ∙ closed set.ImpliedButP (text_of known.P) v t
+paragraph_closes v t =
+    ap (λ (p : Plan Bool). followed_by p (λ b. either (close_plan known.P) leaves_it b v)) (seen set.ImpliedButP (text_of known.P) v (kinds.Set set.ButtonScopeEnds) t)
+    ∙ closed set.ImpliedButP (text_of known.P) v t
 
 paragraph_ends : (v : Split) → Tops set.ImpliedButP (text_of known.P) v → paragraph_end_plan v ≡ gives (own_popped 1 v)
 paragraph_ends v t = ap (λ (p : Plan Bool). followed_by p (paragraph_end_by v)) (seen set.ImpliedButP (text_of known.P) v (kinds.Set set.ButtonScopeEnds) t) ∙ paragraph_closes v t
@@ -123,19 +124,20 @@ runs_popped old new plan e s b =
 pub block_ended : (old new : Sight) (name : List ℕ) → ends_top set.Implied name old.split.change.stack ≡ true → new.split ≡ own_popped 1 old.split → new.heard ≡ old.heard → Runs old.heard new.heard (block_end_plan name old.split) (Ok new.split)
 block_ended old new name h s b = runs_popped old new (block_end_plan name old.split) (block_ends name old.split (tops set.Implied name old.split h)) s b
 
-pub item_ended : (old new : Sight) (name : List ℕ) → name ≡ text_of known.Li → ends_top set.ImpliedButLi name old.split.change.stack ≡ true → new.split ≡ own_popped 1 old.split → new.heard ≡ old.heard → Runs old.heard new.heard (item_end_plan old.split) (Ok new.split)
-item_ended old new name n h s b =
-    let P : List ℕ → Type 0 = λ x. ends_top set.ImpliedButLi x old.split.change.stack ≡ true in
-    runs_popped old new (item_end_plan old.split) (item_ends old.split (tops set.ImpliedButLi (text_of known.Li) old.split (subst P n h))) s b
+pub item_ended : (old new : Sight) → ends_top set.ImpliedButLi (text_of known.Li) old.split.change.stack ≡ true → new.split ≡ own_popped 1 old.split → new.heard ≡ old.heard → Runs old.heard new.heard (item_end_plan old.split) (Ok new.split)
+item_ended old new h s b = runs_popped old new (item_end_plan old.split) (item_ends old.split (tops set.ImpliedButLi (text_of known.Li) old.split h)) s b
 
-pub paragraph_ended : (old new : Sight) (name : List ℕ) → name ≡ text_of known.P → ends_top set.ImpliedButP name old.split.change.stack ≡ true → new.split ≡ own_popped 1 old.split → new.heard ≡ old.heard → Runs old.heard new.heard (paragraph_end_plan old.split) (Ok new.split)
-paragraph_ended old new name n h s b =
-    let P : List ℕ → Type 0 = λ x. ends_top set.ImpliedButP x old.split.change.stack ≡ true in
-    runs_popped old new (paragraph_end_plan old.split) (paragraph_ends old.split (tops set.ImpliedButP (text_of known.P) old.split (subst P n h))) s b
+pub paragraph_ended : (old new : Sight) → ends_top set.ImpliedButP (text_of known.P) old.split.change.stack ≡ true → new.split ≡ own_popped 1 old.split → new.heard ≡ old.heard → Runs old.heard new.heard (paragraph_end_plan old.split) (Ok new.split)
+paragraph_ended old new h s b = runs_popped old new (paragraph_end_plan old.split) (paragraph_ends old.split (tops set.ImpliedButP (text_of known.P) old.split h)) s b
 
 -- a term, or its description
-pub description_ended : (old new : Sight) (name : List ℕ) (k : Known) (passed : SetName) → known_of name ≡ Some k → IsItsOwn k passed → ends_top passed name old.split.change.stack ≡ true → new.split ≡ own_popped 1 old.split → new.heard ≡ old.heard → Runs old.heard new.heard (description_end_plan name old.split) (Ok new.split)
-description_ended old new name k passed n i h s b = runs_popped old new (description_end_plan name old.split) (both_end name old.split k passed n i (tops passed name old.split h)) s b
+pub description_ended : (old new : Sight) (name : List ℕ) → EndsDescription name old.split.change.stack → new.split ≡ own_popped 1 old.split → new.heard ≡ old.heard → Runs old.heard new.heard (description_end_plan name old.split) (Ok new.split)
+description_ended old new name (inl h) s b = runs_popped old new (description_end_plan name old.split) (term_ends name old.split h.0 (tops set.ImpliedButDt name old.split h.1)) s b
+description_ended old new name (inr h) s b = runs_popped old new (description_end_plan name old.split) (details_end name old.split h.0 (tops set.ImpliedButDd name old.split h.1)) s b
+
+pub description_there : (name : List ℕ) (es : List OpenElement) → EndsDescription name es → 1 ≤ length es
+description_there name es (inl h) = top_there set.ImpliedButDt name es h.1
+description_there name es (inr h) = top_there set.ImpliedButDd name es h.1
 
 pub cell_ended : (result : Result (Unit {0}) Refusal) (old mid new : Sight) (name : List ℕ) → ends_top set.Implied name old.split.change.stack ≡ true → mid.split ≡ own_popped 1 old.split → mid.heard ≡ old.heard → Carries result mid new cell_left_plan → Carries result old new (cell_end_plan name)
 cell_ended (Ok u) old mid new name h s b k =

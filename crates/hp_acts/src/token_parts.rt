@@ -142,11 +142,7 @@ pub(crate) fn into_html(tag: &mut Tag)
 pub(crate) fn taken_tag(tag: &mut Tag) -> Tag
     ensures { result ≡ tag.old }
 {
-    Tag {
-        namespace: tag.namespace,
-        name: taken_name(&mut tag.name),
-        attributes: tag.attributes.take_all(),
-    }
+    mem::replace(tag, bare(Known::A))
 }
 
 /// The name, moved out of its place.

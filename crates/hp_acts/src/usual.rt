@@ -20,9 +20,9 @@ ghost use Rattle.hp_acts.specs.Plans.{implied_but_plan};
 ghost use Rattle.hp_acts.specs.Spending.{html_tag};
 ghost use Rattle.hp_acts.specs.Usual.{HasIn, HasRow, IsUsual, begin_plan, block_end_by, block_end_plan, block_plan, closing_plan, description_after_plan, description_end_by, description_end_plan, description_plan, end_plan, formatting_plan, item_after_plan, item_end_by, item_end_plan, item_plan, link_plan, listed_plan, opening_plan, ordinary_plan, paragraph_end_by, paragraph_end_plan, usual_acts, usual_plan};
 
+use crate::ends::{close_block, close_description, close_item, close_paragraph};
 use crate::plain::is_in_html;
 use crate::table_rows::{begin_cell, begin_row, end_cell, end_row};
-use crate::inserts::insert_bare;
 use crate::token_parts::{Spending, into_html, name_of, take_tag, taken_name, taken_tag};
 use crate::turns::{Handled, NOTHING};
 use hp_adoption::{adopt, append_to_list, close_link, reconstruct};
@@ -450,7 +450,11 @@ pub(crate) fn insert<'p, B: Below>(
 }
 
 #[inline(always)]
-fn open_block<'p, B: Below>(alloc: Global, view: &mut View<'p, B>, tag: &mut Tag) -> Result<(), Refusal>
+fn open_block<'p, B: Below>(
+    alloc: Global,
+    view: &mut View<'p, B>,
+    tag: &mut Tag,
+) -> Result<(), Refusal>
     requires html { tag.old.namespace ≡ Html }
     ensures { Carries result (sight B.heard view.old) (sight B.heard view.new) (block_plan tag.old) }
 {
@@ -459,7 +463,11 @@ fn open_block<'p, B: Below>(alloc: Global, view: &mut View<'p, B>, tag: &mut Tag
 }
 
 #[inline(always)]
-fn open_item<'p, B: Below>(alloc: Global, view: &mut View<'p, B>, tag: &mut Tag) -> Result<(), Refusal>
+fn open_item<'p, B: Below>(
+    alloc: Global,
+    view: &mut View<'p, B>,
+    tag: &mut Tag,
+) -> Result<(), Refusal>
     requires html { tag.old.namespace ≡ Html }
     ensures { Carries result (sight B.heard view.old) (sight B.heard view.new) (item_plan tag.old) }
 {
@@ -509,7 +517,11 @@ fn open_description_after<'p, B: Below>(
 }
 
 #[inline(always)]
-fn open_link<'p, B: Below>(alloc: Global, view: &mut View<'p, B>, tag: &mut Tag) -> Result<(), Refusal>
+fn open_link<'p, B: Below>(
+    alloc: Global,
+    view: &mut View<'p, B>,
+    tag: &mut Tag,
+) -> Result<(), Refusal>
     requires html { tag.old.namespace ≡ Html }
     ensures { Carries result (sight B.heard view.old) (sight B.heard view.new) (link_plan tag.old) }
 {
@@ -540,9 +552,9 @@ fn insert_listed<'p, B: Below>(
     requires html { tag.old.namespace ≡ Html }
     ensures { Carries result (sight B.heard view.old) (sight B.heard view.new) (listed_plan tag.old) }
 {
-    let listed = tag.copy(alloc)?;
-    insert(alloc, view, tag)?;
-    append_to_list(alloc, view, listed)
+    let own = tag.copy(alloc)?;
+    view.insert(alloc, false, own, Point::No)?;
+    append_to_list(alloc, view, taken_tag(tag))
 }
 
 #[inline(always)]
@@ -556,131 +568,4 @@ fn open_ordinary<'p, B: Below>(
 {
     reconstruct(alloc, view, false)?;
     insert(alloc, view, tag)
-}
-
-#[inline(never)]
-fn close_block<'p, B: Below>(
-    alloc: Global,
-    view: &mut View<'p, B>,
-    name: Name,
-) -> Result<(), Refusal>
-    ensures { Carries result (sight B.heard view.old) (sight B.heard view.new) (block_end_plan name) }
-{
-    let goals = Kinds::Html(name.copy(alloc)?);
-    let is_open = view.in_scope(alloc, Scope::Default, goals)?;
-    end_block(alloc, view, name, is_open)
-}
-
-/// Closes the block of the name with what its end implies, where it is in scope.
-#[inline(always)]
-fn end_block<'p, B: Below>(
-    alloc: Global,
-    view: &mut View<'p, B>,
-    name: Name,
-    is_open: bool,
-) -> Result<(), Refusal>
-    ensures { Carries result (sight B.heard view.old) (sight B.heard view.new) (λ v. block_end_by name v is_open) }
-{
-    if is_open {
-        view.implied(alloc)?;
-        view.through(alloc, Kinds::Html(name), Kinds::Nothing)
-    } else {
-        Ok(())
-    }
-}
-
-#[inline(never)]
-fn close_item<'p, B: Below>(alloc: Global, view: &mut View<'p, B>) -> Result<(), Refusal>
-    ensures { Carries result (sight B.heard view.old) (sight B.heard view.new) item_end_plan }
-{
-    let goals = Kinds::Html(Name::of_known(Known::Li));
-    let is_open = view.in_scope(alloc, Scope::ListItem, goals)?;
-    end_item(alloc, view, is_open)
-}
-
-/// Closes the list item with what its end implies, where one is in scope.
-#[inline(always)]
-fn end_item<'p, B: Below>(
-    alloc: Global,
-    view: &mut View<'p, B>,
-    is_open: bool,
-) -> Result<(), Refusal>
-    ensures { Carries result (sight B.heard view.old) (sight B.heard view.new) (λ v. item_end_by v is_open) }
-{
-    if is_open {
-        view.implied_except(alloc, Known::Li)?;
-        view.through_named(alloc, Name::of_known(Known::Li))
-    } else {
-        Ok(())
-    }
-}
-
-#[inline(never)]
-fn close_description<'p, B: Below>(
-    alloc: Global,
-    view: &mut View<'p, B>,
-    name: Name,
-) -> Result<(), Refusal>
-    ensures { Carries result (sight B.heard view.old) (sight B.heard view.new) (description_end_plan name) }
-{
-    let goals = Kinds::Html(name.copy(alloc)?);
-    let is_open = view.in_scope(alloc, Scope::Default, goals)?;
-    end_description(alloc, view, name, is_open)
-}
-
-/// Closes the term or description with what its end implies, where it is in scope.
-#[inline(always)]
-fn end_description<'p, B: Below>(
-    alloc: Global,
-    view: &mut View<'p, B>,
-    name: Name,
-    is_open: bool,
-) -> Result<(), Refusal>
-    ensures { Carries result (sight B.heard view.old) (sight B.heard view.new) (λ v. description_end_by name v is_open) }
-{
-    if is_open {
-        implied_but(alloc, view, &name)?;
-        view.through(alloc, Kinds::Html(name), Kinds::Nothing)
-    } else {
-        Ok(())
-    }
-}
-
-/// Generates implied end tags, but not that of the name.
-fn implied_but<'p, B: Below>(
-    alloc: Global,
-    view: &mut View<'p, B>,
-    name: &Name,
-) -> Result<(), Refusal>
-    ensures { Carries result (sight B.heard view.old) (sight B.heard view.new) (implied_but_plan (known_of name.now)) }
-{
-    match name.known() {
-        Some(known) => view.implied_except(alloc, known),
-        None => view.implied(alloc),
-    }
-}
-
-fn close_paragraph<'p, B: Below>(alloc: Global, view: &mut View<'p, B>) -> Result<(), Refusal>
-    ensures { Carries result (sight B.heard view.old) (sight B.heard view.new) paragraph_end_plan }
-{
-    let goals = Kinds::Html(Name::of_known(Known::P));
-    let is_open = view.in_scope(alloc, Scope::Button, goals)?;
-    end_paragraph(alloc, view, is_open)
-}
-
-/// Closes the paragraph; where none is in scope, an empty one stands there.
-#[inline(always)]
-fn end_paragraph<'p, B: Below>(
-    alloc: Global,
-    view: &mut View<'p, B>,
-    is_open: bool,
-) -> Result<(), Refusal>
-    ensures { Carries result (sight B.heard view.old) (sight B.heard view.new) (λ v. paragraph_end_by v is_open) }
-{
-    if is_open {
-        view.close_paragraph(alloc)
-    } else {
-        insert_bare(alloc, view, false, Known::P)?;
-        view.close_paragraph(alloc)
-    }
 }
