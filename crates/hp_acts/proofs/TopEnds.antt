@@ -19,7 +19,6 @@ use Rattle.hp_views.specs.ClosingPlans.{close_paragraph_plan, close_plan, either
 use Rattle.hp_views.specs.StackPlans.{own_popped, own_popped_on, pop_run_on, pop_run_plan, seen_on, seen_plan, through_on, through_plan}
 use Rattle.hp_views.specs.View.{Sight, Carries}
 use Rattle.hp_views.specs.Walks.{deeper, run_walk, walk_of}
-use Rattle.hp_views.specs.declared.walks.Walk.{Walk}
 use Rattle.hp_views.specs.declared.walks.Walk.TheVariants.{Found, Stopped}
 use Rattle.hp_acts.specs.Plans.{implied_but_plan}
 use Rattle.hp_acts.specs.TopEnds.{EndsDescription, ends_top}
