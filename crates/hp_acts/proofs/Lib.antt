@@ -19,3 +19,4 @@ pub mod StepRuns
 pub mod LineFeeds
 pub mod UsualRuns
 pub mod TableRuns
+pub mod TopEnds

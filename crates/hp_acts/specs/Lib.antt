@@ -16,3 +16,4 @@ pub mod Told
 pub mod Older
 pub mod Usual
 pub mod TableText
+pub mod TopEnds

@@ -3,6 +3,7 @@
 
 mod acts;
 mod characters;
+mod ends;
 mod inserts;
 mod laws;
 mod plain;

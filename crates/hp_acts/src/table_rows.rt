@@ -4,6 +4,7 @@ ghost use Rattle.hp_elements.specs.declared.sets.Namespace.TheVariants.{Html};
 ghost use Rattle.hp_views.specs.View.{sight, Carries};
 ghost use Rattle.hp_acts.specs.Usual.{cell_after_plan, cell_begun_plan, cell_closed_plan, cell_end_by, cell_end_plan, cell_left_plan, cell_plan, row_after_plan, row_end_by, row_end_plan, row_left_plan, row_plan};
 
+use crate::ends::ends_top;
 use crate::usual::insert;
 use hp_control::{Below, Refusal};
 use hp_elements::{Kinds, Known, Mode, Name, Scope, SetName, Tag};
@@ -15,19 +16,23 @@ use std::alloc::Global;
 pub(crate) fn begin_row<'p, B: Below>(
     alloc: Global,
     view: &mut View<'p, B>,
-    tag: Tag,
+    tag: &mut Tag,
 ) -> Result<(), Refusal>
-    requires html { tag.namespace ≡ Html }
-    ensures { Carries result (sight B.heard view.old) (sight B.heard view.new) (row_plan tag) }
+    requires html { tag.old.namespace ≡ Html }
+    ensures { Carries result (sight B.heard view.old) (sight B.heard view.new) (row_plan tag.old) }
 {
     view.pop_to(alloc, Kinds::Set(SetName::TableBodyContext))?;
     enter_row(alloc, view, tag)
 }
 
 #[inline(always)]
-fn enter_row<'p, B: Below>(alloc: Global, view: &mut View<'p, B>, tag: Tag) -> Result<(), Refusal>
-    requires html { tag.namespace ≡ Html }
-    ensures { Carries result (sight B.heard view.old) (sight B.heard view.new) (row_after_plan tag) }
+fn enter_row<'p, B: Below>(
+    alloc: Global,
+    view: &mut View<'p, B>,
+    tag: &mut Tag,
+) -> Result<(), Refusal>
+    requires html { tag.old.namespace ≡ Html }
+    ensures { Carries result (sight B.heard view.old) (sight B.heard view.new) (row_after_plan tag.old) }
 {
     insert(alloc, view, tag)?;
     view.switch_to(alloc, Mode::InRow)
@@ -38,19 +43,23 @@ fn enter_row<'p, B: Below>(alloc: Global, view: &mut View<'p, B>, tag: Tag) -> R
 pub(crate) fn begin_cell<'p, B: Below>(
     alloc: Global,
     view: &mut View<'p, B>,
-    tag: Tag,
+    tag: &mut Tag,
 ) -> Result<(), Refusal>
-    requires html { tag.namespace ≡ Html }
-    ensures { Carries result (sight B.heard view.old) (sight B.heard view.new) (cell_plan tag) }
+    requires html { tag.old.namespace ≡ Html }
+    ensures { Carries result (sight B.heard view.old) (sight B.heard view.new) (cell_plan tag.old) }
 {
     view.pop_to(alloc, Kinds::Set(SetName::TableRowContext))?;
     enter_cell(alloc, view, tag)
 }
 
 #[inline(always)]
-fn enter_cell<'p, B: Below>(alloc: Global, view: &mut View<'p, B>, tag: Tag) -> Result<(), Refusal>
-    requires html { tag.namespace ≡ Html }
-    ensures { Carries result (sight B.heard view.old) (sight B.heard view.new) (cell_after_plan tag) }
+fn enter_cell<'p, B: Below>(
+    alloc: Global,
+    view: &mut View<'p, B>,
+    tag: &mut Tag,
+) -> Result<(), Refusal>
+    requires html { tag.old.namespace ≡ Html }
+    ensures { Carries result (sight B.heard view.old) (sight B.heard view.new) (cell_after_plan tag.old) }
 {
     insert(alloc, view, tag)?;
     mark_cell(alloc, view)
@@ -102,6 +111,22 @@ fn leave_row<'p, B: Below>(alloc: Global, view: &mut View<'p, B>) -> Result<(), 
 /// A cell ends.
 #[inline(never)]
 pub(crate) fn end_cell<'p, B: Below>(
+    alloc: Global,
+    view: &mut View<'p, B>,
+    name: Name,
+) -> Result<(), Refusal>
+    ensures { Carries result (sight B.heard view.old) (sight B.heard view.new) (cell_end_plan name) }
+{
+    if ends_top(&view.change.stack, &name, SetName::Implied) {
+        view.pop_own(1);
+        return leave_cell(alloc, view);
+    }
+    end_cell_any(alloc, view, name)
+}
+
+/// The same where it may not be the current node.
+#[inline(never)]
+fn end_cell_any<'p, B: Below>(
     alloc: Global,
     view: &mut View<'p, B>,
     name: Name,

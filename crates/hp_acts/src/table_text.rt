@@ -8,7 +8,8 @@ ghost use Rattle.hp_acts.specs.Handling.{Handles};
 ghost use Rattle.hp_acts.specs.TableText.{BeginsText, ContinuesText, EndsText, begin_plan, begun, continue_plan, end_plan, is_characters, is_part_mode, is_waiting, turns_from, waits, waits_at};
 
 use crate::characters::append_pending;
-use crate::plain::{is_in_html, is_run};
+use crate::plain::{is_in_html, is_plain, is_run, put_plain};
+use crate::token_parts::taken;
 use crate::turns::{Handled, NOTHING, most_turns, take_all_turns, take_turns};
 use crate::usual::{handle_usual, usual_row};
 use hp_adoption::flush;
@@ -90,13 +91,13 @@ fn ends<'p, B: Below>(view: &View<'p, B>, token: &Token<'p>) -> bool
 pub(crate) fn handle_other<'p, B: Below>(
     alloc: Global,
     view: &mut View<'p, B>,
-    token: Token<'p>,
+    token: &mut Token<'p>,
 ) -> Result<Handled, Refusal>
-    ensures { Handles result (sight B.heard view.old) (sight B.heard view.new) (all_turns_plan token.entry) }
+    ensures { Handles result (sight B.heard view.old) (sight B.heard view.new) (all_turns_plan token.old) }
 {
-    if ends(view, &token) {
+    if ends(view, token) {
         end(alloc, view, token)
-    } else if begins(view, &token) {
+    } else if begins(view, token) {
         begin(alloc, view, token)
     } else {
         handle_inside(alloc, view, token)
@@ -107,14 +108,29 @@ pub(crate) fn handle_other<'p, B: Below>(
 fn handle_inside<'p, B: Below>(
     alloc: Global,
     view: &mut View<'p, B>,
-    token: Token<'p>,
+    token: &mut Token<'p>,
 ) -> Result<Handled, Refusal>
-    ensures { Handles result (sight B.heard view.old) (sight B.heard view.new) (all_turns_plan token.entry) }
+    ensures { Handles result (sight B.heard view.old) (sight B.heard view.new) (all_turns_plan token.old) }
 {
-    if continues(view, &token) {
+    if continues(view, token) {
         go_on(alloc, view, token)
     } else {
-        take_all_turns(alloc, view, token)
+        handle_plainly(alloc, view, token)
+    }
+}
+
+/// The same where it doesn't wait.
+fn handle_plainly<'p, B: Below>(
+    alloc: Global,
+    view: &mut View<'p, B>,
+    token: &mut Token<'p>,
+) -> Result<Handled, Refusal>
+    ensures { Handles result (sight B.heard view.old) (sight B.heard view.new) (all_turns_plan token.old) }
+{
+    if is_plain(view, token) {
+        put_plain(alloc, view, taken(token))
+    } else {
+        take_all_turns(alloc, view, taken(token))
     }
 }
 
@@ -140,28 +156,17 @@ fn begin_run<'p, B: Below>(
     append_pending(alloc, view, token)
 }
 
-#[inline(always)]
-fn begin_with<'p, B: Below>(
-    alloc: Global,
-    view: &mut View<'p, B>,
-    token: Token<'p>,
-) -> Result<(), Refusal>
-    ensures { Carries result (sight B.heard view.old) (sight B.heard view.new) (begin_plan token.entry) }
-{
-    begin_run(alloc, view, &token)
-}
-
 /// The first run of characters waits.
 #[inline(always)]
 fn begin<'p, B: Below>(
     alloc: Global,
     view: &mut View<'p, B>,
-    token: Token<'p>,
+    token: &Token<'p>,
 ) -> Result<Handled, Refusal>
-    requires { BeginsText (split_of view.old) token }
-    ensures { Handles result (sight B.heard view.old) (sight B.heard view.new) (all_turns_plan token.entry) }
+    requires { BeginsText (split_of view.old) token.now }
+    ensures { Handles result (sight B.heard view.old) (sight B.heard view.new) (all_turns_plan token.now) }
 {
-    match begin_with(alloc, view, token) {
+    match begin_run(alloc, view, token) {
         Ok(()) => Ok(NOTHING),
         Err(refused) => Err(refused),
     }
@@ -171,11 +176,11 @@ fn begin<'p, B: Below>(
 fn go_on_with<'p, B: Below>(
     alloc: Global,
     view: &mut View<'p, B>,
-    token: Token<'p>,
+    token: &Token<'p>,
 ) -> Result<(), Refusal>
-    ensures { Carries result (sight B.heard view.old) (sight B.heard view.new) (continue_plan token.entry) }
+    ensures { Carries result (sight B.heard view.old) (sight B.heard view.new) (continue_plan token.now) }
 {
-    append_pending(alloc, view, &token)
+    append_pending(alloc, view, token)
 }
 
 /// A further run waits.
@@ -183,10 +188,10 @@ fn go_on_with<'p, B: Below>(
 fn go_on<'p, B: Below>(
     alloc: Global,
     view: &mut View<'p, B>,
-    token: Token<'p>,
+    token: &Token<'p>,
 ) -> Result<Handled, Refusal>
-    requires { ContinuesText (split_of view.old) token }
-    ensures { Handles result (sight B.heard view.old) (sight B.heard view.new) (all_turns_plan token.entry) }
+    requires { ContinuesText (split_of view.old) token.now }
+    ensures { Handles result (sight B.heard view.old) (sight B.heard view.new) (all_turns_plan token.now) }
 {
     match go_on_with(alloc, view, token) {
         Ok(()) => Ok(NOTHING),
@@ -208,10 +213,10 @@ fn leave<'p, B: Below>(alloc: Global, view: &mut View<'p, B>) -> Result<(), Refu
 fn end<'p, B: Below>(
     alloc: Global,
     view: &mut View<'p, B>,
-    token: Token<'p>,
+    token: &mut Token<'p>,
 ) -> Result<Handled, Refusal>
-    requires { EndsText (split_of view.old) token }
-    ensures { Handles result (sight B.heard view.old) (sight B.heard view.new) (all_turns_plan token.entry) }
+    requires { EndsText (split_of view.old) token.old }
+    ensures { Handles result (sight B.heard view.old) (sight B.heard view.new) (all_turns_plan token.old) }
 {
     let most = most_turns(view.change.stack.len()) - 1;
     match leave(alloc, view) {
@@ -225,14 +230,14 @@ fn end<'p, B: Below>(
 fn handle_left<'p, B: Below>(
     alloc: Global,
     view: &mut View<'p, B>,
-    token: Token<'p>,
+    token: &mut Token<'p>,
     most: u128,
 ) -> Result<Handled, Refusal>
     requires { 0 < most }
-    ensures { Handles result (sight B.heard view.old) (sight B.heard view.new) (turns_from most token.entry) }
+    ensures { Handles result (sight B.heard view.old) (sight B.heard view.new) (turns_from most token.old) }
 {
-    match usual_row(view, &token) {
+    match usual_row(view, token) {
         Some(row) => handle_usual(alloc, view, token, row),
-        None => take_turns(alloc, view, token, most),
+        None => take_turns(alloc, view, taken(token), most),
     }
 }

@@ -129,49 +129,36 @@ pub(crate) fn take_tag(
     })
 }
 
-/// The HTML tag of a start tag, whole. Of another token it has its name and no attributes.
+/// Makes the tag an HTML one.
 #[inline(always)]
-pub(crate) fn into_tag(alloc: Global, token: Token<'_>) -> Result<Tag, NoMemory>
-    ensures { IfOk result (λ tag. tag ≡ html_tag token.entry) }
+pub(crate) fn into_html(tag: &mut Tag)
+    ensures { tag.new ≡ record tag.old { namespace = Html } }
 {
-    match token {
-        Token::Start { tag, .. } => Ok(into_html(tag)),
-        token => {
-            let name = own_name(alloc, &token)?;
-            Ok(Tag {
-                namespace: Namespace::Html,
-                name,
-                attributes: Chain::new(),
-            })
-        }
-    }
+    tag.namespace = Namespace::Html;
 }
 
+/// The tag, moved out of its place.
 #[inline(always)]
-fn into_html(tag: Tag) -> Tag
-    ensures { result ≡ record tag { namespace = Html } }
+pub(crate) fn taken_tag(tag: &mut Tag) -> Tag
+    ensures { result ≡ tag.old }
 {
-    let Tag {
-        name,
-        attributes,
-        ..
-    } = tag;
-    Tag {
-        namespace: Namespace::Html,
-        name,
-        attributes,
-    }
+    mem::replace(tag, bare(Known::A))
 }
 
-/// The token's own name; the empty one where it has none.
+/// The name, moved out of its place.
 #[inline(always)]
-pub(crate) fn into_name(alloc: Global, token: Token<'_>) -> Result<Name, NoMemory>
-    ensures { IfOk result (λ name. name ≡ name_of token.entry) }
+pub(crate) fn taken_name(name: &mut Name) -> Name
+    ensures { result ≡ name.old }
 {
-    match token {
-        Token::EndTag { name } => Ok(name),
-        token => own_name(alloc, &token),
-    }
+    mem::replace(name, Name::of_known(Known::A))
+}
+
+/// The token, moved out of its place.
+#[inline(always)]
+pub(crate) fn taken<'p>(token: &mut Token<'p>) -> Token<'p>
+    ensures { result ≡ token.old }
+{
+    mem::replace(token, Token::EndOfInput)
 }
 
 /// A text that is moved out of its place, or copied.

@@ -16,7 +16,6 @@ ghost use Rattle.hp_acts.specs.declared.token_parts.Spending.TheVariants.{Copies
 ghost use Rattle.hp_acts.specs.declared.turns.Next.TheVariants.{Again, At, Done, Rules};
 
 use crate::acts::carry_out;
-use crate::plain::{is_plain, put_plain};
 use crate::questions::holds;
 use crate::rows::{Row, foreign_row, row_in};
 use crate::table_text::handle_other;
@@ -340,25 +339,23 @@ pub fn handle<'p, B: Below>(
 ) -> Result<Handled, Refusal>
     ensures plan { Handles result (sight B.heard view.old) (sight B.heard view.new) (handle_plan token.entry) }
 {
-    if !view.change.skip_lf {
-        return handle_whole(alloc, view, token);
+    if view.change.skip_lf {
+        return handle_skipping(alloc, view, token);
     }
-    handle_skipping(alloc, view, token)
+    let mut token = token;
+    handle_whole(alloc, view, &mut token)
 }
 
-/// The same where none is to be dropped: text and usual rows straight, and others by the table.
+/// The same where none is to be dropped: usual rows straight, and others by the table.
 #[inline(always)]
 fn handle_whole<'p, B: Below>(
     alloc: Global,
     view: &mut View<'p, B>,
-    token: Token<'p>,
+    token: &mut Token<'p>,
 ) -> Result<Handled, Refusal>
-    ensures { Handles result (sight B.heard view.old) (sight B.heard view.new) (all_turns_plan token.entry) }
+    ensures { Handles result (sight B.heard view.old) (sight B.heard view.new) (all_turns_plan token.old) }
 {
-    if is_plain(view, &token) {
-        return put_plain(alloc, view, token);
-    }
-    match usual_row(view, &token) {
+    match usual_row(view, token) {
         Some(row) => handle_usual(alloc, view, token, row),
         None => handle_other(alloc, view, token),
     }

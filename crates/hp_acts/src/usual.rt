@@ -15,16 +15,19 @@ ghost use Rattle.hp_views.specs.View.{sight, split_of, Carries};
 ghost use Rattle.hp_views.specs.PlacePlans.{insert_plan};
 ghost use Rattle.hp_acts.specs.TableText.{turns_from};
 ghost use Rattle.hp_acts.specs.Handling.{Handles};
+ghost use Rattle.hp_model.specs.Tokens.{name_of};
 ghost use Rattle.hp_acts.specs.Plans.{implied_but_plan};
+ghost use Rattle.hp_acts.specs.Spending.{html_tag};
 ghost use Rattle.hp_acts.specs.Usual.{HasIn, HasRow, IsUsual, begin_plan, block_end_by, block_end_plan, block_plan, closing_plan, description_after_plan, description_end_by, description_end_plan, description_plan, end_plan, formatting_plan, item_after_plan, item_end_by, item_end_plan, item_plan, link_plan, listed_plan, opening_plan, ordinary_plan, paragraph_end_by, paragraph_end_plan, usual_acts, usual_plan};
 
+use crate::ends::{close_block, close_description, close_item, close_paragraph};
 use crate::plain::is_in_html;
 use crate::table_rows::{begin_cell, begin_row, end_cell, end_row};
-use crate::token_parts::{bare, into_name, into_tag};
+use crate::token_parts::{Spending, into_html, name_of, take_tag, taken_name, taken_tag};
 use crate::turns::{Handled, NOTHING};
 use hp_adoption::{adopt, append_to_list, close_link, reconstruct};
 use hp_control::{Below, Refusal};
-use hp_elements::{Kinds, Known, Mode, Name, Point, Scope, Tag, Token};
+use hp_elements::{Kinds, Known, Mode, Name, Point, Scope, Tag, Token, Which};
 use hp_views::View;
 use std::alloc::Global;
 
@@ -212,11 +215,11 @@ pub(crate) fn usual_row<'p, B: Below>(view: &View<'p, B>, token: &Token<'p>) -> 
 pub(crate) fn handle_usual<'p, B: Below>(
     alloc: Global,
     view: &mut View<'p, B>,
-    token: Token<'p>,
+    token: &mut Token<'p>,
     row: UsualRow,
 ) -> Result<Handled, Refusal>
-    requires { IsUsual (split_of view.old) token row }
-    ensures { (n : ℕ) → 0 < n → Handles result (sight B.heard view.old) (sight B.heard view.new) (turns_from n token.entry) }
+    requires { IsUsual (split_of view.old) token.old row }
+    ensures { (n : ℕ) → 0 < n → Handles result (sight B.heard view.old) (sight B.heard view.new) (turns_from n token.old) }
 {
     match carry_usual(alloc, view, token, row) {
         Ok(()) => Ok(NOTHING),
@@ -228,40 +231,150 @@ pub(crate) fn handle_usual<'p, B: Below>(
 fn carry_usual<'p, B: Below>(
     alloc: Global,
     view: &mut View<'p, B>,
-    token: Token<'p>,
+    token: &mut Token<'p>,
     row: UsualRow,
 ) -> Result<(), Refusal>
-    ensures { Carries result (sight B.heard view.old) (sight B.heard view.new) (usual_plan row token.entry) }
+    ensures { Carries result (sight B.heard view.old) (sight B.heard view.new) (usual_plan row token.old) }
 {
     match row {
-        UsualRow::Opens(row) => {
-            let tag = into_tag(alloc, token)?;
+        UsualRow::Opens(row) => open_token(alloc, view, token, row),
+        UsualRow::Closes(row) => close_token(alloc, view, token, row),
+        UsualRow::Begins(part) => begin_token(alloc, view, token, part),
+        UsualRow::Ends(part) => end_token(alloc, view, token, part),
+    }
+}
+
+#[inline(always)]
+fn open_token<'p, B: Below>(
+    alloc: Global,
+    view: &mut View<'p, B>,
+    token: &mut Token<'p>,
+    row: Opening,
+) -> Result<(), Refusal>
+    ensures { Carries result (sight B.heard view.old) (sight B.heard view.new) (opening_plan row (html_tag token.old)) }
+{
+    match token {
+        Token::Start { tag, .. } => {
+            into_html(tag);
             open(alloc, view, tag, row)
         }
-        UsualRow::Closes(row) => {
-            let name = into_name(alloc, token)?;
-            close(alloc, view, name, row)
-        }
-        UsualRow::Begins(part) => {
-            let tag = into_tag(alloc, token)?;
+        _ => open_other(alloc, view, token, row),
+    }
+}
+
+/// The same for a token that is no start tag.
+#[inline(never)]
+fn open_other<'p, B: Below>(
+    alloc: Global,
+    view: &mut View<'p, B>,
+    token: &mut Token<'p>,
+    row: Opening,
+) -> Result<(), Refusal>
+    ensures { Carries result (sight B.heard view.old) (sight B.heard view.new) (opening_plan row (html_tag token.old)) }
+{
+    let mut tag = take_tag(alloc, token, Spending::Moves)?;
+    open(alloc, view, &mut tag, row)
+}
+
+#[inline(always)]
+fn begin_token<'p, B: Below>(
+    alloc: Global,
+    view: &mut View<'p, B>,
+    token: &mut Token<'p>,
+    part: TablePart,
+) -> Result<(), Refusal>
+    ensures { Carries result (sight B.heard view.old) (sight B.heard view.new) (begin_plan part (html_tag token.old)) }
+{
+    match token {
+        Token::Start { tag, .. } => {
+            into_html(tag);
             begin(alloc, view, tag, part)
         }
-        UsualRow::Ends(part) => {
-            let name = into_name(alloc, token)?;
-            end(alloc, view, name, part)
-        }
+        _ => begin_other(alloc, view, token, part),
     }
+}
+
+/// The same for a token that is no start tag.
+#[inline(never)]
+fn begin_other<'p, B: Below>(
+    alloc: Global,
+    view: &mut View<'p, B>,
+    token: &mut Token<'p>,
+    part: TablePart,
+) -> Result<(), Refusal>
+    ensures { Carries result (sight B.heard view.old) (sight B.heard view.new) (begin_plan part (html_tag token.old)) }
+{
+    let mut tag = take_tag(alloc, token, Spending::Moves)?;
+    begin(alloc, view, &mut tag, part)
+}
+
+#[inline(always)]
+fn close_token<'p, B: Below>(
+    alloc: Global,
+    view: &mut View<'p, B>,
+    token: &mut Token<'p>,
+    row: Closing,
+) -> Result<(), Refusal>
+    ensures { Carries result (sight B.heard view.old) (sight B.heard view.new) (closing_plan row (name_of token.old)) }
+{
+    match token {
+        Token::EndTag { name } => close(alloc, view, name, row),
+        _ => close_other(alloc, view, token, row),
+    }
+}
+
+/// The same for a token that is no end tag.
+#[inline(never)]
+fn close_other<'p, B: Below>(
+    alloc: Global,
+    view: &mut View<'p, B>,
+    token: &mut Token<'p>,
+    row: Closing,
+) -> Result<(), Refusal>
+    ensures { Carries result (sight B.heard view.old) (sight B.heard view.new) (closing_plan row (name_of token.old)) }
+{
+    let mut name = name_of(alloc, token, Which::Its)?;
+    close(alloc, view, &mut name, row)
+}
+
+#[inline(always)]
+fn end_token<'p, B: Below>(
+    alloc: Global,
+    view: &mut View<'p, B>,
+    token: &mut Token<'p>,
+    part: TablePart,
+) -> Result<(), Refusal>
+    ensures { Carries result (sight B.heard view.old) (sight B.heard view.new) (end_plan part (name_of token.old)) }
+{
+    match token {
+        Token::EndTag { name } => end(alloc, view, name, part),
+        _ => end_other(alloc, view, token, part),
+    }
+}
+
+/// The same for a token that is no end tag.
+#[inline(never)]
+fn end_other<'p, B: Below>(
+    alloc: Global,
+    view: &mut View<'p, B>,
+    token: &mut Token<'p>,
+    part: TablePart,
+) -> Result<(), Refusal>
+    ensures { Carries result (sight B.heard view.old) (sight B.heard view.new) (end_plan part (name_of token.old)) }
+{
+    let mut name = name_of(alloc, token, Which::Its)?;
+    end(alloc, view, &mut name, part)
 }
 
 #[inline(always)]
 fn open<'p, B: Below>(
     alloc: Global,
     view: &mut View<'p, B>,
-    tag: Tag,
+    tag: &mut Tag,
     row: Opening,
 ) -> Result<(), Refusal>
-    requires html { tag.namespace ≡ Html }
-    ensures { Carries result (sight B.heard view.old) (sight B.heard view.new) (opening_plan row tag) }
+    requires html { tag.old.namespace ≡ Html }
+    ensures { Carries result (sight B.heard view.old) (sight B.heard view.new) (opening_plan row tag.old) }
 {
     match row {
         Opening::Block => open_block(alloc, view, tag),
@@ -277,18 +390,18 @@ fn open<'p, B: Below>(
 fn close<'p, B: Below>(
     alloc: Global,
     view: &mut View<'p, B>,
-    name: Name,
+    name: &mut Name,
     row: Closing,
 ) -> Result<(), Refusal>
-    ensures { Carries result (sight B.heard view.old) (sight B.heard view.new) (closing_plan row name) }
+    ensures { Carries result (sight B.heard view.old) (sight B.heard view.new) (closing_plan row name.old) }
 {
     match row {
-        Closing::Block => close_block(alloc, view, name),
+        Closing::Block => close_block(alloc, view, taken_name(name)),
         Closing::Item => close_item(alloc, view),
-        Closing::Description => close_description(alloc, view, name),
+        Closing::Description => close_description(alloc, view, taken_name(name)),
         Closing::Paragraph => close_paragraph(alloc, view),
-        Closing::Formatting => adopt(alloc, view, false, name),
-        Closing::Ordinary => view.walk(alloc, name),
+        Closing::Formatting => adopt(alloc, view, false, taken_name(name)),
+        Closing::Ordinary => view.walk(alloc, taken_name(name)),
     }
 }
 
@@ -296,11 +409,11 @@ fn close<'p, B: Below>(
 fn begin<'p, B: Below>(
     alloc: Global,
     view: &mut View<'p, B>,
-    tag: Tag,
+    tag: &mut Tag,
     part: TablePart,
 ) -> Result<(), Refusal>
-    requires html { tag.namespace ≡ Html }
-    ensures { Carries result (sight B.heard view.old) (sight B.heard view.new) (begin_plan part tag) }
+    requires html { tag.old.namespace ≡ Html }
+    ensures { Carries result (sight B.heard view.old) (sight B.heard view.new) (begin_plan part tag.old) }
 {
     match part {
         TablePart::Row => begin_row(alloc, view, tag),
@@ -312,14 +425,14 @@ fn begin<'p, B: Below>(
 fn end<'p, B: Below>(
     alloc: Global,
     view: &mut View<'p, B>,
-    name: Name,
+    name: &mut Name,
     part: TablePart,
 ) -> Result<(), Refusal>
-    ensures { Carries result (sight B.heard view.old) (sight B.heard view.new) (end_plan part name) }
+    ensures { Carries result (sight B.heard view.old) (sight B.heard view.new) (end_plan part name.old) }
 {
     match part {
         TablePart::Row => end_row(alloc, view),
-        TablePart::Cell => end_cell(alloc, view, name),
+        TablePart::Cell => end_cell(alloc, view, taken_name(name)),
     }
 }
 
@@ -328,27 +441,35 @@ fn end<'p, B: Below>(
 pub(crate) fn insert<'p, B: Below>(
     alloc: Global,
     view: &mut View<'p, B>,
-    tag: Tag,
+    tag: &mut Tag,
 ) -> Result<(), Refusal>
-    requires html { tag.namespace ≡ Html }
-    ensures { Carries result (sight B.heard view.old) (sight B.heard view.new) (insert_plan false tag) }
+    requires html { tag.old.namespace ≡ Html }
+    ensures { Carries result (sight B.heard view.old) (sight B.heard view.new) (insert_plan false tag.old) }
 {
-    view.insert(alloc, false, tag, Point::No)
+    view.insert(alloc, false, taken_tag(tag), Point::No)
 }
 
 #[inline(always)]
-fn open_block<'p, B: Below>(alloc: Global, view: &mut View<'p, B>, tag: Tag) -> Result<(), Refusal>
-    requires html { tag.namespace ≡ Html }
-    ensures { Carries result (sight B.heard view.old) (sight B.heard view.new) (block_plan tag) }
+fn open_block<'p, B: Below>(
+    alloc: Global,
+    view: &mut View<'p, B>,
+    tag: &mut Tag,
+) -> Result<(), Refusal>
+    requires html { tag.old.namespace ≡ Html }
+    ensures { Carries result (sight B.heard view.old) (sight B.heard view.new) (block_plan tag.old) }
 {
     view.close_paragraph(alloc)?;
     insert(alloc, view, tag)
 }
 
 #[inline(always)]
-fn open_item<'p, B: Below>(alloc: Global, view: &mut View<'p, B>, tag: Tag) -> Result<(), Refusal>
-    requires html { tag.namespace ≡ Html }
-    ensures { Carries result (sight B.heard view.old) (sight B.heard view.new) (item_plan tag) }
+fn open_item<'p, B: Below>(
+    alloc: Global,
+    view: &mut View<'p, B>,
+    tag: &mut Tag,
+) -> Result<(), Refusal>
+    requires html { tag.old.namespace ≡ Html }
+    ensures { Carries result (sight B.heard view.old) (sight B.heard view.new) (item_plan tag.old) }
 {
     view.frameset_not_ok(alloc)?;
     open_item_after(alloc, view, tag)
@@ -359,10 +480,10 @@ fn open_item<'p, B: Below>(alloc: Global, view: &mut View<'p, B>, tag: Tag) -> R
 fn open_item_after<'p, B: Below>(
     alloc: Global,
     view: &mut View<'p, B>,
-    tag: Tag,
+    tag: &mut Tag,
 ) -> Result<(), Refusal>
-    requires html { tag.namespace ≡ Html }
-    ensures { Carries result (sight B.heard view.old) (sight B.heard view.new) (item_after_plan tag) }
+    requires html { tag.old.namespace ≡ Html }
+    ensures { Carries result (sight B.heard view.old) (sight B.heard view.new) (item_after_plan tag.old) }
 {
     view.close_item(alloc)?;
     open_block(alloc, view, tag)
@@ -372,10 +493,10 @@ fn open_item_after<'p, B: Below>(
 fn open_description<'p, B: Below>(
     alloc: Global,
     view: &mut View<'p, B>,
-    tag: Tag,
+    tag: &mut Tag,
 ) -> Result<(), Refusal>
-    requires html { tag.namespace ≡ Html }
-    ensures { Carries result (sight B.heard view.old) (sight B.heard view.new) (description_plan tag) }
+    requires html { tag.old.namespace ≡ Html }
+    ensures { Carries result (sight B.heard view.old) (sight B.heard view.new) (description_plan tag.old) }
 {
     view.frameset_not_ok(alloc)?;
     open_description_after(alloc, view, tag)
@@ -386,19 +507,23 @@ fn open_description<'p, B: Below>(
 fn open_description_after<'p, B: Below>(
     alloc: Global,
     view: &mut View<'p, B>,
-    tag: Tag,
+    tag: &mut Tag,
 ) -> Result<(), Refusal>
-    requires html { tag.namespace ≡ Html }
-    ensures { Carries result (sight B.heard view.old) (sight B.heard view.new) (description_after_plan tag) }
+    requires html { tag.old.namespace ≡ Html }
+    ensures { Carries result (sight B.heard view.old) (sight B.heard view.new) (description_after_plan tag.old) }
 {
     view.close_description(alloc)?;
     open_block(alloc, view, tag)
 }
 
 #[inline(always)]
-fn open_link<'p, B: Below>(alloc: Global, view: &mut View<'p, B>, tag: Tag) -> Result<(), Refusal>
-    requires html { tag.namespace ≡ Html }
-    ensures { Carries result (sight B.heard view.old) (sight B.heard view.new) (link_plan tag) }
+fn open_link<'p, B: Below>(
+    alloc: Global,
+    view: &mut View<'p, B>,
+    tag: &mut Tag,
+) -> Result<(), Refusal>
+    requires html { tag.old.namespace ≡ Html }
+    ensures { Carries result (sight B.heard view.old) (sight B.heard view.new) (link_plan tag.old) }
 {
     close_link(alloc, view, false)?;
     open_formatting(alloc, view, tag)
@@ -408,10 +533,10 @@ fn open_link<'p, B: Below>(alloc: Global, view: &mut View<'p, B>, tag: Tag) -> R
 fn open_formatting<'p, B: Below>(
     alloc: Global,
     view: &mut View<'p, B>,
-    tag: Tag,
+    tag: &mut Tag,
 ) -> Result<(), Refusal>
-    requires html { tag.namespace ≡ Html }
-    ensures { Carries result (sight B.heard view.old) (sight B.heard view.new) (formatting_plan tag) }
+    requires html { tag.old.namespace ≡ Html }
+    ensures { Carries result (sight B.heard view.old) (sight B.heard view.new) (formatting_plan tag.old) }
 {
     reconstruct(alloc, view, false)?;
     insert_listed(alloc, view, tag)
@@ -422,152 +547,25 @@ fn open_formatting<'p, B: Below>(
 fn insert_listed<'p, B: Below>(
     alloc: Global,
     view: &mut View<'p, B>,
-    tag: Tag,
+    tag: &mut Tag,
 ) -> Result<(), Refusal>
-    requires html { tag.namespace ≡ Html }
-    ensures { Carries result (sight B.heard view.old) (sight B.heard view.new) (listed_plan tag) }
+    requires html { tag.old.namespace ≡ Html }
+    ensures { Carries result (sight B.heard view.old) (sight B.heard view.new) (listed_plan tag.old) }
 {
-    let listed = tag.copy(alloc)?;
-    insert(alloc, view, tag)?;
-    append_to_list(alloc, view, listed)
+    let own = tag.copy(alloc)?;
+    view.insert(alloc, false, own, Point::No)?;
+    append_to_list(alloc, view, taken_tag(tag))
 }
 
 #[inline(always)]
 fn open_ordinary<'p, B: Below>(
     alloc: Global,
     view: &mut View<'p, B>,
-    tag: Tag,
+    tag: &mut Tag,
 ) -> Result<(), Refusal>
-    requires html { tag.namespace ≡ Html }
-    ensures { Carries result (sight B.heard view.old) (sight B.heard view.new) (ordinary_plan tag) }
+    requires html { tag.old.namespace ≡ Html }
+    ensures { Carries result (sight B.heard view.old) (sight B.heard view.new) (ordinary_plan tag.old) }
 {
     reconstruct(alloc, view, false)?;
     insert(alloc, view, tag)
-}
-
-#[inline(never)]
-fn close_block<'p, B: Below>(
-    alloc: Global,
-    view: &mut View<'p, B>,
-    name: Name,
-) -> Result<(), Refusal>
-    ensures { Carries result (sight B.heard view.old) (sight B.heard view.new) (block_end_plan name) }
-{
-    let goals = Kinds::Html(name.copy(alloc)?);
-    let is_open = view.in_scope(alloc, Scope::Default, goals)?;
-    end_block(alloc, view, name, is_open)
-}
-
-/// Closes the block of the name with what its end implies, where it is in scope.
-#[inline(always)]
-fn end_block<'p, B: Below>(
-    alloc: Global,
-    view: &mut View<'p, B>,
-    name: Name,
-    is_open: bool,
-) -> Result<(), Refusal>
-    ensures { Carries result (sight B.heard view.old) (sight B.heard view.new) (λ v. block_end_by name v is_open) }
-{
-    if is_open {
-        view.implied(alloc)?;
-        view.through(alloc, Kinds::Html(name), Kinds::Nothing)
-    } else {
-        Ok(())
-    }
-}
-
-#[inline(never)]
-fn close_item<'p, B: Below>(alloc: Global, view: &mut View<'p, B>) -> Result<(), Refusal>
-    ensures { Carries result (sight B.heard view.old) (sight B.heard view.new) item_end_plan }
-{
-    let goals = Kinds::Html(Name::of_known(Known::Li));
-    let is_open = view.in_scope(alloc, Scope::ListItem, goals)?;
-    end_item(alloc, view, is_open)
-}
-
-/// Closes the list item with what its end implies, where one is in scope.
-#[inline(always)]
-fn end_item<'p, B: Below>(
-    alloc: Global,
-    view: &mut View<'p, B>,
-    is_open: bool,
-) -> Result<(), Refusal>
-    ensures { Carries result (sight B.heard view.old) (sight B.heard view.new) (λ v. item_end_by v is_open) }
-{
-    if is_open {
-        view.implied_except(alloc, Known::Li)?;
-        view.through_named(alloc, Name::of_known(Known::Li))
-    } else {
-        Ok(())
-    }
-}
-
-#[inline(never)]
-fn close_description<'p, B: Below>(
-    alloc: Global,
-    view: &mut View<'p, B>,
-    name: Name,
-) -> Result<(), Refusal>
-    ensures { Carries result (sight B.heard view.old) (sight B.heard view.new) (description_end_plan name) }
-{
-    let goals = Kinds::Html(name.copy(alloc)?);
-    let is_open = view.in_scope(alloc, Scope::Default, goals)?;
-    end_description(alloc, view, name, is_open)
-}
-
-/// Closes the term or description with what its end implies, where it is in scope.
-#[inline(always)]
-fn end_description<'p, B: Below>(
-    alloc: Global,
-    view: &mut View<'p, B>,
-    name: Name,
-    is_open: bool,
-) -> Result<(), Refusal>
-    ensures { Carries result (sight B.heard view.old) (sight B.heard view.new) (λ v. description_end_by name v is_open) }
-{
-    if is_open {
-        implied_but(alloc, view, &name)?;
-        view.through(alloc, Kinds::Html(name), Kinds::Nothing)
-    } else {
-        Ok(())
-    }
-}
-
-/// Generates implied end tags, but not that of the name.
-fn implied_but<'p, B: Below>(
-    alloc: Global,
-    view: &mut View<'p, B>,
-    name: &Name,
-) -> Result<(), Refusal>
-    ensures { Carries result (sight B.heard view.old) (sight B.heard view.new) (implied_but_plan (known_of name.now)) }
-{
-    match name.known() {
-        Some(known) => view.implied_except(alloc, known),
-        None => view.implied(alloc),
-    }
-}
-
-fn close_paragraph<'p, B: Below>(alloc: Global, view: &mut View<'p, B>) -> Result<(), Refusal>
-    ensures { Carries result (sight B.heard view.old) (sight B.heard view.new) paragraph_end_plan }
-{
-    let goals = Kinds::Html(Name::of_known(Known::P));
-    let is_open = view.in_scope(alloc, Scope::Button, goals)?;
-    end_paragraph(alloc, view, is_open)
-}
-
-/// Closes the paragraph; where none is in scope, an empty one stands there.
-#[inline(always)]
-fn end_paragraph<'p, B: Below>(
-    alloc: Global,
-    view: &mut View<'p, B>,
-    is_open: bool,
-) -> Result<(), Refusal>
-    ensures { Carries result (sight B.heard view.old) (sight B.heard view.new) (λ v. paragraph_end_by v is_open) }
-{
-    if is_open {
-        view.close_paragraph(alloc)
-    } else {
-        insert(alloc, view, bare(Known::P))?;
-        view.close_paragraph(alloc)
-    }
 }

@@ -9,9 +9,9 @@ use Rattle.hp_acts.proofs.table_rows.begin_cell.Goals as goal
 pub returns-in_err-pop_to : goal.returns-in_err-pop_to
 returns-in_err-pop_to g c =
     carries_failed c.from_residual.result c.in_err-pop_to.field-0.0 (sight g.B.Below.heard c.args.view.now) (sight g.B.Below.heard c.pop_to.new.self)
-    (pop_to_plan (kinds.Set set.TableRowContext)) (cell_after_plan c.args.tag) c.from_residual.ensures.1 c.in_err-pop_to.ensures
+    (pop_to_plan (kinds.Set set.TableRowContext)) (cell_after_plan c.args.tag.now) c.from_residual.ensures.1 c.in_err-pop_to.ensures
 
 pub returns : goal.returns
 returns g c =
     carries_next c.enter_cell.result (sight g.B.Below.heard c.args.view.now) (sight g.B.Below.heard c.pop_to.new.self) (sight g.B.Below.heard c.enter_cell.new.view)
-    (pop_to_plan (kinds.Set set.TableRowContext)) (cell_after_plan c.args.tag) c.in_ok-pop_to.ensures c.enter_cell.ensures
+    (pop_to_plan (kinds.Set set.TableRowContext)) (cell_after_plan c.args.tag.now) c.in_ok-pop_to.ensures c.enter_cell.ensures

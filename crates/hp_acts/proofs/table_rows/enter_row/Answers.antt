@@ -9,9 +9,9 @@ use Rattle.hp_acts.proofs.table_rows.enter_row.Goals as goal
 pub returns-in_err-insert : goal.returns-in_err-insert
 returns-in_err-insert g c =
     carries_failed c.from_residual.result c.in_err-insert.field-0.0 (sight g.B.Below.heard c.args.view.now) (sight g.B.Below.heard c.insert.new.view)
-    (insert_plan false c.args.tag) (switch_plan mode.InRow) c.from_residual.ensures.1 c.in_err-insert.ensures
+    (insert_plan false c.args.tag.now) (switch_plan mode.InRow) c.from_residual.ensures.1 c.in_err-insert.ensures
 
 pub returns : goal.returns
 returns g c =
     carries_next c.switch_to.result (sight g.B.Below.heard c.args.view.now) (sight g.B.Below.heard c.insert.new.view) (sight g.B.Below.heard c.switch_to.new.self)
-    (insert_plan false c.args.tag) (switch_plan mode.InRow) c.in_ok-insert.ensures c.switch_to.ensures
+    (insert_plan false c.args.tag.now) (switch_plan mode.InRow) c.in_ok-insert.ensures c.switch_to.ensures

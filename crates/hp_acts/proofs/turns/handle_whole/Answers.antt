@@ -6,5 +6,5 @@ use Rattle.hp_acts.proofs.turns.handle_whole.Goals as goal
 
 pub returns-in-Some : goal.returns-in-Some
 returns-in-Some g c =
-    in_all_turns c.handle_usual.result (sight g.B.Below.heard c.args.view.now) (sight g.B.Below.heard c.handle_usual.new.view) c.args.token (most_turns (split_of c.args.view.now)) refl
+    in_all_turns c.handle_usual.result (sight g.B.Below.heard c.args.view.now) (sight g.B.Below.heard c.handle_usual.new.view) c.args.token.now (most_turns (split_of c.args.view.now)) refl
     (c.handle_usual.ensures (most_turns (split_of c.args.view.now)) (omega arith))

@@ -7,9 +7,9 @@ use Rattle.hp_acts.proofs.usual.open_description.Goals as goal
 pub returns-in_err-frameset_not_ok : goal.returns-in_err-frameset_not_ok
 returns-in_err-frameset_not_ok g c =
     carries_failed c.from_residual.result c.in_err-frameset_not_ok.field-0.0 (sight g.B.Below.heard c.args.view.now) (sight g.B.Below.heard c.frameset_not_ok.new.self)
-    frameset_plan (description_after_plan c.args.tag) c.from_residual.ensures.1 c.in_err-frameset_not_ok.ensures
+    frameset_plan (description_after_plan c.args.tag.now) c.from_residual.ensures.1 c.in_err-frameset_not_ok.ensures
 
 pub returns : goal.returns
 returns g c =
     carries_next c.open_description_after.result (sight g.B.Below.heard c.args.view.now) (sight g.B.Below.heard c.frameset_not_ok.new.self) (sight g.B.Below.heard c.open_description_after.new.view)
-    frameset_plan (description_after_plan c.args.tag) c.in_ok-frameset_not_ok.ensures c.open_description_after.ensures
+    frameset_plan (description_after_plan c.args.tag.now) c.in_ok-frameset_not_ok.ensures c.open_description_after.ensures

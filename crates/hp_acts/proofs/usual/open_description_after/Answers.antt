@@ -7,9 +7,9 @@ use Rattle.hp_acts.proofs.usual.open_description_after.Goals as goal
 pub returns-in_err-close_description : goal.returns-in_err-close_description
 returns-in_err-close_description g c =
     carries_failed c.from_residual.result c.in_err-close_description.field-0.0 (sight g.B.Below.heard c.args.view.now) (sight g.B.Below.heard c.close_description.new.self)
-    close_description_plan (block_plan c.args.tag) c.from_residual.ensures.1 c.in_err-close_description.ensures
+    close_description_plan (block_plan c.args.tag.now) c.from_residual.ensures.1 c.in_err-close_description.ensures
 
 pub returns : goal.returns
 returns g c =
     carries_next c.open_block.result (sight g.B.Below.heard c.args.view.now) (sight g.B.Below.heard c.close_description.new.self) (sight g.B.Below.heard c.open_block.new.view)
-    close_description_plan (block_plan c.args.tag) c.in_ok-close_description.ensures c.open_block.ensures
+    close_description_plan (block_plan c.args.tag.now) c.in_ok-close_description.ensures c.open_block.ensures

@@ -6,7 +6,7 @@ use Rattle.hp_views.specs.StackPlans.{in_scope_plan}
 use Rattle.hp_views.specs.View.{Carries, sight}
 use Rattle.hp_acts.specs.Usual.{paragraph_end_by}
 use Rattle.hp_acts.proofs.UsualRuns.{carries_then}
-use Rattle.hp_acts.proofs.usual.close_paragraph.Goals as goal
+use Rattle.hp_acts.proofs.ends.close_paragraph_any.Goals as goal
 
 pub returns : goal.returns
 returns g c =

@@ -1,0 +1,253 @@
+//! The end tags of blocks, of list items, of terms and their descriptions, and of paragraphs (13.2.6.4.7). Most often the current
+//! node is what ends, and is popped at once.
+ghost use Rattle.std.specs.Prelude.{◌≡◌, ◌&&◌, true, not};
+ghost use Rattle.std.specs.Str.{bytes_eq};
+ghost use Rattle.hp_elements.specs.Names.{known_of, text_of};
+ghost use Rattle.hp_elements.specs.declared.kinds.Kinds.TheVariants as kinds;
+ghost use Rattle.hp_control.specs.KindTests.{within};
+ghost use Rattle.hp_views.specs.View.{sight, Carries};
+ghost use Rattle.hp_acts.specs.Plans.{implied_but_plan};
+ghost use Rattle.hp_acts.specs.TopEnds.{EndsDescription, ends_top};
+ghost use Rattle.hp_acts.specs.Usual.{block_end_by, block_end_plan, description_end_by, description_end_plan, item_end_by, item_end_plan, paragraph_end_by, paragraph_end_plan};
+
+use crate::inserts::insert_bare;
+use hp_control::{Below, OpenElement, OpenElements, Refusal, is_html, is_within};
+use hp_elements::{Kinds, Known, Name, Scope, SetName};
+use hp_views::View;
+use std::alloc::Global;
+
+fn same_name(name: &Name, other: &Name) -> bool
+    ensures { result ≡ bytes_eq name.now other.now }
+{
+    name.same(other)
+}
+
+/// Whether the element is an HTML one of that name.
+fn is_of_name(element: &OpenElement, name: &Name) -> bool
+    ensures { result ≡ within (kinds.Html name.now) element.now }
+{
+    is_html(element) && same_name(name, &element.name)
+}
+
+fn ends(element: &OpenElement, name: &Name, passed: SetName) -> bool
+    ensures { result ≡ (within (kinds.Html name.now) element.now && not (within (kinds.Set passed) element.now)) }
+{
+    is_of_name(element, name) && !is_within(&Kinds::Set(passed), element)
+}
+
+/// Whether the current node is an own HTML element of the name, and stays where those of the set are popped.
+pub(crate) fn ends_top(stack: &OpenElements, name: &Name, passed: SetName) -> bool
+    ensures { result ≡ ends_top passed name.now stack.now }
+{
+    !stack.is_empty() && ends(stack.at(0), name, passed)
+}
+
+/// The same of a known name.
+fn ends_known(stack: &OpenElements, known: Known, passed: SetName) -> bool
+    ensures { result ≡ ends_top passed (text_of known) stack.now }
+{
+    let name = Name::of_known(known);
+    ends_top(stack, &name, passed)
+}
+
+/// The same of a term, or of its description.
+fn ends_description(stack: &OpenElements, name: &Name) -> bool
+    ensures { result ≡ true → EndsDescription name.now stack.now }
+{
+    match name.known() {
+        Some(Known::Dt) => ends_top(stack, name, SetName::ImpliedButDt),
+        Some(Known::Dd) => ends_top(stack, name, SetName::ImpliedButDd),
+        _ => false,
+    }
+}
+
+/// Ends the block of the name.
+#[inline(never)]
+pub(crate) fn close_block<'p, B: Below>(
+    alloc: Global,
+    view: &mut View<'p, B>,
+    name: Name,
+) -> Result<(), Refusal>
+    ensures { Carries result (sight B.heard view.old) (sight B.heard view.new) (block_end_plan name) }
+{
+    if ends_top(&view.change.stack, &name, SetName::Implied) {
+        view.pop_own(1);
+        return Ok(());
+    }
+    close_block_any(alloc, view, name)
+}
+
+/// The same where it may not be the current node.
+#[inline(never)]
+fn close_block_any<'p, B: Below>(
+    alloc: Global,
+    view: &mut View<'p, B>,
+    name: Name,
+) -> Result<(), Refusal>
+    ensures { Carries result (sight B.heard view.old) (sight B.heard view.new) (block_end_plan name) }
+{
+    let goals = Kinds::Html(name.copy(alloc)?);
+    let is_open = view.in_scope(alloc, Scope::Default, goals)?;
+    end_block(alloc, view, name, is_open)
+}
+
+/// Closes the block of the name with what its end implies, where it is in scope.
+#[inline(always)]
+fn end_block<'p, B: Below>(
+    alloc: Global,
+    view: &mut View<'p, B>,
+    name: Name,
+    is_open: bool,
+) -> Result<(), Refusal>
+    ensures { Carries result (sight B.heard view.old) (sight B.heard view.new) (λ v. block_end_by name v is_open) }
+{
+    if is_open {
+        view.implied(alloc)?;
+        view.through(alloc, Kinds::Html(name), Kinds::Nothing)
+    } else {
+        Ok(())
+    }
+}
+
+/// Ends a list item.
+#[inline(never)]
+pub(crate) fn close_item<'p, B: Below>(alloc: Global, view: &mut View<'p, B>) -> Result<(), Refusal>
+    ensures { Carries result (sight B.heard view.old) (sight B.heard view.new) item_end_plan }
+{
+    if ends_known(&view.change.stack, Known::Li, SetName::ImpliedButLi) {
+        view.pop_own(1);
+        return Ok(());
+    }
+    close_item_any(alloc, view)
+}
+
+/// The same where it may not be the current node.
+#[inline(never)]
+fn close_item_any<'p, B: Below>(alloc: Global, view: &mut View<'p, B>) -> Result<(), Refusal>
+    ensures { Carries result (sight B.heard view.old) (sight B.heard view.new) item_end_plan }
+{
+    let goals = Kinds::Html(Name::of_known(Known::Li));
+    let is_open = view.in_scope(alloc, Scope::ListItem, goals)?;
+    end_item(alloc, view, is_open)
+}
+
+/// Closes the list item with what its end implies, where one is in scope.
+#[inline(always)]
+fn end_item<'p, B: Below>(
+    alloc: Global,
+    view: &mut View<'p, B>,
+    is_open: bool,
+) -> Result<(), Refusal>
+    ensures { Carries result (sight B.heard view.old) (sight B.heard view.new) (λ v. item_end_by v is_open) }
+{
+    if is_open {
+        view.implied_except(alloc, Known::Li)?;
+        view.through_named(alloc, Name::of_known(Known::Li))
+    } else {
+        Ok(())
+    }
+}
+
+/// Ends a term or its description.
+#[inline(never)]
+pub(crate) fn close_description<'p, B: Below>(
+    alloc: Global,
+    view: &mut View<'p, B>,
+    name: Name,
+) -> Result<(), Refusal>
+    ensures { Carries result (sight B.heard view.old) (sight B.heard view.new) (description_end_plan name) }
+{
+    if ends_description(&view.change.stack, &name) {
+        view.pop_own(1);
+        return Ok(());
+    }
+    close_description_any(alloc, view, name)
+}
+
+/// The same where it may not be the current node.
+#[inline(never)]
+fn close_description_any<'p, B: Below>(
+    alloc: Global,
+    view: &mut View<'p, B>,
+    name: Name,
+) -> Result<(), Refusal>
+    ensures { Carries result (sight B.heard view.old) (sight B.heard view.new) (description_end_plan name) }
+{
+    let goals = Kinds::Html(name.copy(alloc)?);
+    let is_open = view.in_scope(alloc, Scope::Default, goals)?;
+    end_description(alloc, view, name, is_open)
+}
+
+/// Closes the term or description with what its end implies, where it is in scope.
+#[inline(always)]
+fn end_description<'p, B: Below>(
+    alloc: Global,
+    view: &mut View<'p, B>,
+    name: Name,
+    is_open: bool,
+) -> Result<(), Refusal>
+    ensures { Carries result (sight B.heard view.old) (sight B.heard view.new) (λ v. description_end_by name v is_open) }
+{
+    if is_open {
+        implied_but(alloc, view, &name)?;
+        view.through(alloc, Kinds::Html(name), Kinds::Nothing)
+    } else {
+        Ok(())
+    }
+}
+
+/// Generates implied end tags, but not that of the name.
+fn implied_but<'p, B: Below>(
+    alloc: Global,
+    view: &mut View<'p, B>,
+    name: &Name,
+) -> Result<(), Refusal>
+    ensures { Carries result (sight B.heard view.old) (sight B.heard view.new) (implied_but_plan (known_of name.now)) }
+{
+    match name.known() {
+        Some(known) => view.implied_except(alloc, known),
+        None => view.implied(alloc),
+    }
+}
+
+/// Ends a paragraph.
+#[inline(never)]
+pub(crate) fn close_paragraph<'p, B: Below>(
+    alloc: Global,
+    view: &mut View<'p, B>,
+) -> Result<(), Refusal>
+    ensures { Carries result (sight B.heard view.old) (sight B.heard view.new) paragraph_end_plan }
+{
+    if ends_known(&view.change.stack, Known::P, SetName::ImpliedButP) {
+        view.pop_own(1);
+        return Ok(());
+    }
+    close_paragraph_any(alloc, view)
+}
+
+/// The same where it may not be the current node.
+#[inline(never)]
+fn close_paragraph_any<'p, B: Below>(alloc: Global, view: &mut View<'p, B>) -> Result<(), Refusal>
+    ensures { Carries result (sight B.heard view.old) (sight B.heard view.new) paragraph_end_plan }
+{
+    let goals = Kinds::Html(Name::of_known(Known::P));
+    let is_open = view.in_scope(alloc, Scope::Button, goals)?;
+    end_paragraph(alloc, view, is_open)
+}
+
+/// Closes the paragraph; where none is in scope, an empty one stands there.
+#[inline(always)]
+fn end_paragraph<'p, B: Below>(
+    alloc: Global,
+    view: &mut View<'p, B>,
+    is_open: bool,
+) -> Result<(), Refusal>
+    ensures { Carries result (sight B.heard view.old) (sight B.heard view.new) (λ v. paragraph_end_by v is_open) }
+{
+    if is_open {
+        view.close_paragraph(alloc)
+    } else {
+        insert_bare(alloc, view, false, Known::P)?;
+        view.close_paragraph(alloc)
+    }
+}
