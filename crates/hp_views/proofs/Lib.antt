@@ -3,3 +3,4 @@ pub mod Carrying
 pub mod Resetting
 pub mod Wholes
 pub mod Paragraphs
+pub mod Popping

@@ -1,5 +1,6 @@
 //! The edits that acts make.
-ghost use Rattle.std.specs.Prelude.{◌≡◌, true, IfOk};
+ghost use Rattle.std.specs.Prelude.{◌≡◌, ◌∷◌, true, IfOk, Some};
+ghost use Rattle.hp_elements.specs.Names.{known_of};
 ghost use Rattle.hp_control.specs.Acts.{element_for, point_in};
 ghost use Rattle.hp_control.specs.Plan.{gives};
 ghost use Rattle.hp_views.specs.Steps.{add_body_step, add_first_step, detach_step, insert_document_step, insert_step, put_document_step, put_first_step, put_step};
@@ -9,22 +10,69 @@ ghost use Rattle.hp_views.specs.PlacePlans.{put_at, insert_at, insert_plan, curr
 
 use crate::place::{first_id, second_id};
 use crate::view::View;
-use hp_control::{Below, Child, Crossing, Edit, OpenElement, Place, Ref, Refusal};
-use hp_elements::{Attribute, Chain, NoMemory, Point, Tag};
+use hp_control::{Below, Child, Crossing, Edit, OpenElement, OpenElements, Place, Ref, Refusal};
+use hp_elements::{Attribute, Chain, Known, Name, Namespace, NoMemory, Point, Tag};
 use std::alloc::Global;
 
-/// The element of this id that is made for the tag, and is that point.
+/// Pushes the element of this id that is made for the tag, and is that point.
 #[inline(always)]
-fn element_for(alloc: Global, id: u64, tag: &Tag, point: Point) -> Result<OpenElement, NoMemory>
+fn push_made(
+    stack: &mut OpenElements,
+    alloc: Global,
+    id: u64,
+    tag: &Tag,
+    point: Point,
+) -> Result<(), NoMemory>
     requires point { point ≡ point_in tag.now.namespace tag.now }
-    ensures { IfOk result (λ element. element ≡ element_for id tag.now) }
+    ensures { IfOk result (λ _. stack.new ≡ element_for id tag.now ∷ stack.old) }
 {
-    Ok(OpenElement {
+    match tag.namespace {
+        Namespace::Html => match tag.name.known() {
+            Some(known) => stack.push(alloc, html_element(id, tag, known)),
+            None => push_other(stack, alloc, id, tag, point),
+        },
+        Namespace::MathMl | Namespace::Svg => push_other(stack, alloc, id, tag, point),
+    }
+}
+
+/// The element for an HTML tag of that known name.
+#[inline(always)]
+fn html_element(id: u64, tag: &Tag, known: Known) -> OpenElement
+    requires html { tag.now.namespace ≡ Html }
+    requires known { Some known ≡ known_of tag.now.name }
+    ensures { result ≡ element_for id tag.now }
+{
+    let _ = tag;
+    OpenElement {
         id,
-        namespace: tag.namespace,
-        name: tag.name.copy(alloc)?,
-        point,
-    })
+        namespace: Namespace::Html,
+        name: Name::of_known(known),
+        point: Point::No,
+    }
+}
+
+/// The same for any tag.
+#[inline(never)]
+fn push_other(
+    stack: &mut OpenElements,
+    alloc: Global,
+    id: u64,
+    tag: &Tag,
+    point: Point,
+) -> Result<(), NoMemory>
+    requires point { point ≡ point_in tag.now.namespace tag.now }
+    ensures { IfOk result (λ _. stack.new ≡ element_for id tag.now ∷ stack.old) }
+{
+    let name = tag.name.copy(alloc)?;
+    stack.push(
+        alloc,
+        OpenElement {
+            id,
+            namespace: tag.namespace,
+            name,
+            point,
+        },
+    )
 }
 
 impl<'p, B: Below> View<'p, B> {
@@ -77,11 +125,11 @@ impl<'p, B: Below> View<'p, B> {
         let Some(made) = id.checked_add(1) else {
             return Err(Refusal::NoMemory);
         };
-        let child = Child::Element(self.own_ref(id));
-        let element = element_for(alloc, id, &tag, point)?;
-        self.change.stack.push(alloc, element)?;
-        self.edits.push(alloc, Edit::NewElement { tag })?;
-        self.edits.push(alloc, Edit::Put { child, place })?;
+        let node = self.own_ref(id);
+        push_made(&mut self.change.stack, alloc, id, &tag, point)?;
+        let attributes = tag.attributes.len();
+        self.edits
+            .push_element(alloc, tag, attributes, node, place)?;
         self.change.made = made;
         Ok(())
     }

@@ -26,7 +26,7 @@ impl<'p, B: Below> View<'p, B> {
     pub fn add_marker(&mut self, alloc: Global) -> Result<(), Refusal>
         ensures { Meets result (sight B.heard self.old) (sight B.heard self.new) marker_step }
     {
-        self.change.formatting.push(alloc, FormattingEntry::Marker)?;
+        self.change.formatting.add(alloc, FormattingEntry::Marker)?;
         Ok(())
     }
 
@@ -37,7 +37,7 @@ impl<'p, B: Below> View<'p, B> {
         let id = self.own_current();
         self.change
             .formatting
-            .push(alloc, FormattingEntry::Element { id, tag })?;
+            .add(alloc, FormattingEntry::Element { id, tag })?;
         Ok(())
     }
 

@@ -14,7 +14,22 @@ use std::alloc::Global;
 
 impl<'p, B: Below> View<'p, B> {
     /// Pops so many own elements; without an older state the last one stays.
+    #[tactic(auto, using(crate::proofs::Popping::popped_none))]
+    #[inline(always)]
     pub fn pop_own(&mut self, count: usize)
+        requires { count ≤ length self.old.change.stack }
+        ensures split { split_of self.new ≡ own_popped count (split_of self.old) }
+        ensures below { self.new.below ≡ self.old.below }
+    {
+        match count {
+            0 => {}
+            _ => self.pop_some(count),
+        }
+    }
+
+    /// The same, out of line: mostly there is nothing to pop.
+    #[inline(never)]
+    fn pop_some(&mut self, count: usize)
         requires { count ≤ length self.old.change.stack }
         ensures split { split_of self.new ≡ own_popped count (split_of self.old) }
         ensures below { self.new.below ≡ self.old.below }
