@@ -23,3 +23,4 @@ pub mod Fosters
 pub mod Parents
 pub mod Tagging
 pub mod RootItems
+pub mod Grown

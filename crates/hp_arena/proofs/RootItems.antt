@@ -1,9 +1,8 @@
 -- Which elements come to stand among the children of the document.
-use Rattle.std.proofs.Common.{slice_set, ◌≡◌, ◌≢◌, ℕ, ◌+◌, ◌<◌, ◌==◌, ◌||◌, ◌&&◌, List, [], ◌∷◌, ◌++◌, Bool, true, false, not, if◌then◌else◌, filter, length, map, refl, sym, ap, ◌∙◌, subst, inl, inr, ◌⊎◌, Some}
+use Rattle.std.proofs.Common.{slice_set, ◌≡◌, ◌≢◌, ℕ, ◌==◌, ◌||◌, ◌&&◌, List, [], ◌∷◌, ◌++◌, Bool, true, false, not, if◌then◌else◌, filter, refl, sym, ap, ◌∙◌, subst, inl, inr, ◌⊎◌, Some}
 use Rattle.std.specs.List.{list_any}
-use Rattle.std.proofs.lemmas.Bool.{true≢false, cases_eq, cases_Bool, or_cases, cond_both, cond-true, cond-false, eq-eqb, eqb-true}
+use Rattle.std.proofs.lemmas.Bool.{true≢false, cases_eq, or_cases, cond_both, cond-true, eq-eqb, eqb-true}
 use Rattle.std.proofs.lemmas.List.{get_or-set_other}
-use Rattle.hp_elements.specs.declared.tag.Tag.{Tag}
 use Rattle.hp_control.specs.Tree.{Item, Branch, Tree, branch, no_branch, is_element, beside, put_last, put_before, with_inside, in_each, in_one, detached, stands_in, has_parent, put, put_into, put_child, item_of_doctype, may_be_child, leads_into_document, is_there, is_place, id_of, children_moved, with_tag, with_attributes, applied}
 use Rattle.hp_control.specs.Tree as item
 use Rattle.hp_control.specs.declared.edit.Child.{Child}
@@ -14,7 +13,7 @@ use Rattle.hp_control.specs.declared.edit.Edit.{Edit}
 use Rattle.hp_control.specs.declared.edit.Edit.TheVariants.{NewElement, Put, Detach, MoveChildren, AddMissing}
 use Rattle.hp_arena.specs.declared.roots.Roots.{Roots}
 use Rattle.hp_arena.specs.declared.roots.Roots.TheVariants as roots
-use Rattle.hp_arena.specs.Roots.{is_root_table, has_root_table, may_be_root, with_root, may_lead, roots_after, is_apart, AreRoots}
+use Rattle.hp_arena.specs.Roots.{has_root_table, may_be_root, with_root, may_lead, roots_after, is_apart, AreRoots}
 use Rattle.hp_arena.proofs.Paths.{or-left, or-right}
 use Rattle.hp_arena.proofs.Shapes.{make_branch}
 

@@ -138,6 +138,7 @@ impl<'p> Arena<'p> {
 
     /// Makes one edit. It takes no memory. The caller says whether it knows that the table before which a child goes
     /// is no child of the document.
+    #[inline(never)]
     pub fn apply(&mut self, edit: Edit<'p>, apart: bool)
         requires room { room_of edit ≤ self.old.spare }
         requires table { apart ≡ true → has_root_table self.old.branches edit ≡ false }
@@ -166,6 +167,30 @@ impl<'p> Arena<'p> {
                     self.add_missing(id_of(node), attributes);
                 }
             }
+        }
+    }
+
+    /// Puts a text last into an element.
+    #[inline(always)]
+    pub fn put_text_into(&mut self, text: Text<'p>, parent: Ref)
+        requires { 0 < self.old.spare }
+        ensures branches { self.new.branches ≡ applied self.old.branches (Edit.Put (Child.Text text.entry) (Place.Into parent)) }
+        ensures spare { self.old.spare ≤ self.new.spare + 1 }
+    {
+        if self.may_be_child(parent) {
+            self.put_text(text, Place::Into(parent));
+        }
+    }
+
+    /// Puts an element last into another.
+    #[inline(always)]
+    pub fn put_element_into(&mut self, node: Ref, parent: Ref)
+        requires { 0 < self.old.spare }
+        ensures branches { self.new.branches ≡ applied self.old.branches (Edit.Put (Child.Element node) (Place.Into parent)) }
+        ensures spare { self.new.spare ≡ self.old.spare }
+    {
+        if self.is_there(parent) && self.may_be_child(node) {
+            self.put_element(id_of(node), Place::Into(parent));
         }
     }
 
@@ -221,7 +246,8 @@ impl<'p> Arena<'p> {
     }
 
     /// Makes the next element, which has no parent.
-    fn new_element(&mut self, tag: Tag)
+    #[inline(always)]
+    pub fn new_element(&mut self, tag: Tag)
         requires { length tag.attributes < self.old.spare }
         ensures branches { self.new.branches ≡ applied self.old.branches (Edit.NewElement tag) }
         ensures spare { self.new.spare + (length tag.attributes + 1) ≡ self.old.spare }
@@ -254,6 +280,7 @@ impl<'p> Arena<'p> {
     }
 
     /// Takes an element out of its list of children, and puts it at a place.
+    #[inline(always)]
     fn put_element(&mut self, id: u64, place: Place)
         requires id_in { id < length self.old.branches }
         requires apart { id ≢ 0 }
@@ -347,6 +374,7 @@ impl<'p> Arena<'p> {
     }
 
     /// Puts a text at a place. It joins a text that stands before it.
+    #[inline(always)]
     fn put_text(&mut self, text: Text<'p>, place: Place)
         requires room { 0 < self.old.spare }
         requires there { is_place self.old.branches place ≡ true }

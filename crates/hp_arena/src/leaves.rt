@@ -49,10 +49,7 @@ pub fn push_within<T: Drop>(items: &mut Vec<T>, item: T)
     ensures len { vec_len items.new ≡ vec_len items.old + 1 }
     ensures capacity { vec_capacity items.old ≤ vec_capacity items.new }
 {
-    match items.push(item) {
-        Ok(()) => {}
-        Err(_) => unreachable!(),
-    }
+    items.push_reserved(item);
 }
 
 /// A list of this one text, in a cell that was made before.

@@ -1,17 +1,26 @@
 //! The tree that callers see: its edits and its readers.
 
-ghost use Rattle.std.specs.Prelude.{◌≡◌, ◌+◌, ◌<◌, ◌≤◌, length, [], ℕ, IfOk, IfSome, OnOk, OnErr, MatchOption};
+ghost use Rattle.std.specs.Prelude.{◌≡◌, ◌+◌, ◌<◌, ◌≤◌, length, map, [], ℕ, IfOk, IfSome, OnOk, OnErr, MatchOption};
+ghost use Rattle.hp_control.specs.Apply.{named, named_child, named_edit, named_place};
+ghost use Rattle.hp_control.specs.Nothing.{nothing};
 ghost use Rattle.hp_control.specs.Edits.{room_of, room_of_all};
-ghost use Rattle.hp_control.specs.Tree.{document, applied, branch, IsForest};
+ghost use Rattle.hp_control.specs.Tree.{document, applied, applied_all, branch, IsForest};
+ghost use Rattle.hp_control.specs.declared.edit.Child.{Child};
+ghost use Rattle.hp_control.specs.declared.edit.Place.{Place};
 ghost use Rattle.hp_arena.specs.Shape.{attribute_count};
 ghost use Rattle.hp_arena.specs.Readers.{IsAt, IsIn, IsFirstChild, IsShown, HasTag, children, list_of, contents_of, siblings, parent_of, place_of};
 
-use crate::arena::Arena;
+use crate::arena::{Arena, id_of};
 use crate::readers::{At, NodeView, is_template};
 use crate::roots::Roots;
-use hp_control::{Edit, Edits};
+use hp_control::{Child, Edit, Edits, Place, Ref};
+use hp_elements::{Chain, Known, Name, Namespace, Tag, Text};
 use std::alloc::{AllocError, Global};
 use std::marker::Model;
+use std::mem;
+
+/// So many edits find room among those to come, before there has to be more memory for them.
+const BATCH: usize = 256;
 
 /// A document tree. Contracts see its branches by their ids, and its room.
 #[derive(Drop)]
@@ -70,6 +79,210 @@ impl<'p> Tree<'p> {
         let apart = self.roots.is_apart(&edit);
         self.roots = self.roots.after(&edit);
         self.arena.apply(edit, apart)
+    }
+
+    /// Makes all edits, in order, each told where no older state is below, and leaves none.
+    pub fn grow(&mut self, alloc: Global, edits: &mut Edits<'p>) -> Result<(), AllocError>
+        ensures branches { OnOk result (self.new.branches ≡ applied_all self.old.branches (map (named_edit nothing) edits.old)) }
+        ensures edits { OnOk result (edits.new ≡ []) }
+        ensures branches_kept { OnErr result (self.new.branches ≡ self.old.branches) }
+        ensures edits_kept { OnErr result (edits.new ≡ edits.old) }
+    {
+        self.reserve(alloc, edits)?;
+        let mut batch = Vec::with_capacity(alloc, BATCH)?;
+        edits.take_into(&mut batch);
+        self.make_all(&mut batch);
+        Ok(())
+    }
+
+    /// Makes these edits, in order, each told where no older state is below. Nothing is promised of what is left of them.
+    #[inline(always)]
+    fn make_all(&mut self, edits: &mut [Edit<'p>])
+        requires { room_of_all edits.old ≤ self.old.spare }
+        ensures { self.new.branches ≡ applied_all self.old.branches (map (named_edit nothing) edits.old) }
+    {
+        for edit in edits.iter_mut() {
+            self.make(edit);
+        }
+    }
+
+    /// Makes one edit, told where no older state is below. Nothing is promised of what is left of it.
+    #[inline(always)]
+    fn make(&mut self, edit: &mut Edit<'p>)
+        requires { room_of edit.old ≤ self.old.spare }
+        ensures branches { self.new.branches ≡ applied self.old.branches (named_edit nothing edit.old) }
+        ensures spare { self.old.spare ≤ self.new.spare + room_of edit.old }
+    {
+        match edit {
+            Edit::NewElement { tag } => self.new_element(taken_tag(tag)),
+            Edit::Put { place, .. } => {
+                let place = told_place(*place);
+                self.put(edit, place);
+            }
+            Edit::Detach { .. } | Edit::MoveChildren { .. } | Edit::AddMissing { .. } => {
+                self.make_seldom(edit);
+            }
+        }
+    }
+
+    /// Puts the child of an edit, told where no older state is below, into a place.
+    #[inline(always)]
+    fn put(&mut self, edit: &mut Edit<'p>, place: Place)
+        requires { 0 < self.old.spare }
+        ensures branches { (child : Child) (raw : Place) → edit.old ≡ Edit.Put child raw → self.new.branches ≡ applied self.old.branches (Edit.Put (named_child nothing child) place) }
+        ensures spare { self.old.spare ≤ self.new.spare + 1 }
+    {
+        match edit {
+            Edit::Put { child, .. } => self.put_child(child, place),
+            Edit::NewElement { .. }
+            | Edit::Detach { .. }
+            | Edit::MoveChildren { .. }
+            | Edit::AddMissing { .. } => {}
+        }
+    }
+
+    /// Puts a child, told where no older state is below, into a place.
+    #[inline(always)]
+    fn put_child(&mut self, child: &mut Child<'p>, place: Place)
+        requires { 0 < self.old.spare }
+        ensures branches { self.new.branches ≡ applied self.old.branches (Edit.Put (named_child nothing child.old) place) }
+        ensures spare { self.old.spare ≤ self.new.spare + 1 }
+    {
+        match place {
+            Place::Into(parent) => self.put_into(child, parent),
+            Place::Foster { .. } => self.put_seldom(child, place),
+        }
+    }
+
+    /// Puts a child, told where no older state is below, last into an element.
+    #[inline(always)]
+    fn put_into(&mut self, child: &mut Child<'p>, parent: Ref)
+        requires { 0 < self.old.spare }
+        ensures branches { self.new.branches ≡ applied self.old.branches (Edit.Put (named_child nothing child.old) (Place.Into parent)) }
+        ensures spare { self.old.spare ≤ self.new.spare + 1 }
+    {
+        match child {
+            Child::Text(text) => self.put_text(taken_text(text), parent),
+            Child::Element(node) => self.put_element(told(*node), parent),
+            Child::Comment(_) | Child::Doctype(_) => self.put_seldom(child, Place::Into(parent)),
+        }
+    }
+
+    /// Puts any child, told where no older state is below, into any place.
+    #[inline(never)]
+    fn put_seldom(&mut self, child: &mut Child<'p>, place: Place)
+        requires { 0 < self.old.spare }
+        ensures branches { self.new.branches ≡ applied self.old.branches (Edit.Put (named_child nothing child.old) place) }
+        ensures spare { self.old.spare ≤ self.new.spare + 1 }
+    {
+        let child = told_child(taken_child(child));
+        self.apply(Edit::Put { child, place });
+    }
+
+    /// Makes the next element, which has no parent.
+    #[inline(always)]
+    fn new_element(&mut self, tag: Tag)
+        requires { length tag.attributes < self.old.spare }
+        ensures branches { self.new.branches ≡ applied self.old.branches (Edit.NewElement tag) }
+        ensures spare { self.old.spare ≤ self.new.spare + (length tag.attributes + 1) }
+    {
+        self.arena.new_element(tag);
+    }
+
+    /// Puts a text last into an element.
+    #[inline(always)]
+    fn put_text(&mut self, text: Text<'p>, parent: Ref)
+        requires { 0 < self.old.spare }
+        ensures branches { self.new.branches ≡ applied self.old.branches (Edit.Put (Child.Text text.entry) (Place.Into parent)) }
+        ensures spare { self.old.spare ≤ self.new.spare + 1 }
+    {
+        self.arena.put_text_into(text, parent);
+    }
+
+    /// Puts an element last into another.
+    #[inline(always)]
+    fn put_element(&mut self, node: Ref, parent: Ref)
+        requires { 0 < self.old.spare }
+        ensures branches { self.new.branches ≡ applied self.old.branches (Edit.Put (Child.Element node) (Place.Into parent)) }
+        ensures spare { self.old.spare ≤ self.new.spare + 1 }
+    {
+        if id_of(parent) == 0 {
+            self.put_root(node, parent);
+        } else {
+            self.arena.put_element_into(node, parent);
+        }
+    }
+
+    /// Puts an element last into another, which may be the document.
+    #[inline(never)]
+    fn put_root(&mut self, node: Ref, parent: Ref)
+        requires { 0 < self.old.spare }
+        ensures branches { self.new.branches ≡ applied self.old.branches (Edit.Put (Child.Element node) (Place.Into parent)) }
+        ensures spare { self.old.spare ≤ self.new.spare + 1 }
+    {
+        self.apply(Edit::Put {
+            child: Child::Element(node),
+            place: Place::Into(parent),
+        });
+    }
+
+    /// Makes an edit of any kind.
+    #[inline(never)]
+    fn make_seldom(&mut self, edit: &mut Edit<'p>)
+        requires { room_of edit.old ≤ self.old.spare }
+        ensures branches { self.new.branches ≡ applied self.old.branches (named_edit nothing edit.old) }
+        ensures spare { self.old.spare ≤ self.new.spare + room_of edit.old }
+    {
+        edit.tell();
+        self.apply(taken_edit(edit));
+    }
+}
+
+/// Moves a tag out, and leaves some other one.
+fn taken_tag(tag: &mut Tag) -> Tag
+    ensures { result ≡ tag.old }
+{
+    let other = Tag {
+        namespace: Namespace::Html,
+        name: Name::of_known(Known::Html),
+        attributes: Chain::new(),
+    };
+    mem::replace(tag, other)
+}
+
+/// Moves a text out, and leaves some other one.
+fn taken_text<'p>(text: &mut Text<'p>) -> Text<'p>
+    ensures { result ≡ text.old }
+{
+    mem::replace(text, Text::new())
+}
+
+/// Moves a child out, and leaves some other one.
+fn taken_child<'p>(child: &mut Child<'p>) -> Child<'p>
+    ensures { result ≡ child.old }
+{
+    mem::replace(child, Child::Element(Ref::Fixed(0)))
+}
+
+/// Moves an edit out, and leaves some other one.
+fn taken_edit<'p>(edit: &mut Edit<'p>) -> Edit<'p>
+    ensures { result ≡ edit.old }
+{
+    mem::replace(
+        edit,
+        Edit::Detach {
+            node: Ref::Fixed(0),
+        },
+    )
+}
+
+/// The element told by its id, where no older state is below.
+fn told(node: Ref) -> Ref
+    ensures { result ≡ named nothing node }
+{
+    match node {
+        Ref::Fixed(id) | Ref::Own(id) => Ref::Fixed(id),
+        Ref::Older(_) => Ref::Fixed(0),
     }
 }
 
@@ -191,5 +404,30 @@ impl<'p> Tree<'p> {
                 _ => None,
             },
         }
+    }
+}
+
+/// The place told so.
+fn told_place(place: Place) -> Place
+    ensures { result ≡ named_place nothing place }
+{
+    match place {
+        Place::Into(parent) => Place::Into(told(parent)),
+        Place::Foster { table, above } => Place::Foster {
+            table: told(table),
+            above: told(above),
+        },
+    }
+}
+
+/// The child told so.
+fn told_child(child: Child<'_>) -> Child<'_>
+    ensures { result ≡ named_child nothing child.entry }
+{
+    match child {
+        Child::Element(node) => Child::Element(told(node)),
+        Child::Text(text) => Child::Text(text),
+        Child::Comment(text) => Child::Comment(text),
+        Child::Doctype(doctype) => Child::Doctype(doctype),
     }
 }

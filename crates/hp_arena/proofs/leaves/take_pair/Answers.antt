@@ -1,6 +1,5 @@
-use Rattle.std.proofs.Common.{◌≡◌, ◌-◌, All, length, rules, subst, ap, ◌∙◌, List, ℕ}
+use Rattle.std.proofs.Common.{◌≡◌, ◌-◌, length, rules, ap, ◌∙◌, List, ℕ}
 use Rattle.std.proofs.Math.ListN.{set}
-use Rattle.hp_arena.specs.Leaves.{IsCell}
 use Rattle.hp_arena.proofs.Added.{both_cells}
 use Rattle.hp_arena.proofs.leaves.take_pair.Goals as goal
 

@@ -1,4 +1,4 @@
-use Rattle.std.proofs.Common.{◌≡◌, sym, ap, ◌∙◌}
+use Rattle.std.proofs.Common.{sym, ap, ◌∙◌}
 use Rattle.hp_arena.specs.Roots.{has_root_table}
 use Rattle.hp_arena.proofs.arena.Arena.apply.Goals as goal
 

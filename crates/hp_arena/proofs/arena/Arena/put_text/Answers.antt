@@ -1,11 +1,10 @@
-use Rattle.std.proofs.Common.{◌≡◌, ◌<◌, ℕ, length, ◌++◌, [], ◌∷◌, slice_index_or, sym, ap, ◌∙◌, subst, arith, refl, false}
-use Rattle.std.specs.List.{concat}
+use Rattle.std.proofs.Common.{◌≡◌, ◌<◌, ℕ, length, slice_index_or, sym, ap, ◌∙◌, subst, arith, refl, false}
 use Rattle.std.specs.Vec.{with_items}
-use Rattle.std.proofs.lemmas.List.{get_or_read, append-nil, with_items_is}
+use Rattle.std.proofs.lemmas.List.{get_or_read, with_items_is}
 use Rattle.hp_control.specs.Tree as item
 use Rattle.hp_control.specs.Tree.{put}
 use Rattle.hp_control.specs.declared.edit.Place.{Place}
-use Rattle.hp_arena.specs.Leaves.{leaf_items, leaf_item, leaf_at, is_text_leaf, text_of, IsTextAt, IsTextAdded}
+use Rattle.hp_arena.specs.Leaves.{leaf_items, leaf_at, is_text_leaf, text_of, IsTextAt, IsTextAdded}
 use Rattle.hp_arena.specs.Nodes.{links_of, kind_of, blank}
 use Rattle.hp_arena.specs.Shape.{IsSound, IsLeafAdded, IsPlaceIn, at_of, branches_of, items_in, is_text}
 use Rattle.hp_arena.specs.declared.links.Node.{Node}

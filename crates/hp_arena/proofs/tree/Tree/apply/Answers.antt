@@ -1,4 +1,4 @@
-use Rattle.std.proofs.Common.{◌≡◌, sym, ◌∙◌}
+use Rattle.std.proofs.Common.{sym, ◌∙◌}
 use Rattle.hp_arena.proofs.RootItems.{roots-applied, apart-table}
 use Rattle.hp_arena.proofs.tree.Tree.apply.Goals as goal
 
