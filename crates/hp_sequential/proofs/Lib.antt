@@ -2,7 +2,10 @@ pub mod Growth
 pub mod Toward
 pub mod Steps
 pub mod Numbers
-pub mod NextPiece
+pub mod Pieces
+pub mod Ways
+pub mod Straight
+pub mod Closed
 pub mod Ended
 pub mod Took
 pub mod Going

@@ -78,6 +78,7 @@ pub(crate) fn next_blanks<'p>(lexer: &mut Lexer, input: &mut Cursor<'p>) -> Opti
     ensures none { IfNone result ((lexer.new ≡ lexer.old) × (input.new ≡ input.old)) }
     ensures held { held lexer.new.lex ≤ input.new.place }
     ensures names { lexer.new.names ≡ lexer.old.names }
+    ensures ahead { lexer.new.lex.ahead ≡ lexer.old.lex.ahead }
 {
     match lexer.asked {
         Asked::Nothing => {

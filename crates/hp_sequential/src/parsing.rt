@@ -1,5 +1,5 @@
 // A run of the sequential parser over a page.
-ghost use Rattle.std.specs.Prelude.{◌≡◌, ◌≢◌, ◌^◌, ◌<◌, ◌≤◌, ℕ, List, [], ◌∷◌, length, map, true, false, Some, IfOk, IfSome, OnOk};
+ghost use Rattle.std.specs.Prelude.{◌≡◌, ◌≢◌, ◌^◌, ◌<◌, ◌≤◌, ℕ, List, [], ◌∷◌, length, map, true, false, Some, IfOk, IfSome, IsUtf8, OnOk};
 ghost use Rattle.std.specs.List.{list_all};
 ghost use Rattle.std.specs.Str.{chars};
 ghost use Rattle.hp_names.specs.BuiltIn.{built_in};
@@ -16,7 +16,7 @@ ghost use Rattle.hp_model.specs.Whole.{IsRead};
 ghost use Rattle.hp_run.specs.Pages.{IsTreeOf};
 ghost use Rattle.hp_steps.specs.Handling.{AllRead};
 ghost use Rattle.hp_sequential.specs.Building.{IsBuilder, HandledAll, HandledOne};
-ghost use Rattle.hp_sequential.specs.Reading.{IsReady, IsAtEnd, IsWithin, Reads, HasEnded, HasReadAll, StepsOn, ReadsOn, TakesPiece, ReadsPiece, Took, TookText, Tried};
+ghost use Rattle.hp_sequential.specs.Reading.{IsReady, IsAtEnd, IsInPiece, IsOnPage, IsWithin, Joined, PieceRead, Reads, ReadsFurther, HasEnded, HasReadAll, StepsOn, ReadsOn, ReadsPiece, Took, TookText, Tried, WentStraight};
 
 use crate::NoMemory;
 use crate::blanks::next_blanks;
@@ -31,14 +31,14 @@ use hp_text::Page;
 use hp_tokens::{LexState, Machine, OwnedText};
 use std::alloc::Global;
 
-/// The sequential parser within a page. It reads the page in pieces, each of which ends at a `>`, so that the lexer goes no
-/// further than to the end of a tag that may switch it.
+/// The sequential parser within a page. Most of it is read straight. Where the lexer's table goes on, it does so in a piece that ends
+/// at a `>`, no further than to the end of a tag that may switch the lexer.
 #[derive(Drop)]
 pub(crate) struct Parsing<'p> {
     lexer: Lexer,
-    /// What is still to be read of the piece.
+    /// What is still to be read of the page, or of a piece of it.
     input: Cursor<'p>,
-    /// What follows the piece.
+    /// What follows the piece; nothing outside of one.
     later: &'p str,
     builder: Builder<'p>,
 }
@@ -47,13 +47,14 @@ impl<'p> Parsing<'p> {
     /// The start of the page: the document alone, and the lexer in the data state.
     pub fn of_page(alloc: Global, page: Page<'p>) -> Result<Parsing<'p>, NoMemory>
         ensures ready { IfOk result IsReady }
+        ensures on_page { IfOk result IsOnPage }
         ensures reads { IfOk result (Reads (chars (text_of page.entry))) }
     {
         let builder = Builder::of_page(alloc)?;
         Ok(Parsing {
             lexer: page_lexer(),
-            input: Cursor::of_str(""),
-            later: page.as_str(),
+            input: Cursor::of_str(page.as_str()),
+            later: "",
             builder,
         })
     }
@@ -62,45 +63,109 @@ impl<'p> Parsing<'p> {
     fn run(&mut self, alloc: Global) -> Result<(), NoMemory>
         requires ready { IsReady self.old }
         requires within { IsWithin self.old }
+        requires on_page { IsOnPage self.old }
         ensures at_end { OnOk result (IsAtEnd self.new) }
         ensures reads { OnOk result ((page : List ℕ) → Reads page self.old → HasReadAll page self.new) }
     {
         'pieces: loop {
-            self.read_piece(alloc)?;
-            if !self.take_piece() {
+            self.read_straight(alloc)?;
+            if !self.read_piece(alloc)? {
                 return Ok(());
             }
         }
     }
 
-    /// Reads the piece to its end.
-    fn read_piece(&mut self, alloc: Global) -> Result<(), NoMemory>
+    /// Takes texts and tags straight, as long as such come next.
+    #[inline(never)]
+    fn read_straight(&mut self, alloc: Global) -> Result<(), NoMemory>
+        requires ready { IsReady self.old }
+        ensures went { OnOk result (WentStraight self.old self.new) }
+        ensures reads { OnOk result ((page : List ℕ) → Reads page self.old → ReadsFurther page self.old self.new) }
+    {
+        'steps: loop {
+            if !self.step_straight(alloc)? {
+                return Ok(());
+            }
+        }
+    }
+
+    /// Takes the text or the tag that comes next straight. Answers whether there was one.
+    fn step_straight(&mut self, alloc: Global) -> Result<bool, NoMemory>
+        requires ready { IsReady self.old }
+        ensures tried { IfOk result (Tried self.old self.new) }
+        ensures ahead { OnOk result (self.new.lexer.lex.ahead ≡ self.old.lexer.lex.ahead) }
+        ensures reads { OnOk result ((page : List ℕ) → Reads page self.old → ReadsFurther page self.old self.new) }
+    {
+        if self.is_at_markup() {
+            let tag = self.take_tag(alloc)?;
+            return Ok(tag);
+        }
+        let plain = self.take_plain(alloc)?;
+        Ok(plain)
+    }
+
+    /// Reads the text to the end of the next tag, where the lexer's table decides what comes next. Answers whether something
+    /// follows that on the page.
+    #[inline(never)]
+    fn read_piece(&mut self, alloc: Global) -> Result<bool, NoMemory>
         requires ready { IsReady self.old }
         requires within { IsWithin self.old }
+        requires on_page { IsOnPage self.old }
+        ensures read { IfOk result (PieceRead self.old self.new) }
+        ensures reads { IfOk result (λ more. (page : List ℕ) → Reads page self.old → ReadsPiece page self.new more) }
+    {
+        self.cut_piece();
+        self.read_cut(alloc)?;
+        let more = self.join_later();
+        Ok(more)
+    }
+
+    /// Cuts the text behind the next `>`.
+    fn cut_piece(&mut self)
+        requires ready { IsReady self.old }
+        requires on_page { IsOnPage self.old }
+        ensures ready { IsReady self.new }
+        ensures in_piece { IsInPiece self.new }
+        ensures shorter { self.new.later.now ≢ [] → length (chars self.new.later.now) < length self.old.input.text }
+        ensures reads { (page : List ℕ) → Reads page self.old → Reads page self.new }
+    {
+        let rest = unread_text(&self.input);
+        let (piece, later) = cut(rest);
+        is_text(rest, later);
+        self.input = Cursor::of_str(piece);
+        self.later = later;
+    }
+
+    /// Reads a piece to its end.
+    fn read_cut(&mut self, alloc: Global) -> Result<(), NoMemory>
+        requires ready { IsReady self.old }
+        requires within { IsWithin self.old }
+        requires in_piece { IsInPiece self.old }
         ensures at_end { OnOk result (IsAtEnd self.new) }
         ensures later { OnOk result (self.new.later ≡ self.old.later) }
         ensures reads { OnOk result ((page : List ℕ) → Reads page self.old → HasEnded page self.new) }
     {
         'steps: loop {
-            if !self.step(alloc)? {
+            if !self.step_by_table(alloc)? {
                 return Ok(());
             }
+            self.read_straight(alloc)?;
         }
     }
 
-    /// Goes on with the next piece of the page. Answers whether there is one.
-    fn take_piece(&mut self) -> bool
+    /// Goes on with what follows the piece. Answers whether something does.
+    fn join_later(&mut self) -> bool
         requires at_end { IsAtEnd self.old }
-        ensures takes { TakesPiece self.old self.new result }
+        ensures joined { Joined self.old self.new result }
+        ensures on_page { result ≡ true → (page : List ℕ) → HasEnded page self.old → IsOnPage self.new }
         ensures reads { (page : List ℕ) → HasEnded page self.old → ReadsPiece page self.new result }
     {
         rests_ahead();
         if self.is_last() {
             return false;
         }
-        let (piece, later) = cut(self.later);
-        self.input = Cursor::of_str(piece);
-        self.later = later;
+        self.input = Cursor::of_str(self.later);
+        self.later = "";
         true
     }
 
@@ -112,58 +177,13 @@ impl<'p> Parsing<'p> {
         self.later.is_empty()
     }
 
-    /// One step of the lexer, and what it calls for. Answers whether the piece goes on.
-    fn step(&mut self, alloc: Global) -> Result<bool, NoMemory>
-        requires ready { IsReady self.old }
-        requires within { IsWithin self.old }
-        ensures steps { IfOk result (StepsOn self.old self.new) }
-        ensures reads { IfOk result (λ more. (page : List ℕ) → Reads page self.old → ReadsOn page self.new more) }
-    {
-        if self.pass_cut() {
-            return Ok(false);
-        }
-        self.go_on(alloc)
-    }
-
-    /// Whether the piece is used up and the lexer rests in the data state; then it stands before the next piece. Otherwise nothing
-    /// changes.
-    fn pass_cut(&mut self) -> bool
-        requires ready { IsReady self.old }
-        ensures steps { result ≡ true → StepsOn self.old self.new false }
-        ensures reads { result ≡ true → (page : List ℕ) → Reads page self.old → HasEnded page self.new }
-        ensures left { result ≡ false → self.new ≡ self.old }
-    {
-        self.lexer.pass_cut(&self.input)
-    }
-
-    /// One step where the piece isn't known to be used up.
-    fn go_on(&mut self, alloc: Global) -> Result<bool, NoMemory>
-        requires ready { IsReady self.old }
-        requires within { IsWithin self.old }
-        ensures steps { IfOk result (StepsOn self.old self.new) }
-        ensures reads { IfOk result (λ more. (page : List ℕ) → Reads page self.old → ReadsOn page self.new more) }
-    {
-        let text = self.take_plain(alloc)?;
-        if text {
-            return Ok(true);
-        }
-        let tag = self.take_tag(alloc)?;
-        if tag {
-            return Ok(true);
-        }
-        let more = self.step_by_table(alloc)?;
-        Ok(more)
-    }
-
     /// Takes a text at the front whole, or white space at the front. Answers whether there was one.
     fn take_plain(&mut self, alloc: Global) -> Result<bool, NoMemory>
         requires ready { IsReady self.old }
         ensures tried { IfOk result (Tried self.old self.new) }
-        ensures reads { OnOk result ((page : List ℕ) → Reads page self.old → Reads page self.new) }
+        ensures ahead { OnOk result (self.new.lexer.lex.ahead ≡ self.old.lexer.lex.ahead) }
+        ensures reads { OnOk result ((page : List ℕ) → Reads page self.old → ReadsFurther page self.old self.new) }
     {
-        if self.is_at_markup() {
-            return Ok(false);
-        }
         if self.builder.takes_text() {
             let text = self.take_text(alloc)?;
             return Ok(text);
@@ -178,7 +198,8 @@ impl<'p> Parsing<'p> {
         requires ready { IsReady self.old }
         requires takes { takes_text (split_of self.old.builder.view) ≡ true }
         ensures tried { IfOk result (Tried self.old self.new) }
-        ensures reads { OnOk result ((page : List ℕ) → Reads page self.old → Reads page self.new) }
+        ensures ahead { OnOk result (self.new.lexer.lex.ahead ≡ self.old.lexer.lex.ahead) }
+        ensures reads { OnOk result ((page : List ℕ) → Reads page self.old → ReadsFurther page self.old self.new) }
     {
         hp_model::at_once();
         hp_lexer::steps_fall();
@@ -196,7 +217,8 @@ impl<'p> Parsing<'p> {
     fn take_blanks(&mut self, alloc: Global) -> Result<bool, NoMemory>
         requires ready { IsReady self.old }
         ensures tried { IfOk result (Tried self.old self.new) }
-        ensures reads { OnOk result ((page : List ℕ) → Reads page self.old → Reads page self.new) }
+        ensures ahead { OnOk result (self.new.lexer.lex.ahead ≡ self.old.lexer.lex.ahead) }
+        ensures reads { OnOk result ((page : List ℕ) → Reads page self.old → ReadsFurther page self.old self.new) }
     {
         hp_model::at_once();
         hp_lexer::steps_fall();
@@ -244,17 +266,18 @@ impl<'p> Parsing<'p> {
     fn take_tag(&mut self, alloc: Global) -> Result<bool, NoMemory>
         requires ready { IsReady self.old }
         ensures tried { IfOk result (Tried self.old self.new) }
-        ensures reads { OnOk result ((page : List ℕ) → Reads page self.old → Reads page self.new) }
+        ensures ahead { OnOk result (self.new.lexer.lex.ahead ≡ self.old.lexer.lex.ahead) }
+        ensures reads { OnOk result ((page : List ℕ) → Reads page self.old → ReadsFurther page self.old self.new) }
     {
         hp_model::at_once();
         hp_lexer::steps_fall();
-        let found = self.lexer.next_tag(alloc, &mut self.input)?;
-        match found {
-            Some(tag) => {
+        match self.lexer.next_tag(alloc, &mut self.input) {
+            Ok(Some(tag)) => {
                 self.handle_one(alloc, tag)?;
                 Ok(true)
             }
-            None => Ok(false),
+            Ok(None) => Ok(false),
+            Err(fault) => Err(fault),
         }
     }
 
@@ -263,7 +286,9 @@ impl<'p> Parsing<'p> {
     fn step_by_table(&mut self, alloc: Global) -> Result<bool, NoMemory>
         requires ready { IsReady self.old }
         requires within { IsWithin self.old }
+        requires in_piece { IsInPiece self.old }
         ensures steps { IfOk result (StepsOn self.old self.new) }
+        ensures in_piece { OnOk result (IsInPiece self.new) }
         ensures reads { IfOk result (λ more. (page : List ℕ) → Reads page self.old → ReadsOn page self.new more) }
     {
         hp_model::at_once();
@@ -361,6 +386,7 @@ impl<'p> Parsing<'p> {
     pub fn read_all(&mut self, alloc: Global) -> Result<(), NoMemory>
         requires ready { IsReady self.old }
         requires within { IsWithin self.old }
+        requires on_page { IsOnPage self.old }
         ensures { OnOk result ((page : List ℕ) → Reads page self.old → IsTreeOf built_in page self.new.builder.tree.branches) }
     {
         self.run(alloc)?;
@@ -382,6 +408,19 @@ impl<'p> Parsing<'p> {
         let _ = self.into_tree();
     }
 }
+
+/// What is still to be read.
+fn unread_text<'p>(input: &Cursor<'p>) -> &'p str
+    ensures { chars result.now ≡ input.now.text }
+{
+    unsafe { std::str::from_utf8_unchecked(input.rest()) }
+}
+
+/// Each `&str` is text. It does nothing; its contract is the fact.
+fn is_text(text: &str, later: &str)
+    ensures text { IsUtf8 text.now }
+    ensures later { IsUtf8 later.now }
+{}
 
 /// The lexer in the data state, before the first start tag: the last one's name counts as empty.
 fn page_lexer() -> Lexer

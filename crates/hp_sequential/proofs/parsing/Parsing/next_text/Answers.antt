@@ -5,8 +5,9 @@ use Rattle.hp_sequential.proofs.parsing.Parsing.next_text.Goals as goal
 pub returns-in-Some : goal.returns-in-Some
 returns-in-Some c =
     text-taken c.args.self.now c.args.self.now.lexer c.args.self.now.input c.next_plain.new.self c.next_plain.new.input (Some c.in-Some.text) refl refl c.in-Some.ensures.text tt c.next_plain.ensures.held c.next_plain.ensures.names
+    c.next_plain.ensures.ahead
 
 pub returns-in-None : goal.returns-in-None
 returns-in-None c =
     text-taken c.args.self.now c.next_plain.new.self c.next_plain.new.input c.next_reference.new.self c.next_reference.new.input c.next_reference.result (c.in-None.ensures.none).0 (c.in-None.ensures.none).1
-    c.next_reference.ensures.text c.next_reference.ensures.none c.next_reference.ensures.held c.next_reference.ensures.names
+    c.next_reference.ensures.text c.next_reference.ensures.none c.next_reference.ensures.held c.next_reference.ensures.names c.next_reference.ensures.ahead

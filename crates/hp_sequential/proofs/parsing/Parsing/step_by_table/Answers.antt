@@ -2,7 +2,8 @@ use Rattle.std.proofs.Common.{refl}
 use Rattle.hp_lexer.specs.declared.lexer.Step.TheVariants as steps
 use Rattle.hp_steps.proofs.Stepping.{stepped-read}
 use Rattle.hp_sequential.proofs.Going.{steps-took}
-use Rattle.hp_sequential.proofs.Steps.{step-cdata, step-cut, step-tokens, told-step}
+use Rattle.hp_sequential.proofs.Closed.{closed-tokens}
+use Rattle.hp_sequential.proofs.Steps.{closed-cdata, closed-cut, step-cdata, step-cut, step-tokens, told-step}
 use Rattle.hp_sequential.proofs.Within.{not-asked}
 use Rattle.hp_sequential.proofs.parsing.Parsing.step_by_table.Goals as goal
 
@@ -17,14 +18,30 @@ handle-requires-clause-runs c =
 pub returns-in_ok-handle-in-Tokens-clause-reads : goal.returns-in_ok-handle-in-Tokens-clause-reads
 returns-in_ok-handle-in-Tokens-clause-reads c = λ page r.
     step-tokens c.at_once.ensures.token page c.args.self.now (record c.args.self.now { lexer = c.next.new.self; input = c.next.new.input }) c.handle.new.self _ c.in-Tokens.tokens
-    c.requires.ready.builder (told-step c.args.self.now.lexer c.args.self.now.input c.next.new.self c.next.new.input c.in_ok-tokens.field-0 (steps.Tokens _ c.in-Tokens.tokens) c.in-Tokens.is c.in_ok-tokens.ensures.step)
+    c.requires.ready.builder c.requires.in_piece (told-step c.args.self.now.lexer c.args.self.now.input c.next.new.self c.next.new.input c.in_ok-tokens.field-0 (steps.Tokens _ c.in-Tokens.tokens) c.in-Tokens.is c.in_ok-tokens.ensures.step)
     c.in_ok-tokens.ensures.names refl refl c.in_ok-handle-in-Tokens.ensures r
 
 pub returns-in_ok-foreign-in-AskCdata-clause-reads : goal.returns-in_ok-foreign-in-AskCdata-clause-reads
 returns-in_ok-foreign-in-AskCdata-clause-reads c = λ page r.
-    step-cdata page c.args.self.now (record c.args.self.now { lexer = c.next.new.self; input = c.next.new.input }) _ c.in_ok-foreign-in-AskCdata.foreign
-    (told-step c.args.self.now.lexer c.args.self.now.input c.next.new.self c.next.new.input c.in_ok-tokens.field-0 steps.AskCdata c.in-AskCdata.is c.in_ok-tokens.ensures.step) c.in_ok-tokens.ensures.names c.answer_cdata.ensures refl refl
+    step-cdata c.args.self.now (record c.args.self.now { lexer = c.next.new.self; input = c.next.new.input }) _ c.in_ok-foreign-in-AskCdata.foreign
+    (told-step c.args.self.now.lexer c.args.self.now.input c.next.new.self c.next.new.input c.in_ok-tokens.field-0 steps.AskCdata c.in-AskCdata.is c.in_ok-tokens.ensures.step) c.answer_cdata.ensures refl page c.in_ok-tokens.ensures.names refl
     c.in_ok-foreign-in-AskCdata.ensures.foreign c.in_ok-foreign-in-AskCdata.ensures.control c.in_ok-foreign-in-AskCdata.ensures.grown r
+
+pub returns-in_ok-foreign-in-AskCdata-clause-in_piece : goal.returns-in_ok-foreign-in-AskCdata-clause-in_piece
+returns-in_ok-foreign-in-AskCdata-clause-in_piece c =
+    closed-cdata c.args.self.now (record c.args.self.now { lexer = c.next.new.self; input = c.next.new.input }) _ c.in_ok-foreign-in-AskCdata.foreign
+    (told-step c.args.self.now.lexer c.args.self.now.input c.next.new.self c.next.new.input c.in_ok-tokens.field-0 steps.AskCdata c.in-AskCdata.is c.in_ok-tokens.ensures.step) c.answer_cdata.ensures refl c.requires.within.reads.names c.requires.in_piece
+
+pub returns-in_ok-handle-in-Tokens-clause-in_piece : goal.returns-in_ok-handle-in-Tokens-clause-in_piece
+returns-in_ok-handle-in-Tokens-clause-in_piece c =
+    closed-tokens c.args.self.now (record c.args.self.now { lexer = c.next.new.self; input = c.next.new.input }) c.handle.new.self _ c.in-Tokens.tokens c.requires.within.reads.names
+    (told-step c.args.self.now.lexer c.args.self.now.input c.next.new.self c.next.new.input c.in_ok-tokens.field-0 (steps.Tokens _ c.in-Tokens.tokens) c.in-Tokens.is c.in_ok-tokens.ensures.step)
+    c.in_ok-handle-in-Tokens.ensures c.requires.in_piece
+
+pub returns-in-AtCut-clause-in_piece : goal.returns-in-AtCut-clause-in_piece
+returns-in-AtCut-clause-in_piece c =
+    closed-cut c.args.self.now _ (told-step c.args.self.now.lexer c.args.self.now.input c.next.new.self c.next.new.input c.in_ok-tokens.field-0 steps.AtCut c.in-AtCut.is c.in_ok-tokens.ensures.step)
+    c.requires.within.reads.names c.requires.in_piece
 
 pub returns-in-AtCut-clause-reads : goal.returns-in-AtCut-clause-reads
 returns-in-AtCut-clause-reads c = λ page r.
