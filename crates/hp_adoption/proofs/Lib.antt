@@ -9,3 +9,4 @@ pub mod Whites
 pub mod Carrying
 pub mod LastEntry
 pub mod FewEqual
+pub mod Standing

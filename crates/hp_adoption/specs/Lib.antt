@@ -24,3 +24,4 @@ pub mod LinkLaws
 pub mod AdoptMeans
 pub mod LastEntry
 pub mod FewEntries
+pub mod Still

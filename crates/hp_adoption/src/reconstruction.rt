@@ -2,6 +2,7 @@
 ghost use Rattle.std.specs.Prelude.{◌≡◌};
 ghost use Rattle.hp_views.specs.View.{sight, Carries};
 ghost use Rattle.hp_views.specs.Walks.{IsWithin};
+ghost use Rattle.hp_adoption.specs.Still.{is_still, is_still_at, is_top};
 ghost use Rattle.hp_adoption.specs.ReconPlans.{is_settled as spec_is_settled, stale_walk as spec_stale_walk, renew_plan, renew_down_plan, reconstruct_plan};
 
 use crate::elements::point_of;
@@ -93,10 +94,55 @@ fn renew_down<'p, B: Below>(
     Ok(())
 }
 
+/// Whether the current node is the own element of this id.
+#[inline(always)]
+fn is_top(stack: &OpenElements, id: u64) -> bool
+    ensures { result ≡ is_top id stack.now }
+{
+    !stack.is_empty() && stack.at(0).id == id
+}
+
+/// Whether the entry is a marker, or the current node's.
+#[inline(always)]
+fn is_still_at(stack: &OpenElements, entry: &FormattingEntry) -> bool
+    ensures { result ≡ is_still_at stack.now entry.now }
+{
+    match entry {
+        FormattingEntry::Marker => true,
+        FormattingEntry::Element { id, .. } => is_top(stack, *id),
+    }
+}
+
+/// Whether the last entry is.
+#[inline(always)]
+fn is_still(change: &Change) -> bool
+    ensures { result ≡ is_still change.now.stack change.now.formatting }
+{
+    !change.formatting.is_empty() && is_still_at(&change.stack, change.formatting.at(0))
+}
+
 /// Makes the elements anew of the entries after the last one that is a marker or open; `fostering` says that they may not stand
 /// in a table. Where an older entry would be made anew, it crosses.
 #[inline(always)]
 pub fn reconstruct<'p, B: Below>(
+    alloc: Global,
+    view: &mut View<'p, B>,
+    fostering: bool,
+) -> Result<(), Refusal>
+    ensures { Carries result (sight B.heard view.old) (sight B.heard view.new) (reconstruct_plan fostering) }
+{
+    if view.change.formatting.is_empty() {
+        return reconstruct_below(alloc, view, fostering);
+    }
+    if is_still(&view.change) {
+        return Ok(());
+    }
+    reconstruct_any(alloc, view, fostering)
+}
+
+/// The same whatever the last entry is.
+#[inline(never)]
+fn reconstruct_any<'p, B: Below>(
     alloc: Global,
     view: &mut View<'p, B>,
     fostering: bool,
