@@ -2,6 +2,8 @@
 #![tactic(auto)]
 
 #[cfg(test)]
+mod growing;
+#[cfg(test)]
 mod printing;
 #[cfg(test)]
 mod tree;

@@ -1,16 +1,15 @@
 //! Trees that edits make, printed.
 
+use crate::growing::{comment, detach, element, foster, keep_room, make, put, put_element};
 use hp_arena::Tree;
-use hp_control::{Child, Edit, Edits, Place, Ref};
+use hp_control::{Child, Edit, Ref};
 use hp_elements::{
-    Attribute, AttributeSpace, Chain, Doctype, DoctypeParts, Known, Name, Namespace, NoMemory, Tag,
-    Text,
+    Attribute, AttributeSpace, Chain, Doctype, DoctypeParts, Known, Name, Namespace, Tag, Text,
 };
 use hp_print::print_tree;
 use std::alloc::Global;
 use std::mem;
 use std::process::Abort;
-use std::test::Fail;
 
 /// A step in the growth of a tree. Elements are told by their ids, which count them as they are made.
 #[derive(Clone, Copy)]
@@ -47,79 +46,22 @@ struct Grown {
     attributes: Chain<Attribute>,
 }
 
-/// Makes room for 64 edits without attributes.
-fn make_room(alloc: Global, tree: &mut Tree<'_>) -> Result<(), NoMemory> {
-    let mut edits = Edits::new();
-    for _ in 0..64 {
-        let node = Ref::Fixed(0);
-        edits.push(alloc, Edit::Detach { node })?;
-    }
-    tree.reserve(alloc, &edits)
-}
-
-/// Makes an edit.
-fn make<'p>(
-    rt: &impl Abort,
-    alloc: Global,
-    tree: &mut Tree<'p>,
-    edit: Edit<'p>,
-) -> Result<(), NoMemory> {
-    if tree.spare() < 16 {
-        make_room(alloc, tree)?;
-    }
-    let room = edit.room();
-    assert!(rt; room <= tree.spare());
-    tree.apply(edit);
-    Ok(())
-}
-
 fn new_element(tag: Tag) -> Edit<'static> {
     Edit::NewElement { tag }
 }
 
-fn put_element(id: u64, parent: u64) -> Edit<'static> {
-    let child = Child::Element(Ref::Fixed(id));
-    let place = Place::Into(Ref::Fixed(parent));
-    Edit::Put { child, place }
-}
-
-fn put_empty_comment(place: Place) -> Edit<'static> {
-    let child = Child::Comment(Text::new());
-    Edit::Put { child, place }
-}
-
-fn put_letter(place: Place) -> Edit<'static> {
-    let child = Child::Text(Text::of_char('t'));
-    Edit::Put { child, place }
-}
-
-/// Makes an element, and puts it last into another.
-fn add(
-    rt: &impl Abort,
-    alloc: Global,
-    tree: &mut Tree<'static>,
-    tag: Tag,
-    parent: u64,
-) -> Result<(), NoMemory> {
+/// Makes an element, and puts it last into another. There is room for both edits.
+fn add(rt: &impl Abort, tree: &mut Tree<'static>, element: Edit<'static>, parent: u64) {
     let id = tree.len() as u64;
-    make(rt, alloc, tree, new_element(tag))?;
-    make(rt, alloc, tree, put_element(id, parent))
+    make(rt, tree, element);
+    make(rt, tree, put_element(id, parent));
 }
 
-/// Makes an HTML element without attributes, and puts it last into another.
-fn add_html(
-    rt: &impl Abort,
-    alloc: Global,
-    tree: &mut Tree<'static>,
-    known: Known,
-    parent: u64,
-) -> Result<(), NoMemory> {
-    let tag = Tag {
-        namespace: HTML,
-        name: Name::of_known(known),
-        attributes: Chain::new(),
-    };
-    add(rt, alloc, tree, tag, parent)
+/// Makes html, head and body.
+fn add_page(rt: &impl Abort, tree: &mut Tree<'static>) {
+    add(rt, tree, element(Known::Html), 0);
+    add(rt, tree, element(Known::Head), 1);
+    add(rt, tree, element(Known::Body), 1);
 }
 
 /// A text that stands in the program.
@@ -142,120 +84,105 @@ fn doctype(
     alloc: Global,
     public: Option<&'static str>,
     system: Option<&'static str>,
-) -> Result<Doctype<'static>, NoMemory> {
+) -> Doctype<'static> {
     let parts = DoctypeParts {
         name: Some(whole(rt, "html")),
         public: identifier(rt, public),
         system: identifier(rt, system),
         force_quirks: false,
     };
-    Doctype::new(alloc, parts)
+    Doctype::new(alloc, parts).expect(rt, "there is memory")
 }
 
-fn before(table: u64) -> Place {
-    Place::Foster {
-        table: Ref::Fixed(table),
-        above: Ref::Fixed(0),
+fn text(rt: &impl Abort, alloc: Global, text: &'static str) -> Text<'static> {
+    Text::from_str(alloc, text).expect(rt, "there is memory")
+}
+
+fn name(rt: &impl Abort, alloc: Global, name: &'static str) -> Name {
+    Name::from_text(alloc, name).expect(rt, "there is memory")
+}
+
+/// The child that a step puts somewhere.
+fn child_of(rt: &impl Abort, alloc: Global, step: Step) -> Child<'static> {
+    match step {
+        Step::Text(_, own) | Step::Foster(_, own) => Child::Text(text(rt, alloc, own)),
+        Step::Comment(_, own) => Child::Comment(text(rt, alloc, own)),
+        Step::Doctype(public, system) => Child::Doctype(doctype(rt, alloc, public, system)),
+        Step::Put(id, _) | Step::PutBefore(id, _) => Child::Element(Ref::Fixed(id)),
+        _ => panic!(rt; "a step without a child"),
     }
 }
 
 /// The edit of a step that makes no element.
-fn edit_of(rt: &impl Abort, alloc: Global, step: Step) -> Result<Edit<'static>, NoMemory> {
-    let (child, place) = match step {
-        Step::Text(parent, text) => (
-            Child::Text(Text::from_str(alloc, text)?),
-            Place::Into(Ref::Fixed(parent)),
-        ),
-        Step::Foster(table, text) => (Child::Text(Text::from_str(alloc, text)?), before(table)),
-        Step::Comment(parent, text) => (
-            Child::Comment(Text::from_str(alloc, text)?),
-            Place::Into(Ref::Fixed(parent)),
-        ),
-        Step::Doctype(public, system) => (
-            Child::Doctype(doctype(rt, alloc, public, system)?),
-            Place::Into(Ref::Fixed(0)),
-        ),
-        Step::Put(id, parent) => (
-            Child::Element(Ref::Fixed(id)),
-            Place::Into(Ref::Fixed(parent)),
-        ),
-        Step::PutBefore(id, table) => (Child::Element(Ref::Fixed(id)), before(table)),
-        Step::Move(from, to) => {
-            let from = Ref::Fixed(from);
-            let to = Ref::Fixed(to);
-            return Ok(Edit::MoveChildren { from, to });
+fn edit_of(rt: &impl Abort, alloc: Global, step: Step) -> Edit<'static> {
+    match step {
+        Step::Move(from, to) => Edit::MoveChildren {
+            from: Ref::Fixed(from),
+            to: Ref::Fixed(to),
+        },
+        Step::Detach(id) => detach(id),
+        Step::Foster(table, _) | Step::PutBefore(_, table) => {
+            foster(child_of(rt, alloc, step), table, 0)
         }
-        Step::Detach(id) => {
-            let node = Ref::Fixed(id);
-            return Ok(Edit::Detach { node });
+        Step::Text(parent, _) | Step::Comment(parent, _) | Step::Put(_, parent) => {
+            put(child_of(rt, alloc, step), parent)
         }
-        Step::Page | Step::New(..) | Step::With(..) => return Err(NoMemory),
-    };
-    Ok(Edit::Put { child, place })
+        _ => put(child_of(rt, alloc, step), 0),
+    }
 }
 
 /// Makes one step.
-fn grow(rt: &impl Abort, alloc: Global, grown: &mut Grown, step: Step) -> Result<(), NoMemory> {
+fn grow(rt: &impl Abort, alloc: Global, grown: &mut Grown, step: Step) {
+    keep_room(rt, alloc, &mut grown.tree);
     match step {
-        Step::Page => {
-            add_html(rt, alloc, &mut grown.tree, Known::Html, 0)?;
-            add_html(rt, alloc, &mut grown.tree, Known::Head, 1)?;
-            add_html(rt, alloc, &mut grown.tree, Known::Body, 1)
+        Step::Page => add_page(rt, &mut grown.tree),
+        Step::With(space, own, value) => {
+            let attribute = Attribute {
+                space,
+                name: name(rt, alloc, own),
+                value: text(rt, alloc, value),
+            };
+            let pushed = grown.attributes.push(alloc, attribute);
+            assert!(rt; pushed.is_ok());
+            mem::forget(pushed);
         }
-        Step::With(space, name, value) => {
-            let name = Name::from_text(alloc, name)?;
-            let value = Text::from_str(alloc, value)?;
-            grown
-                .attributes
-                .push(alloc, Attribute { space, name, value })?;
-            Ok(())
-        }
-        Step::New(parent, namespace, name) => {
+        Step::New(parent, namespace, own) => {
             let tag = Tag {
                 namespace,
-                name: Name::from_text(alloc, name)?,
+                name: name(rt, alloc, own),
                 attributes: mem::replace(&mut grown.attributes, Chain::new()),
             };
-            add(rt, alloc, &mut grown.tree, tag, parent)
+            add(rt, &mut grown.tree, new_element(tag), parent);
         }
-        _ => {
-            let edit = edit_of(rt, alloc, step)?;
-            make(rt, alloc, &mut grown.tree, edit)
-        }
+        _ => make(rt, &mut grown.tree, edit_of(rt, alloc, step)),
     }
-}
-
-/// The tree that comes of these steps.
-fn tree_of(rt: &impl Abort, alloc: Global, steps: &[Step]) -> Result<Tree<'static>, NoMemory> {
-    let mut grown = Grown {
-        tree: Tree::start(alloc)?,
-        attributes: Chain::new(),
-    };
-    for step in steps {
-        grow(rt, alloc, &mut grown, *step)?;
-    }
-    Ok(grown.tree)
 }
 
 /// The tree of the empty page, printed.
 const PAGE: &str = "| <html>\n|   <head>\n|   <body>\n";
 
 /// Whether a tree is printed so, in two parts.
-fn prints_so(alloc: Global, tree: &Tree<'_>, front: &str, rest: &str) -> Result<bool, NoMemory> {
-    let printed = print_tree(alloc, tree)?;
-    Ok(
-        printed.len() == front.len().wrapping_add(rest.len())
-            && printed.starts_with(front.as_bytes())
-            && printed.ends_with(rest.as_bytes()),
-    )
+fn prints_so(rt: &impl Abort, alloc: Global, tree: &Tree<'_>, front: &str, rest: &str) -> bool {
+    let printed = print_tree(alloc, tree).expect(rt, "there is memory");
+    let well = printed.len() == front.len().wrapping_add(rest.len())
+        && printed.starts_with(front.as_bytes())
+        && printed.ends_with(rest.as_bytes());
+    mem::forget(printed);
+    well
 }
 
-/// Whether the tree of these steps is printed so, in two parts. The tree is kept to the end of the test.
-fn shows(rt: &impl Abort, alloc: Global, case: &Case) -> Result<bool, NoMemory> {
+/// Whether the tree of these steps is printed so, in two parts. What is owned is kept to the end of the test.
+fn shows(rt: &impl Abort, alloc: Global, case: &Case) -> bool {
     let (steps, front, rest) = *case;
-    let tree = tree_of(rt, alloc, steps)?;
-    let shown = prints_so(alloc, &tree, front, rest);
-    mem::forget(tree);
+    let mut grown = Grown {
+        tree: Tree::start(alloc).expect(rt, "there is memory"),
+        attributes: Chain::new(),
+    };
+    for step in steps {
+        grow(rt, alloc, &mut grown, *step);
+    }
+    let shown = prints_so(rt, alloc, &grown.tree, front, rest);
+    mem::forget(grown);
     shown
 }
 
@@ -512,17 +439,15 @@ const SHOP_TEXT: &str = "|   <head>
 \"
 ";
 
-fn compare(rt: &impl Abort, alloc: Global, cases: &[Case]) -> Result<(), NoMemory> {
+fn compare(rt: &impl Abort, alloc: Global, cases: &[Case]) {
     for case in cases {
-        assert!(rt; shows(rt, alloc, case)?);
+        assert!(rt; shows(rt, alloc, case));
     }
-    Ok(())
 }
 
 #[test]
-fn trees_are_printed(rt: HostRuntime) -> Result<(), Fail> {
-    compare(&rt, rt.alloc(), CASES)?;
-    Ok(())
+fn trees_are_printed(rt: HostRuntime) {
+    compare(&rt, rt.alloc(), CASES);
 }
 
 /// What a page is grown by.
@@ -537,87 +462,64 @@ enum Growth {
     BeforeTable(u64),
 }
 
-fn add_levels(
-    rt: &impl Abort,
-    alloc: Global,
-    tree: &mut Tree<'static>,
-    count: u64,
-) -> Result<(), NoMemory> {
-    for level in 0..count {
-        add_html(rt, alloc, tree, Known::Div, level.wrapping_add(3))?;
-    }
-    Ok(())
+fn letter() -> Child<'static> {
+    Child::Text(Text::of_char('t'))
 }
 
-fn add_siblings(
-    rt: &impl Abort,
-    alloc: Global,
-    tree: &mut Tree<'static>,
-    count: u64,
-) -> Result<(), NoMemory> {
-    for _ in 0..count {
-        let place = Place::Into(Ref::Fixed(3));
-        make(rt, alloc, tree, put_empty_comment(place))?;
-    }
-    Ok(())
-}
-
-fn add_before_table(
-    rt: &impl Abort,
-    alloc: Global,
-    tree: &mut Tree<'static>,
-    count: u64,
-) -> Result<(), NoMemory> {
-    add_html(rt, alloc, tree, Known::Table, 3)?;
-    for _ in 0..count {
-        make(rt, alloc, tree, put_empty_comment(before(4)))?;
-        make(rt, alloc, tree, put_letter(before(4)))?;
-    }
-    Ok(())
-}
-
-/// The length of the printed tree after its growth.
-fn length_after(
-    rt: &impl Abort,
-    alloc: Global,
-    tree: &mut Tree<'static>,
-    growth: Growth,
-) -> Result<usize, NoMemory> {
+/// Lets a page grow.
+fn grow_page(rt: &impl Abort, alloc: Global, tree: &mut Tree<'static>, growth: Growth) {
     match growth {
-        Growth::Levels(count) => add_levels(rt, alloc, tree, count)?,
-        Growth::Siblings(count) => add_siblings(rt, alloc, tree, count)?,
-        Growth::BeforeTable(count) => add_before_table(rt, alloc, tree, count)?,
+        Growth::Levels(count) => {
+            for level in 0..count {
+                keep_room(rt, alloc, tree);
+                add(rt, tree, element(Known::Div), level.wrapping_add(3));
+            }
+        }
+        Growth::Siblings(count) => {
+            for _ in 0..count {
+                keep_room(rt, alloc, tree);
+                make(rt, tree, put(comment(), 3));
+            }
+        }
+        Growth::BeforeTable(count) => {
+            add(rt, tree, element(Known::Table), 3);
+            for _ in 0..count {
+                keep_room(rt, alloc, tree);
+                make(rt, tree, foster(comment(), 4, 0));
+                make(rt, tree, foster(letter(), 4, 0));
+            }
+        }
     }
-    let printed = print_tree(alloc, tree)?;
-    Ok(printed.len())
 }
 
-/// The length of the printed tree of the empty page after its growth. The tree is kept to the end of the test.
-fn printed_length(rt: &impl Abort, alloc: Global, growth: Growth) -> Result<usize, NoMemory> {
-    let mut tree = tree_of(rt, alloc, &[Step::Page])?;
-    let length = length_after(rt, alloc, &mut tree, growth);
+/// The length of the printed tree of the empty page after its growth. What is owned is kept to the end of the test.
+fn printed_length(rt: &impl Abort, alloc: Global, growth: Growth) -> usize {
+    let mut tree: Tree<'static> = Tree::start(alloc).expect(rt, "there is memory");
+    keep_room(rt, alloc, &mut tree);
+    add_page(rt, &mut tree);
+    grow_page(rt, alloc, &mut tree, growth);
+    let printed = print_tree(alloc, &tree).expect(rt, "there is memory");
+    let length = printed.len();
+    mem::forget(printed);
     mem::forget(tree);
     length
 }
 
 /// Each level indents by two, so 2,000 levels below body take 4 MB.
 #[test]
-fn two_thousand_levels(rt: HostRuntime) -> Result<(), Fail> {
-    let length = printed_length(&rt, rt.alloc(), Growth::Levels(2_000))?;
+fn two_thousand_levels(rt: HostRuntime) {
+    let length = printed_length(&rt, rt.alloc(), Growth::Levels(2_000));
     assert!(rt; length == 4_022_031);
-    Ok(())
 }
 
 #[test]
-fn a_million_siblings(rt: HostRuntime) -> Result<(), Fail> {
-    let length = printed_length(&rt, rt.alloc(), Growth::Siblings(1_000_000))?;
+fn a_million_siblings(rt: HostRuntime) {
+    let length = printed_length(&rt, rt.alloc(), Growth::Siblings(1_000_000));
     assert!(rt; length == 31 + 1_000_000 * 16);
-    Ok(())
 }
 
 #[test]
-fn many_children_before_one_table(rt: HostRuntime) -> Result<(), Fail> {
-    let length = printed_length(&rt, rt.alloc(), Growth::BeforeTable(100_000))?;
+fn many_children_before_one_table(rt: HostRuntime) {
+    let length = printed_length(&rt, rt.alloc(), Growth::BeforeTable(100_000));
     assert!(rt; length == 31 + 14 + 100_000 * (16 + 10));
-    Ok(())
 }

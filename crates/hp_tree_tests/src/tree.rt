@@ -1,68 +1,12 @@
 //! Trees that edits make, read back.
 
+use crate::growing::{detach, element, foster, make, make_room, put, put_element};
 use hp_arena::{NodeView, Runs, Tree};
-use hp_control::{Child, Edit, Edits, Place, Ref};
-use hp_elements::{
-    Attribute, AttributeSpace, Chain, Doctype, DoctypeParts, Known, Name, Namespace, NoMemory, Tag,
-    Text,
-};
-use std::alloc::{AllocError, Global};
+use hp_control::{Child, Edit, Ref};
+use hp_elements::{Attribute, AttributeSpace, Chain, Doctype, DoctypeParts, Known, Name, Text};
+use std::alloc::Global;
 use std::mem;
 use std::process::Abort;
-use std::test::Fail;
-
-/// Makes an edit for which there is room.
-fn make(rt: &impl Abort, tree: &mut Tree<'static>, edit: Edit<'static>) {
-    let room = edit.room();
-    assert!(rt; room <= tree.spare());
-    tree.apply(edit);
-}
-
-fn detach(id: u64) -> Edit<'static> {
-    Edit::Detach {
-        node: Ref::Fixed(id),
-    }
-}
-
-/// Makes room for so many edits without attributes.
-fn make_room(alloc: Global, tree: &mut Tree<'static>, count: usize) -> Result<(), AllocError> {
-    let mut edits: Edits<'static> = Edits::new();
-    for _ in 0..count {
-        edits.push(alloc, detach(0))?;
-    }
-    tree.reserve(alloc, &edits)
-}
-
-fn element(known: Known) -> Edit<'static> {
-    Edit::NewElement {
-        tag: Tag {
-            namespace: Namespace::Html,
-            name: Name::of_known(known),
-            attributes: Chain::new(),
-        },
-    }
-}
-
-fn put(child: Child<'static>, parent: u64) -> Edit<'static> {
-    Edit::Put {
-        child,
-        place: Place::Into(Ref::Fixed(parent)),
-    }
-}
-
-fn foster(child: Child<'static>, table: u64, above: u64) -> Edit<'static> {
-    Edit::Put {
-        child,
-        place: Place::Foster {
-            table: Ref::Fixed(table),
-            above: Ref::Fixed(above),
-        },
-    }
-}
-
-fn put_element(id: u64, parent: u64) -> Edit<'static> {
-    put(Child::Element(Ref::Fixed(id)), parent)
-}
 
 /// What stands inside an element: elements, runs of texts, comments and doctypes.
 #[derive(Clone, Copy, PartialEq, Eq)]
@@ -153,10 +97,6 @@ fn text_of(part: Part) -> Text<'static> {
     }
 }
 
-fn foster_text(part: Part, table: u64, above: u64) -> Edit<'static> {
-    foster(Child::Text(text_of(part)), table, above)
-}
-
 /// An edit, or what then stands inside an element.
 #[derive(Clone, Copy)]
 enum Step {
@@ -175,12 +115,12 @@ enum Step {
 }
 
 /// The edit of a step that makes one.
-fn edit_of(alloc: Global, step: Step) -> Result<Edit<'static>, NoMemory> {
-    Ok(match step {
-        Step::Doctype => put(Child::Doctype(doctype(alloc)?), 0),
+fn edit_of(rt: &impl Abort, alloc: Global, step: Step) -> Edit<'static> {
+    match step {
+        Step::Doctype => put(Child::Doctype(doctype(rt, alloc)), 0),
         Step::Comment(parent) => put(Child::Comment(text_of(Part::One)), parent),
         Step::Text(part, parent) => put(Child::Text(text_of(part)), parent),
-        Step::FosterText(part, table, above) => foster_text(part, table, above),
+        Step::FosterText(part, table, above) => foster(Child::Text(text_of(part)), table, above),
         Step::New => element(Known::B),
         Step::Put(id, parent) => put_element(id, parent),
         Step::Foster(id, table, above) => foster(Child::Element(Ref::Fixed(id)), table, above),
@@ -189,18 +129,18 @@ fn edit_of(alloc: Global, step: Step) -> Result<Edit<'static>, NoMemory> {
             to: Ref::Fixed(to),
         },
         Step::Detach(id) => detach(id),
-        Step::Inside(..) => return Err(NoMemory),
-    })
+        Step::Inside(..) => panic!(rt; "a step without an edit"),
+    }
 }
 
-fn doctype(alloc: Global) -> Result<Doctype<'static>, NoMemory> {
+fn doctype(rt: &impl Abort, alloc: Global) -> Doctype<'static> {
     let parts = DoctypeParts {
         name: Some(text_of(Part::One)),
         public: None,
         system: Some(Text::new()),
         force_quirks: false,
     };
-    Doctype::new(alloc, parts)
+    Doctype::new(alloc, parts).expect(rt, "there is memory")
 }
 
 const EVERY_EDIT: &[Step] = &[
@@ -292,84 +232,51 @@ const EVERY_EDIT: &[Step] = &[
 ];
 
 /// Makes these edits in a tree, and looks at what stands inside elements.
-fn make_all(
-    rt: &impl Abort,
-    alloc: Global,
-    tree: &mut Tree<'static>,
-    steps: &[Step],
-) -> Result<(), NoMemory> {
-    make_room(alloc, tree, 40)?;
+fn make_all(rt: &impl Abort, alloc: Global, tree: &mut Tree<'static>, steps: &[Step]) {
+    make_room(rt, alloc, tree, 40);
     for step in steps {
         match step {
             Step::Inside(id, counts) => assert!(rt; count_inside(tree, *id) == Some(*counts)),
-            _ => make(rt, tree, edit_of(alloc, *step)?),
+            _ => make(rt, tree, edit_of(rt, alloc, *step)),
         }
     }
-    Ok(())
 }
 
-// Each tree is kept to the end of its test.
+// What is owned is kept to the end of its test.
 #[test]
-fn every_edit_once(rt: HostRuntime) -> Result<(), Fail> {
-    let mut tree: Tree<'static> = Tree::start(rt.alloc())?;
-    let made = make_all(&rt, rt.alloc(), &mut tree, EVERY_EDIT);
+fn every_edit_once(rt: HostRuntime) {
+    let mut tree: Tree<'static> = Tree::start(rt.alloc()).expect(&rt, "there is memory");
+    make_all(&rt, rt.alloc(), &mut tree, EVERY_EDIT);
     mem::forget(tree);
-    made?;
-    Ok(())
 }
 
-fn attributes(alloc: Global, names: &[Known]) -> Result<Chain<Attribute>, NoMemory> {
+/// Adds attributes of these names to the element 1.
+fn add_missing(rt: &impl Abort, alloc: Global, names: &[Known]) -> Edit<'static> {
+    let node = Ref::Fixed(1);
     let mut attributes = Chain::new();
     for known in names {
-        attributes.push(alloc, attribute(*known))?;
+        let pushed = attributes.push(alloc, attribute(*known));
+        assert!(rt; pushed.is_ok());
+        mem::forget(pushed);
     }
-    Ok(attributes)
-}
-
-fn add_missing(attributes: Chain<Attribute>) -> Edit<'static> {
-    let node = Ref::Fixed(1);
     Edit::AddMissing { node, attributes }
 }
 
-/// Makes an element, and adds attributes to it.
-fn add_attributes(
-    rt: &impl Abort,
-    alloc: Global,
-    tree: &mut Tree<'static>,
-    names: &[Known],
-) -> Result<(), NoMemory> {
-    make_room(alloc, tree, 10)?;
-    make(rt, tree, element(Known::B));
-    make(rt, tree, put_element(1, 0));
-    make(rt, tree, add_missing(attributes(alloc, names)?));
-    Ok(())
-}
-
 #[test]
-fn missing_attributes_are_added_once(rt: HostRuntime) -> Result<(), Fail> {
-    let mut tree: Tree<'static> = Tree::start(rt.alloc())?;
+fn missing_attributes_are_added_once(rt: HostRuntime) {
+    let mut tree: Tree<'static> = Tree::start(rt.alloc()).expect(&rt, "there is memory");
+    make_room(&rt, rt.alloc(), &mut tree, 10);
+    make(&rt, &mut tree, element(Known::B));
+    make(&rt, &mut tree, put_element(1, 0));
     let names = [Known::A, Known::B, Known::A];
-    let made = add_attributes(&rt, rt.alloc(), &mut tree, &names);
-    let found = count_inside(&tree, 0);
-    mem::forget(tree);
-    made?;
+    make(&rt, &mut tree, add_missing(&rt, rt.alloc(), &names));
     let all = Counts {
         elements: 1,
         attributes: 2,
         ..NOTHING
     };
-    assert!(rt; found == Some(all));
-    Ok(())
-}
-
-/// Makes a template with an element in it.
-fn add_template(rt: &impl Abort, alloc: Global, tree: &mut Tree<'static>) -> Result<(), NoMemory> {
-    make_room(alloc, tree, 10)?;
-    make(rt, tree, element(Known::Template));
-    make(rt, tree, element(Known::B));
-    make(rt, tree, put_element(1, 0));
-    make(rt, tree, put_element(2, 1));
-    Ok(())
+    assert!(rt; count_inside(&tree, 0) == Some(all));
+    mem::forget(tree);
 }
 
 /// Whether the document has a template alone, whose contents are an element; none where one of them is missing.
@@ -390,12 +297,13 @@ fn reads_template(tree: &Tree<'_>) -> Option<bool> {
 
 /// What stands in a template are its contents, and it has no children.
 #[test]
-fn readers_come_to_contents(rt: HostRuntime) -> Result<(), Fail> {
-    let mut tree: Tree<'static> = Tree::start(rt.alloc())?;
-    let made = add_template(&rt, rt.alloc(), &mut tree);
-    let read = reads_template(&tree);
+fn readers_come_to_contents(rt: HostRuntime) {
+    let mut tree: Tree<'static> = Tree::start(rt.alloc()).expect(&rt, "there is memory");
+    make_room(&rt, rt.alloc(), &mut tree, 10);
+    make(&rt, &mut tree, element(Known::Template));
+    make(&rt, &mut tree, element(Known::B));
+    make(&rt, &mut tree, put_element(1, 0));
+    make(&rt, &mut tree, put_element(2, 1));
+    assert!(rt; reads_template(&tree) == Some(true));
     mem::forget(tree);
-    made?;
-    assert!(rt; read == Some(true));
-    Ok(())
 }
