@@ -1,4 +1,3 @@
-pub mod Growth
 pub mod Toward
 pub mod Steps
 pub mod Numbers

@@ -5,11 +5,9 @@ ghost use Rattle.hp_tokens.specs.Plain.{none_of};
 ghost use Rattle.hp_tokens.specs.Rows.{character, is_blank};
 ghost use Rattle.hp_views.specs.View.{split_of};
 ghost use Rattle.hp_acts.specs.Plain.{takes_text};
-ghost use Rattle.hp_control.specs.Apply.{named_edit};
-ghost use Rattle.hp_control.specs.Nothing.{nothing};
 ghost use Rattle.hp_control.specs.States.{start};
 ghost use Rattle.hp_control.specs.Composed.{is_foreign_now};
-ghost use Rattle.hp_control.specs.Tree.{applied_all, document};
+ghost use Rattle.hp_control.specs.Tree.{document};
 ghost use Rattle.hp_model.specs.Whole.{IsRead};
 ghost use Rattle.hp_sequential.specs.Building.{control_of, grown, IsBuilder, HandledOne, HandledAll, HasGrown};
 
@@ -17,7 +15,7 @@ use crate::NoMemory;
 use crate::leaving::leave_view;
 use hp_acts::{handle, handle_text, takes_text};
 use hp_arena::Tree;
-use hp_control::{Control, Edits, Nothing};
+use hp_control::{Control, Nothing};
 use hp_elements::{CharClass, Rest, Text, Token};
 use hp_views::View;
 use std::alloc::Global;
@@ -121,7 +119,8 @@ impl<'p> Builder<'p> {
         ensures grown { OnOk result (HasGrown self.old self.new) }
         ensures all { OnOk result (self.new.view.edits ≡ []) }
     {
-        apply_all(alloc, &mut self.tree, &mut self.view.edits)
+        self.tree.grow(alloc, &mut self.view.edits)?;
+        Ok(())
     }
 
     /// The tree, without the edits that weren't applied.
@@ -132,20 +131,4 @@ impl<'p> Builder<'p> {
         leave_view(view);
         tree
     }
-}
-
-/// Applies the edits to the tree, in order, and leaves room for as many again.
-fn apply_all<'p>(alloc: Global, tree: &mut Tree<'p>, edits: &mut Edits<'p>) -> Result<(), NoMemory>
-    ensures tree { OnOk result (tree.new.branches ≡ applied_all tree.old.branches (map (named_edit nothing) edits.old)) }
-    ensures edits { OnOk result (edits.new ≡ []) }
-{
-    tree.reserve(alloc, edits)?;
-    let mut batch = Vec::with_capacity(alloc, BATCH)?;
-    edits.take_into(&mut batch);
-    for edit in batch {
-        let mut edit = edit;
-        edit.tell();
-        tree.apply(edit);
-    }
-    Ok(())
 }
