@@ -1,5 +1,4 @@
-use Rattle.std.proofs.Common.{rules, length, subst, true, false}
-use Rattle.hp_sequential.specs.Reading.{PieceRead, ReadsPiece}
+use Rattle.std.proofs.Common.{rules, length}
 use Rattle.hp_sequential.proofs.Steps.{reads-all}
 use Rattle.hp_sequential.proofs.Pieces.{piece-behind, piece-ended, reads-behind}
 use Rattle.hp_sequential.proofs.Ways.{no-longer, shorter-behind, still-on-page}
