@@ -1,6 +1,6 @@
 //! Memory of one size that is filled from the front.
 
-ghost use Rattle.std.specs.Prelude.{◌≡◌, ◌+◌, ◌*◌, ◌<◌, ◌≤◌, ◌++◌, [], true, false, IfOk, length, take, codes, encode_utf8_all};
+ghost use Rattle.std.specs.Prelude.{◌≡◌, ◌+◌, ◌*◌, ◌<◌, ◌≤◌, ◌++◌, [], ◌∷◌, true, false, IfOk, length, take, codes, encode_utf8_all};
 ghost use Rattle.std.specs.Str.{chars};
 ghost use Rattle.hp_print.specs.Print.{indentation};
 
@@ -69,12 +69,10 @@ impl Filled {
         true
     }
 
-    /// Appends a line of a low depth where there is room: a short piece, a text and another short piece.
+    /// Appends a line of a low depth where there is room: a text between two marks.
     #[inline(always)]
-    pub fn append_line(&mut self, depth: u64, front: &[u8], text: &str, end: &[u8]) -> bool
-        requires front { length front.now ≤ 2 }
-        requires end { length end.now ≤ 2 }
-        ensures whole { result ≡ true → self.new ≡ self.old ++ (indentation depth ++ front.now ++ encode_utf8_all (chars text.now) ++ end.now) }
+    pub fn append_line(&mut self, depth: u64, left: u8, text: &str, right: u8) -> bool
+        ensures whole { result ≡ true → self.new ≡ self.old ++ (indentation depth ++ left ∷ (encode_utf8_all (chars text.now) ++ right ∷ 10 ∷ [])) }
         ensures kept { result ≡ false → self.new ≡ self.old }
     {
         let room = self.bytes.len() - self.len;
@@ -85,9 +83,9 @@ impl Filled {
             self.bytes.as_mut_slice(),
             self.len,
             depth,
-            front,
+            left,
             text.as_bytes(),
-            end,
+            right,
         );
         true
     }
@@ -130,6 +128,30 @@ fn put_at(into: &mut [u8], at: usize, piece: &[u8]) -> usize
     end
 }
 
+/// Writes a byte into others. Where it ends.
+#[inline(always)]
+fn byte_at(into: &mut [u8], at: usize, byte: u8) -> usize
+    requires { at < length into.old }
+    ensures bytes { take result into.new ≡ take at into.old ++ byte ∷ [] }
+    ensures end { result ≡ at + 1 }
+    ensures len { length into.new ≡ length into.old }
+{
+    into[at] = byte;
+    at + 1
+}
+
+/// Writes two bytes into others. Where they end.
+#[inline(always)]
+fn two_at(into: &mut [u8], at: usize, first: u8, second: u8) -> usize
+    requires { at + 2 ≤ length into.old }
+    ensures bytes { take result into.new ≡ take at into.old ++ first ∷ second ∷ [] }
+    ensures end { result ≡ at + 2 }
+    ensures len { length into.new ≡ length into.old }
+{
+    let at = byte_at(into, at, first);
+    byte_at(into, at, second)
+}
+
 /// Writes what a line of a low depth begins with. Where it ends.
 #[inline(always)]
 fn front_at(into: &mut [u8], at: usize, depth: u64) -> usize
@@ -145,19 +167,17 @@ fn front_at(into: &mut [u8], at: usize, depth: u64) -> usize
 
 /// Writes a line of a low depth. Where it ends.
 #[inline(always)]
-fn line_at(into: &mut [u8], at: usize, depth: u64, front: &[u8], text: &[u8], end: &[u8]) -> usize
+fn line_at(into: &mut [u8], at: usize, depth: u64, left: u8, text: &[u8], right: u8) -> usize
     requires low { depth < 16 }
-    requires front { length front.now ≤ 2 }
-    requires end { length end.now ≤ 2 }
     requires room { at + 40 + length text.now ≤ length into.old }
-    ensures bytes { take result into.new ≡ take at into.old ++ (indentation depth ++ front.now ++ text.now ++ end.now) }
+    ensures bytes { take result into.new ≡ take at into.old ++ (indentation depth ++ left ∷ (text.now ++ right ∷ 10 ∷ [])) }
     ensures within { result ≤ length into.new }
     ensures len { length into.new ≡ length into.old }
 {
     let at = front_at(into, at, depth);
-    let at = put_at(into, at, front);
+    let at = byte_at(into, at, left);
     let at = put_at(into, at, text);
-    put_at(into, at, end)
+    two_at(into, at, right, b'\n')
 }
 
 /// Writes a line of a low depth with a name and a value. Where it ends.
@@ -171,7 +191,7 @@ fn pair_at(into: &mut [u8], at: usize, depth: u64, name: &[u8], value: &[u8]) ->
 {
     let at = front_at(into, at, depth);
     let at = put_at(into, at, name);
-    let at = put_at(into, at, b"=\"");
+    let at = two_at(into, at, b'=', b'"');
     let at = put_at(into, at, value);
-    put_at(into, at, b"\"\n")
+    two_at(into, at, b'"', b'\n')
 }

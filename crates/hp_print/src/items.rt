@@ -33,7 +33,7 @@ fn print_opening<K: Sink>(out: &mut Out, sink: &mut K, tag: &Tag, depth: u64)
     ensures { Prints out.old out.new (K.taken sink.old, K.faults sink.old) (K.taken sink.new, K.faults sink.new) (opening depth tag.now) }
 {
     match tag.namespace {
-        Namespace::Html => out.put_line(sink, depth, b"<", tag.name.as_str(), b">\n"),
+        Namespace::Html => out.put_line(sink, depth, b'<', tag.name.as_str(), b'>'),
         _ => print_foreign(out, sink, tag, depth),
     }
 }
@@ -65,7 +65,7 @@ fn print_text<K: Sink>(out: &mut Out, sink: &mut K, runs: Runs<'_, '_>, depth: u
     ensures { Prints out.old out.new (K.taken sink.old, K.faults sink.old) (K.taken sink.new, K.faults sink.new) (text_line depth (text_of runs.entry)) }
 {
     match runs {
-        Runs::One(run) => out.put_line(sink, depth, b"\"", run.as_str(), b"\"\n"),
+        Runs::One(run) => out.put_line(sink, depth, b'"', run.as_str(), b'"'),
         Runs::Several(runs) => print_several(out, sink, runs, depth),
     }
 }

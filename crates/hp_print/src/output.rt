@@ -1,6 +1,6 @@
 //! Where the printed text goes: it is gathered in memory of one size, which goes to the sink whenever it is full.
 
-ghost use Rattle.std.specs.Prelude.{◌≡◌, ◌+◌, ◌^◌, ◌<◌, ◌≤◌, ◌++◌, [], IfOk, length, replicate, codes, encode_utf8_all};
+ghost use Rattle.std.specs.Prelude.{◌≡◌, ◌+◌, ◌^◌, ◌<◌, ◌≤◌, ◌++◌, [], ◌∷◌, IfOk, length, replicate, codes, encode_utf8_all};
 ghost use Rattle.std.specs.Str.{chars};
 ghost use Rattle.hp_print.specs.Out.{Finished, IsEmpty, Prints, Starts};
 ghost use Rattle.hp_print.specs.Print.{indentation};
@@ -112,26 +112,17 @@ impl Out {
         self.put(sink, text.as_bytes());
     }
 
-    /// Prints a line of this depth: a short piece, a text and another short piece.
+    /// Prints a line of this depth: a text between two marks.
     #[tactic(auto, using(crate::proofs::Pieces::gathers, crate::proofs::Pieces::failed))]
     #[inline(always)]
-    pub fn put_line<K: Sink>(
-        &mut self,
-        sink: &mut K,
-        depth: u64,
-        front: &[u8],
-        text: &str,
-        end: &[u8],
-    )
-        requires depth { depth < 2 ^ 63 }
-        requires front { length front.now ≤ 2 }
-        requires end { length end.now ≤ 2 }
-        ensures { Prints self.old self.new (K.taken sink.old, K.faults sink.old) (K.taken sink.new, K.faults sink.new) (indentation depth ++ front.now ++ encode_utf8_all (chars text.now) ++ end.now) }
+    pub fn put_line<K: Sink>(&mut self, sink: &mut K, depth: u64, left: u8, text: &str, right: u8)
+        requires { depth < 2 ^ 63 }
+        ensures { Prints self.old self.new (K.taken sink.old, K.faults sink.old) (K.taken sink.new, K.faults sink.new) (indentation depth ++ left ∷ (encode_utf8_all (chars text.now) ++ right ∷ 10 ∷ [])) }
     {
         match self {
             Out::Gathered(gathered) => {
-                if !gathered.append_line(depth, front, text, end) {
-                    self.put_line_beyond(sink, depth, front, text, end);
+                if !gathered.append_line(depth, left, text, right) {
+                    self.put_line_beyond(sink, depth, left, text, right);
                 }
             }
             Out::Failed => {}
@@ -144,17 +135,17 @@ impl Out {
         &mut self,
         sink: &mut K,
         depth: u64,
-        front: &[u8],
+        left: u8,
         text: &str,
-        end: &[u8],
+        right: u8,
     )
         requires { depth < 2 ^ 63 }
-        ensures { Prints self.old self.new (K.taken sink.old, K.faults sink.old) (K.taken sink.new, K.faults sink.new) (indentation depth ++ front.now ++ encode_utf8_all (chars text.now) ++ end.now) }
+        ensures { Prints self.old self.new (K.taken sink.old, K.faults sink.old) (K.taken sink.new, K.faults sink.new) (indentation depth ++ left ∷ (encode_utf8_all (chars text.now) ++ right ∷ 10 ∷ [])) }
     {
         self.indent(sink, depth);
-        self.put(sink, front);
+        self.put(sink, &[left]);
         self.put_text(sink, text);
-        self.put(sink, end);
+        self.put(sink, &[right, b'\n']);
     }
 
     /// Prints a line of this depth: a name and a value.
