@@ -2,6 +2,7 @@
 use hp_cut::{CutRefusal, NoMemory, cuts_at_tags, cuts_by_size, cuts_listed};
 use hp_text::{Page, check_page};
 use std::alloc::Global;
+use std::mem;
 use std::process::Abort;
 use std::test::Fail;
 
@@ -44,29 +45,26 @@ fn cuts_at_tags_of_a_small_page(rt: HostRuntime) -> Result<(), Fail> {
         lengths[number as usize] = chunk.to - chunk.from;
     }
     assert!(rt; lengths == [96, 45, 81, 50, 48, 28]);
+    mem::forget(cuts);
     Ok(())
 }
 
 /// 63 bytes `a`, a code point of two bytes, and 63 bytes `b`.
-fn accented(alloc: Global) -> Result<Vec<u8>, NoMemory> {
-    let mut bytes = vec![in alloc; b'a'; 63]?;
-    bytes.extend_from_slice("é".as_bytes())?;
-    bytes.extend_from_slice(&[b'b'; 63])?;
-    Ok(bytes)
-}
+const ACCENTED: &str = "aaaaaaaaaaaaaaaaaaaaaaaaaaaaaaaaaaaaaaaaaaaaaaaaaaaaaaaaaaaaaaaé\
+bbbbbbbbbbbbbbbbbbbbbbbbbbbbbbbbbbbbbbbbbbbbbbbbbbbbbbbbbbbbbbb";
 
 #[test]
-fn cuts_by_size_skip_to_starts(rt: HostRuntime) -> Result<(), Fail> {
-    let bytes = accented(rt.alloc())?;
-    let page = page_of(&rt, bytes.as_slice());
-    let cuts = cuts_by_size(rt.alloc(), page, 64)?;
+fn cuts_by_size_skip_to_starts(rt: HostRuntime) {
+    let page = page_of(&rt, ACCENTED.as_bytes());
+    let cuts = cuts_by_size(rt.alloc(), page, 64).expect(&rt, "there is memory");
     assert!(rt; cuts.places() == [65].as_slice());
-    let copy = cuts.copy(rt.alloc())?;
+    let copy = cuts.copy(rt.alloc()).expect(&rt, "there is memory");
     assert!(rt; copy.places() == [65].as_slice());
     assert!(rt; copy.text_length() == 128);
     assert!(rt; copy.chunks() == 2);
     assert!(rt; copy.chunk(page, 1).text() == [b'b'; 63].as_slice());
-    Ok(())
+    mem::forget(copy);
+    mem::forget(cuts);
 }
 
 #[test]
@@ -75,6 +73,7 @@ fn an_empty_page_has_one_chunk(rt: HostRuntime) -> Result<(), Fail> {
     let cuts = cuts_by_size(rt.alloc(), page, 64)?;
     assert!(rt; cuts.chunks() == 1);
     assert!(rt; cuts.chunk(page, 0).to == 0);
+    mem::forget(cuts);
     Ok(())
 }
 
@@ -94,10 +93,10 @@ const LISTED: &[Listed] = &[
 ];
 
 fn listed(alloc: Global, page: Page<'_>, places: &[u64]) -> Result<u32, CutRefusal> {
-    match cuts_listed(alloc, page, places) {
-        Ok(cuts) => Ok(cuts.chunks()),
-        Err(refusal) => Err(refusal),
-    }
+    let cuts = cuts_listed(alloc, page, places)?;
+    let chunks = cuts.chunks();
+    mem::forget(cuts);
+    Ok(chunks)
 }
 
 fn compare_listed(rt: &impl Abort, alloc: Global, cases: &[Listed]) {
@@ -112,24 +111,35 @@ fn listed_places(rt: HostRuntime) {
     compare_listed(&rt, rt.alloc(), LISTED);
 }
 
-/// How many chunks the places from 1 on make in 5,000 bytes, up to that one.
-fn chunks_of_bytes(rt: &impl Abort, alloc: Global, last: u64) -> Result<u32, Fail> {
-    let bytes = vec![in alloc; b'x'; 5000]?;
-    let page = page_of(rt, bytes.as_slice());
-    let mut places = Vec::new(alloc);
+fn push_places(places: &mut Vec<u64>, last: u64) -> Result<(), NoMemory> {
     for place in 1..last {
         places.push(place)?;
     }
-    Ok(match listed(alloc, page, places.as_slice()) {
+    Ok(())
+}
+
+/// How many chunks the places from 1 on make in a page, up to that one.
+fn chunks_up_to(alloc: Global, page: Page<'_>, last: u64) -> Result<u32, NoMemory> {
+    let mut places = Vec::new(alloc);
+    let pushed = push_places(&mut places, last);
+    let chunks = match listed(alloc, page, places.as_slice()) {
         Ok(chunks) => chunks,
         Err(CutRefusal::TooMany) => 0,
         Err(_) => 1,
-    })
+    };
+    mem::forget(places);
+    pushed?;
+    Ok(chunks)
 }
 
 #[test]
 fn too_many_places(rt: HostRuntime) -> Result<(), Fail> {
-    assert!(rt; chunks_of_bytes(&rt, rt.alloc(), 4097)? == 0);
-    assert!(rt; chunks_of_bytes(&rt, rt.alloc(), 4096)? == 4096);
+    let bytes = vec![in rt.alloc(); b'x'; 5000]?;
+    let page = page_of(&rt, bytes.as_slice());
+    let none = chunks_up_to(rt.alloc(), page, 4097);
+    let all = chunks_up_to(rt.alloc(), page, 4096);
+    mem::forget(bytes);
+    assert!(rt; none? == 0);
+    assert!(rt; all? == 4096);
     Ok(())
 }

@@ -43,7 +43,7 @@ fn rest_of<'p>(rt: &impl Abort, page: Page<'p>, from: usize) -> Chunk<'p> {
     }
 }
 
-fn put_names(line: &mut String, stack: &OpenElements) -> Result<(), Fail> {
+fn put_names(line: &mut String, stack: &OpenElements) -> Result<(), NoMemory> {
     for depth in 0..stack.len() {
         line.push_str(" ")?;
         line.push_str(stack.at(depth).name.as_str())?;
@@ -51,7 +51,7 @@ fn put_names(line: &mut String, stack: &OpenElements) -> Result<(), Fail> {
     Ok(())
 }
 
-fn put_entries(line: &mut String, list: &Stack<FormattingEntry>) -> Result<(), Fail> {
+fn put_entries(line: &mut String, list: &Stack<FormattingEntry>) -> Result<(), NoMemory> {
     for depth in 0..list.len() {
         line.push_str(" ")?;
         match list.at(depth) {
@@ -72,6 +72,15 @@ fn mode_word(mode: Mode) -> &'static str {
     }
 }
 
+/// The number of the form; 0 where there is none.
+fn form_word(form: Option<u64>) -> &'static str {
+    match form {
+        None => "0",
+        Some(3) => "3",
+        Some(_) => "another form",
+    }
+}
+
 fn rest_word(rest: Option<Rest>) -> &'static str {
     match rest {
         Some(Rest::Data) => "data",
@@ -82,48 +91,71 @@ fn rest_word(rest: Option<Rest>) -> &'static str {
     }
 }
 
-/// A line about a guessed state.
-fn described(alloc: Global, state: &Control) -> Result<String, Fail> {
-    let mut line = String::new(alloc);
-    put_names(&mut line, &state.stack)?;
+/// Puts a line about a guessed state.
+fn describe(line: &mut String, state: &Control) -> Result<(), NoMemory> {
+    put_names(line, &state.stack)?;
     line.push_str(";")?;
-    put_entries(&mut line, &state.formatting)?;
-    let form = state.form.unwrap_or(0);
-    let mode = mode_word(state.mode);
-    let rest = rest_word(state.lex.machine.state.rest());
-    line.push_str(format!(in alloc; ";{form};{mode};{rest}")?.as_str())?;
+    put_entries(line, &state.formatting)?;
+    line.push_str(";")?;
+    line.push_str(form_word(state.form))?;
+    line.push_str(";")?;
+    line.push_str(mode_word(state.mode))?;
+    line.push_str(";")?;
+    line.push_str(rest_word(state.lex.machine.state.rest()))?;
     if state.lex.machine.after_cr {
         line.push_str(" after CR")?;
     }
-    Ok(line)
+    Ok(())
+}
+
+/// Whether the line about a guessed state is that.
+fn is_described(alloc: Global, state: &Control, wanted: &str) -> Result<bool, NoMemory> {
+    let mut line = String::new(alloc);
+    let described = describe(&mut line, state);
+    let well = line.as_str() == wanted;
+    mem::forget(line);
+    described?;
+    Ok(well)
+}
+
+fn put_both(text: &mut String, before: &str, chunk: &str) -> Result<(), NoMemory> {
+    text.push_str(before)?;
+    text.push_str(chunk)
+}
+
+/// The guess for a text from a place on.
+fn guess_from(
+    rt: &impl Abort,
+    alloc: Global,
+    text: &str,
+    from: usize,
+) -> Result<Prescan, NoMemory> {
+    let page = check_page(text.as_bytes()).expect(rt, "the page is UTF-8");
+    Prescan::new(alloc, &rest_of(rt, page, from))
 }
 
 /// The guess for the part of a page from a mark on.
-fn guess(rt: &impl Abort, alloc: Global, before: &str, chunk: &str) -> Result<Prescan, Fail> {
+fn guess(rt: &impl Abort, alloc: Global, before: &str, chunk: &str) -> Result<Prescan, NoMemory> {
     let mut text = String::new(alloc);
-    text.push_str(before)?;
-    text.push_str(chunk)?;
-    let page = check_page(text.as_bytes()).expect(rt, "the page is UTF-8");
-    Ok(Prescan::new(alloc, &rest_of(rt, page, before.len()))?)
+    let guessed = match put_both(&mut text, before, chunk) {
+        Ok(()) => guess_from(rt, alloc, text.as_str(), before.len()),
+        Err(fault) => Err(fault),
+    };
+    mem::forget(text);
+    guessed
 }
 
-/// The line about the guess for the part of a page from a mark on. What was guessed is kept to the end of the test.
-fn guessed(rt: &impl Abort, alloc: Global, before: &str, chunk: &str) -> Result<String, Fail> {
-    let prescan = guess(rt, alloc, before, chunk)?;
-    let line = described(alloc, prescan.state());
-    mem::forget(prescan);
-    line
-}
-
-/// Whether the guess of a row is the one that stands there.
-fn guesses_so(rt: &impl Abort, alloc: Global, row: &str) -> Result<bool, Fail> {
+/// Whether the guess of a row is the one that stands there. What is owned is kept to the end of the test.
+fn guesses_so(rt: &impl Abort, alloc: Global, row: &str) -> Result<bool, NoMemory> {
     let (page, wanted) = row.split_once('|').expect(rt, "a row has a guess");
     let (before, chunk) = page.split_once('^').expect(rt, "a row has a mark");
-    let line = guessed(rt, alloc, before, chunk)?;
-    Ok(line.as_str() == wanted)
+    let prescan = guess(rt, alloc, before, chunk)?;
+    let well = is_described(alloc, prescan.state(), wanted);
+    mem::forget(prescan);
+    well
 }
 
-fn compare(rt: &impl Abort, alloc: Global, guesses: &str) -> Result<(), Fail> {
+fn compare(rt: &impl Abort, alloc: Global, guesses: &str) -> Result<(), NoMemory> {
     for row in guesses.split('\n') {
         assert!(rt; guesses_so(rt, alloc, row)?, "{row}");
     }
@@ -132,7 +164,8 @@ fn compare(rt: &impl Abort, alloc: Global, guesses: &str) -> Result<(), Fail> {
 
 #[test]
 fn guesses_as_the_model(rt: HostRuntime) -> Result<(), Fail> {
-    compare(&rt, rt.alloc(), GUESSES)
+    compare(&rt, rt.alloc(), GUESSES)?;
+    Ok(())
 }
 
 /// The questions, one of each kind.
@@ -217,25 +250,45 @@ fn word_said<P: Predictor>(
     Ok(word)
 }
 
-/// What a predictor says to each question.
-fn said<P: Predictor>(alloc: Global, predictor: &P) -> Result<String, NoMemory> {
-    let mut line = String::new(alloc);
+/// The word of what a predictor says to the question of a number; none where it has no question.
+fn word_for<P: Predictor>(
+    alloc: Global,
+    predictor: &P,
+    number: u32,
+) -> Result<&'static str, NoMemory> {
+    let question = question(number);
+    let word = match &question {
+        Some(question) => word_said(alloc, predictor, question),
+        None => Ok(""),
+    };
+    mem::forget(question);
+    word
+}
+
+/// Puts what a predictor says to each question.
+fn put_said<P: Predictor>(alloc: Global, predictor: &P, line: &mut String) -> Result<(), NoMemory> {
     for number in 0..14 {
-        if let Some(question) = question(number) {
-            let word = word_said(alloc, predictor, &question);
-            mem::forget(question);
-            line.push_str(word?)?;
-        }
+        line.push_str(word_for(alloc, predictor, number)?)?;
     }
-    Ok(line)
+    Ok(())
+}
+
+/// Whether a predictor says that to the questions.
+fn says<P: Predictor>(alloc: Global, predictor: &P, wanted: &str) -> Result<bool, NoMemory> {
+    let mut line = String::new(alloc);
+    let said = put_said(alloc, predictor, &mut line);
+    let well = line.as_str() == wanted;
+    mem::forget(line);
+    said?;
+    Ok(well)
 }
 
 #[test]
 fn says_what_needs_no_text(rt: HostRuntime) -> Result<(), Fail> {
     let wanted =
         " resting element yes depth count no new-mode yes entry count null no last-tag whole";
-    assert!(rt; said(rt.alloc(), &Quiet)?.as_str() == wanted);
-    assert!(rt; said(rt.alloc(), &Contrary)?.as_str() == wanted);
+    assert!(rt; says(rt.alloc(), &Quiet, wanted)?);
+    assert!(rt; says(rt.alloc(), &Contrary, wanted)?);
     Ok(())
 }
 
@@ -247,15 +300,22 @@ fn is_true(alloc: Global, prescan: &Prescan, question: &Question) -> Result<bool
     Ok(well)
 }
 
+/// Whether what a guess says to the question of a number is true; it is where there is no question.
+fn is_true_for(alloc: Global, prescan: &Prescan, number: u32) -> Result<bool, NoMemory> {
+    let question = question(number);
+    let told = match &question {
+        Some(question) => is_true(alloc, prescan, question),
+        None => Ok(true),
+    };
+    mem::forget(question);
+    told
+}
+
 /// Whether all that a guess says is true of the guessed state.
 fn all_is_true(alloc: Global, prescan: &Prescan) -> Result<bool, NoMemory> {
     let mut well = true;
     for number in 0..14 {
-        if let Some(question) = question(number) {
-            let told = is_true(alloc, prescan, &question);
-            mem::forget(question);
-            well = told? && well;
-        }
+        well = is_true_for(alloc, prescan, number)? && well;
     }
     Ok(well)
 }
@@ -264,12 +324,12 @@ fn all_is_true(alloc: Global, prescan: &Prescan) -> Result<bool, NoMemory> {
 fn says_what_the_guessed_state_is(rt: HostRuntime) -> Result<(), Fail> {
     let before = "<form><b><table><td>x";
     let prescan = guess(&rt, rt.alloc(), before, "</td></table></b></form>")?;
-    let words = said(rt.alloc(), &prescan);
-    let well = all_is_true(rt.alloc(), &prescan);
-    mem::forget(prescan);
     let wanted =
         " resting element no depth count no new-mode yes entry count away no last-tag whole";
-    assert!(rt; words?.as_str() == wanted);
+    let words = says(rt.alloc(), &prescan, wanted);
+    let well = all_is_true(rt.alloc(), &prescan);
+    mem::forget(prescan);
+    assert!(rt; words?);
     assert!(rt; well?);
     Ok(())
 }

@@ -1,6 +1,7 @@
 //! Pages against an independent maker's.
 use hp_make::{NoMemory, make_page};
 use std::alloc::Global;
+use std::mem;
 use std::process::Abort;
 use std::test::Fail;
 
@@ -18,6 +19,7 @@ fn compare_pages(rt: &impl Abort, alloc: Global, pages: &[(u64, u32, &str)]) -> 
     for (seed, bytes, wanted) in pages {
         let page = make_page(alloc, *seed, *bytes)?;
         assert!(rt; page.as_slice() == wanted.as_bytes(), "{seed} {bytes}");
+        mem::forget(page);
     }
     Ok(())
 }
@@ -46,7 +48,9 @@ fn checksum_of(alloc: Global, number: u64) -> Result<Option<u64>, NoMemory> {
     };
     let seed = number.wrapping_mul(0x9e37_79b9_7f4a_7c15);
     let page = make_page(alloc, seed, bytes as u32)?;
-    Ok((page.len() as u64 == bytes).then_some(checksum(&page)))
+    let made = (page.len() as u64 == bytes).then_some(checksum(&page));
+    mem::forget(page);
+    Ok(made)
 }
 
 /// Compares the checksums of pages, and answers how many there were.

@@ -6,9 +6,9 @@ use hp_text::{
     TellingRead, TellingWrite, check_page, read_page, write_whole,
 };
 use std::alloc::Global;
-use std::io;
 use std::process::Abort;
 use std::test::Fail;
+use std::{io, mem};
 
 /// How many bytes a page has, and whether so large a page is read.
 const LENGTHS: &[(usize, bool)] = &[
@@ -22,10 +22,13 @@ const LENGTHS: &[(usize, bool)] = &[
 fn reads_so(alloc: Global, len: usize, whole: bool) -> Result<bool, NoMemory> {
     let bytes = vec![in alloc; b'x'; len]?;
     let mut source = SteadySource::new(bytes.as_slice());
-    Ok(match read_page(alloc, &mut source) {
+    let read = read_page(alloc, &mut source);
+    let well = match &read {
         Ok(page) => whole && page.len() == len,
-        Err(refusal) => !whole && refusal == ReadRefusal::TooLarge,
-    })
+        Err(refusal) => !whole && *refusal == ReadRefusal::TooLarge,
+    };
+    mem::forget((bytes, read));
+    Ok(well)
 }
 
 fn compare_lengths(rt: &impl Abort, alloc: Global, lengths: &[(usize, bool)]) -> Result<(), Fail> {
@@ -43,11 +46,14 @@ fn reads_at_most_the_limit(rt: HostRuntime) -> Result<(), Fail> {
 /// Whether `abc`, a byte a call, is read where so many calls fail, or else refused as a fault.
 fn reads_abc(alloc: Global, failing: u64, faults: u64) -> Result<bool, NoMemory> {
     let mut source = MemorySource::new(alloc, b"abc", 1, &[failing])?;
-    let well = match read_page(alloc, &mut source) {
+    let read = read_page(alloc, &mut source);
+    let well = match &read {
         Ok(page) => faults == 0 && page.as_slice() == b"abc".as_slice(),
-        Err(refusal) => faults == 1 && refusal == ReadRefusal::Fault,
+        Err(refusal) => faults == 1 && *refusal == ReadRefusal::Fault,
     };
-    Ok(well && source.faults() == faults)
+    let counted = source.faults() == faults;
+    mem::forget((source, read));
+    Ok(well && counted)
 }
 
 // Call 3 is the one at the end, and there is no call 4.
@@ -142,7 +148,9 @@ fn writes_so(
         Err(fault) => Some(fault.taken),
     };
     let faults = u64::from(fault.is_some());
-    Ok(found == fault && sink.faults() == faults && sink.taken() == taken.as_bytes())
+    let well = found == fault && sink.faults() == faults && sink.taken() == taken.as_bytes();
+    mem::forget(sink);
+    Ok(well)
 }
 
 fn compare_writes(rt: &impl Abort, alloc: Global, writes: &[Write]) -> Result<(), Fail> {
@@ -179,18 +187,33 @@ impl TellingRead for Breaks {
     ghost always = { λ r. refl };
 }
 
+fn is_page(read: Result<Vec<u8>, ReadRefusal>, page: &[u8]) -> bool {
+    let well = match &read {
+        Ok(read) => read.as_slice() == page,
+        Err(_) => false,
+    };
+    mem::forget(read);
+    well
+}
+
+fn is_fault(read: Result<Vec<u8>, ReadRefusal>) -> bool {
+    let well = match &read {
+        Ok(_) => false,
+        Err(refusal) => *refusal == ReadRefusal::Fault,
+    };
+    mem::forget(read);
+    well
+}
+
 #[test]
-fn a_reader_is_a_source(rt: HostRuntime) -> Result<(), Fail> {
+fn a_reader_is_a_source(rt: HostRuntime) {
     let mut source = StreamSource::new(b"hello".as_slice());
-    assert!(rt; read_page(rt.alloc(), &mut source)?.as_slice() == b"hello".as_slice());
+    assert!(rt; is_page(read_page(rt.alloc(), &mut source), b"hello"));
     assert!(rt; source.faults() == 0);
     let mut broken = StreamSource::new(Breaks(0));
-    match read_page(rt.alloc(), &mut broken) {
-        Ok(_) => panic!(rt; "a page"),
-        Err(refusal) => assert!(rt; refusal == ReadRefusal::Fault),
-    }
+    assert!(rt; is_fault(read_page(rt.alloc(), &mut broken)));
     assert!(rt; broken.faults() == 1);
-    Ok(())
+    mem::forget((source, broken));
 }
 
 /// A writer whose flushes fail, where it says so.
@@ -226,7 +249,9 @@ fn writes_hello(into: &mut [u8], fails: bool, fault: Option<u64>) -> bool {
         Ok(()) => None,
         Err(fault) => Some(fault.taken),
     };
-    found == fault && sink.faults() == u64::from(fault.is_some())
+    let well = found == fault && sink.faults() == u64::from(fault.is_some());
+    mem::forget(sink);
+    well
 }
 
 #[test]

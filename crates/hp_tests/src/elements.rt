@@ -1,84 +1,174 @@
-//! Calls that take memory, and the sizes of the types that a page is made of.
+//! Calls that take memory, and the sizes of the types that a page is made of. What is owned is kept to the end of a test.
 use hp_elements::{
     Attribute, AttributeSpace, Chain, CharClass, Doctype, DoctypeParts, Known, List, Name,
     Namespace, Respelling, Rest, Tag, Text, Token,
 };
-use std::alloc::{AllocError, Global};
+use std::alloc::Global;
 use std::mem;
-use std::test::Fail;
+use std::process::Abort;
 
-#[test]
-fn names_are_their_texts(rt: HostRuntime) -> Result<(), Fail> {
-    for (text, known) in [
-        ("p", true),
-        ("foreignObject", true),
-        ("foreignobject", false),
-        ("annotation-xml", true),
-        ("data-long-attribute-name", false),
-        ("", false),
-        ("é", false),
-    ] {
-        let name = Name::from_text(rt.alloc(), text)?;
-        assert_eq!(rt; name.as_str(), text);
-        assert_eq!(rt; name.known().is_some(), known, "{text}");
-        let copy = name.copy(rt.alloc())?;
-        assert!(rt; copy.same(&name), "{text}");
+/// A text, and whether it is a known name.
+const NAMES: &[(&str, bool)] = &[
+    ("p", true),
+    ("foreignObject", true),
+    ("foreignobject", false),
+    ("annotation-xml", true),
+    ("data-long-attribute-name", false),
+    ("", false),
+    ("é", false),
+];
+
+fn named(rt: &impl Abort, alloc: Global, text: &str) -> Name {
+    Name::from_text(alloc, text).expect(rt, "there is memory")
+}
+
+/// Whether a text's name is that, known or not as told, and its copy the same.
+fn names_so(rt: &impl Abort, alloc: Global, text: &str, known: bool) -> bool {
+    let name = named(rt, alloc, text);
+    let copy = name.copy(alloc).expect(rt, "there is memory");
+    let well = name.as_str() == text && name.known().is_some() == known && copy.same(&name);
+    mem::forget(copy);
+    mem::forget(name);
+    well
+}
+
+fn compare_names(rt: &impl Abort, alloc: Global, names: &[(&str, bool)]) {
+    for (text, known) in names {
+        assert!(rt; names_so(rt, alloc, text, *known), "{text}");
     }
+}
+
+/// Whether a text is the name of a table but for its case.
+fn is_table_in_another_case(rt: &impl Abort, alloc: Global, text: &str) -> bool {
+    let name = named(rt, alloc, text);
     let table = Name::of_known(Known::Table);
-    assert!(rt; table.same_without_case(&Name::from_text(rt.alloc(), "TaBLE")?));
-    assert!(rt; !table.same(&Name::from_text(rt.alloc(), "TaBLE")?));
-    Ok(())
+    let well = table.same_without_case(&name) && !table.same(&name);
+    mem::forget(name);
+    mem::forget(table);
+    well
 }
 
 #[test]
-fn texts_side_by_side_join(rt: HostRuntime) -> Result<(), Fail> {
+fn names_are_their_texts(rt: HostRuntime) {
+    compare_names(&rt, rt.alloc(), NAMES);
+    assert!(rt; is_table_in_another_case(&rt, rt.alloc(), "TaBLE"));
+}
+
+/// Whether a text becomes that text when another is joined to it, and that is left over.
+fn joins(text: &mut Text<'static>, next: Text<'static>, left: Option<&str>, joined: &str) -> bool {
+    let apart = text.join(next);
+    let well = match &apart {
+        Some(apart) => left == Some(apart.as_str()),
+        None => left.is_none(),
+    };
+    mem::forget(apart);
+    well && text.as_str() == joined
+}
+
+/// Whether a text's copy with more behind it is that.
+fn grows_to(rt: &impl Abort, alloc: Global, text: &Text<'_>, grown: &str) -> bool {
+    let mut own = text.copy(alloc).expect(rt, "there is memory");
+    own.push(alloc, '!').expect(rt, "there is memory");
+    own.push_str(alloc, " And then some more words.")
+        .expect(rt, "there is memory");
+    let well = own.as_str() == grown;
+    mem::forget(own);
+    well
+}
+
+/// Whether the text that a string has is the string.
+fn is_taken(rt: &impl Abort, alloc: Global, text: &str) -> bool {
+    let own = String::from_str(alloc, text).expect(rt, "there is memory");
+    let taken = Text::of_owned(alloc, own).expect(rt, "there is memory");
+    let well = taken.as_str() == text;
+    mem::forget(taken);
+    well
+}
+
+fn length_of(rt: &impl Abort, alloc: Global, text: &str) -> usize {
+    let text = Text::from_str(alloc, text).expect(rt, "there is memory");
+    let length = text.len_bytes();
+    mem::forget(text);
+    length
+}
+
+#[test]
+fn texts_side_by_side_join(rt: HostRuntime) {
     let page = "one two, and twenty-three code points more";
+    assert!(rt; is_taken(&rt, rt.alloc(), page));
+    assert!(rt; length_of(&rt, rt.alloc(), "é€") == 5);
     let mut text = Text::of_page(page, 0, 3);
-    assert!(rt; text.join(Text::of_page(page, 3, 7)).is_none());
-    assert_eq!(rt; text.as_str(), "one two");
-    match text.join(Text::of_page(page, 12, 42)) {
-        Some(apart) => assert_eq!(rt; apart.as_str(), " twenty-three code points more"),
-        None => panic!(rt; "these texts stand apart"),
-    }
-    assert_eq!(rt; text.as_str(), "one two");
-    let mut own = text.copy(rt.alloc())?;
-    own.push(rt.alloc(), '!')?;
-    own.push_str(rt.alloc(), " And then some more words.")?;
-    assert_eq!(rt; own.as_str(), "one two! And then some more words.");
-    assert!(rt; text.join(Text::of_page(page, 8, 12)).is_none());
-    assert_eq!(rt; text.as_str(), "one two and");
-    let taken = Text::of_owned(rt.alloc(), String::from_str(rt.alloc(), page)?)?;
-    assert_eq!(rt; taken.as_str(), page);
-    assert_eq!(rt; Text::from_str(rt.alloc(), "é€")?.len_bytes(), 5);
-    Ok(())
+    assert!(rt; joins(&mut text, Text::of_page(page, 3, 7), None, "one two"));
+    let apart = Some(" twenty-three code points more");
+    assert!(rt; joins(&mut text, Text::of_page(page, 12, 42), apart, "one two"));
+    let grown = "one two! And then some more words.";
+    assert!(rt; grows_to(&rt, rt.alloc(), &text, grown));
+    assert!(rt; joins(&mut text, Text::of_page(page, 8, 12), None, "one two and"));
+    mem::forget(text);
 }
 
-#[test]
-fn lists_grow(rt: HostRuntime) -> Result<(), Fail> {
-    let mut list: List<u32> = List::new();
+/// Fills a list with 0 to 4, and puts 9 at 2.
+fn grow_list(rt: &impl Abort, alloc: Global, list: &mut List<u32>) {
     for item in 0..5 {
-        list.push(rt.alloc(), item)?;
+        list.push(alloc, item).expect(rt, "there is memory");
     }
-    assert_eq!(rt; list.len(), 5);
-    list.insert(rt.alloc(), 2, 9)?;
-    assert_eq!(rt; list.as_slice(), [0, 1, 9, 2, 3, 4].as_slice());
-    assert_eq!(rt; list.len(), 6);
-    assert_eq!(rt; list.remove(0), 0);
-    assert_eq!(rt; list.pop(), Some(4));
-    assert_eq!(rt; list.as_slice(), [1, 9, 2, 3].as_slice());
+    assert!(rt; list.len() == 5);
+    list.insert(alloc, 2, 9).expect(rt, "there is memory");
+}
+
+const GROWN: &[u32] = &[0, 1, 9, 2, 3, 4];
+
+const WITHOUT_ENDS: &[u32] = &[1, 9, 2, 3];
+
+fn has_items(list: &List<u32>, items: &[u32]) -> bool {
+    list.len() == items.len() && list.as_slice() == items
+}
+
+/// Whether the first item of a list is 0 and the last 4; both are taken out.
+fn loses_its_ends(list: &mut List<u32>) -> bool {
+    !list.is_empty() && list.remove(0) == 0 && list.pop() == Some(4)
+}
+
+fn push_to_chain(rt: &impl Abort, alloc: Global, chain: &mut Chain<u32>, items: &[u32]) {
+    for item in items {
+        chain.push(alloc, *item).expect(rt, "there is memory");
+    }
+}
+
+/// Whether a chain has three items, whose last is 3.
+fn ends_with_three(chain: &Chain<u32>) -> bool {
+    match chain.last() {
+        Some(last) => *last == 3 && chain.len() == 3,
+        None => false,
+    }
+}
+
+/// The chain of 1, with that of 2 and 3 behind it.
+fn joined(rt: &impl Abort, alloc: Global) -> Chain<u32> {
     let mut chain: Chain<u32> = Chain::new();
     let mut more: Chain<u32> = Chain::new();
-    chain.push(rt.alloc(), 1)?;
-    more.push(rt.alloc(), 2)?;
-    more.push(rt.alloc(), 3)?;
+    push_to_chain(rt, alloc, &mut chain, &[1]);
+    push_to_chain(rt, alloc, &mut more, &[2, 3]);
+    assert!(rt; chain.len() == 1 && more.len() == 2);
     chain.append(more);
-    assert_eq!(rt; chain.len(), 3);
-    assert_eq!(rt; chain.last(), Some(&3));
-    Ok(())
+    chain
 }
 
 #[test]
-fn types_are_small(rt: HostRuntime) -> Result<(), Fail> {
+fn lists_grow(rt: HostRuntime) {
+    let mut list: List<u32> = List::new();
+    grow_list(&rt, rt.alloc(), &mut list);
+    assert!(rt; has_items(&list, GROWN));
+    assert!(rt; loses_its_ends(&mut list));
+    assert!(rt; has_items(&list, WITHOUT_ENDS));
+    mem::forget(list);
+    let chain = joined(&rt, rt.alloc());
+    assert!(rt; ends_with_three(&chain));
+    mem::forget(chain);
+}
+
+#[test]
+fn types_are_small(rt: HostRuntime) {
     assert!(rt; size_of::<Name>() <= 16);
     assert!(rt; size_of::<Text<'static>>() <= 32);
     assert!(rt; size_of::<Attribute>() <= 56);
@@ -86,225 +176,313 @@ fn types_are_small(rt: HostRuntime) -> Result<(), Fail> {
     assert!(rt; size_of::<Token<'static>>() <= 64);
     assert!(rt; size_of::<List<Token<'static>>>() <= 72);
     assert!(rt; CharClass::of('\u{c}') == CharClass::White);
-    Ok(())
+}
+
+/// Whether a text in capitals is no known name, but that one without regard to case; it is lowered.
+fn is_lowered(rt: &impl Abort, alloc: Global, known: Known, text: &mut String) -> bool {
+    let unknown = Known::find(text.as_bytes()).is_none();
+    let name = Name::from_lowered(alloc, text.as_str()).expect(rt, "there is memory");
+    let known = Name::of_known(known);
+    text.make_ascii_lowercase();
+    let well = unknown && name.same_without_case(&known) && name.as_str() == text.as_str();
+    mem::forget(name);
+    mem::forget(known);
+    well
+}
+
+/// Whether a known name has that place, and is found by its text, and not by that in capitals.
+fn is_found(rt: &impl Abort, alloc: Global, known: Known, place: usize) -> bool {
+    let mut text = String::from_str(alloc, known.text()).expect(rt, "there is memory");
+    let found = known.index() == place && Known::find(text.as_bytes()) == Some(known);
+    text.make_ascii_uppercase();
+    let lowered = is_lowered(rt, alloc, known, &mut text);
+    mem::forget(text);
+    lowered && found
 }
 
 #[test]
-fn every_known_name_is_found(rt: HostRuntime) -> Result<(), Fail> {
+fn every_known_name_is_found(rt: HostRuntime) {
     for place in 0..240 {
-        match Known::at(place) {
-            None => panic!(rt; "there are 240 names"),
-            Some(known) => {
-                let text = known.text();
-                assert_eq!(rt; known.index(), place);
-                assert!(rt; Known::find(text.as_bytes()) == Some(known), "{text}");
-                let mut upper = String::from_str(rt.alloc(), text)?;
-                upper.make_ascii_uppercase();
-                assert!(rt; Known::find(upper.as_bytes()).is_none(), "{upper}");
-                let name = Name::from_lowered(rt.alloc(), upper.as_str())?;
-                assert!(rt; name.same_without_case(&Name::of_known(known)), "{upper}");
-                let mut lower = upper;
-                lower.make_ascii_lowercase();
-                assert_eq!(rt; name.as_str(), lower.as_str());
-            }
-        }
+        let known = Known::at(place).expect(&rt, "there are 240 names");
+        assert!(rt; is_found(&rt, rt.alloc(), known, place), "{place}");
     }
     assert!(rt; Known::at(240).is_none());
-    Ok(())
+}
+
+/// A name, a table, and how the table spells it; nothing where it doesn't.
+const RESPELLED: &[(&str, Respelling, &str)] = &[
+    ("foreignobject", Respelling::SvgNames, "foreignObject"),
+    ("viewbox", Respelling::SvgAttributes, "viewBox"),
+    (
+        "definitionurl",
+        Respelling::MathMlAttributes,
+        "definitionURL",
+    ),
+    ("glyphref", Respelling::SvgNames, "glyphRef"),
+    ("glyphref", Respelling::SvgAttributes, "glyphRef"),
+    ("viewbox", Respelling::SvgNames, ""),
+    ("definitionurl", Respelling::SvgAttributes, ""),
+    ("viewBox", Respelling::SvgAttributes, ""),
+    ("title", Respelling::SvgNames, ""),
+    ("", Respelling::SvgNames, ""),
+];
+
+fn respells_so(
+    rt: &impl Abort,
+    alloc: Global,
+    text: &str,
+    table: Respelling,
+    spelling: &str,
+) -> bool {
+    let name = named(rt, alloc, text);
+    let well = match name.respelling(table) {
+        None => spelling.is_empty(),
+        Some(known) => known.text() == spelling,
+    };
+    mem::forget(name);
+    well
+}
+
+/// A name, and its namespace and local name in foreign elements; nothing where it has none.
+const FOREIGN: &[(&str, AttributeSpace, &str)] = &[
+    ("xlink:href", AttributeSpace::Xlink, "href"),
+    ("xml:space", AttributeSpace::Xml, "space"),
+    ("xmlns", AttributeSpace::Xmlns, "xmlns"),
+    ("xmlns:xlink", AttributeSpace::Xmlns, "xlink"),
+    ("xml:base", AttributeSpace::Plain, ""),
+    ("href", AttributeSpace::Plain, ""),
+];
+
+fn is_foreign_so(
+    rt: &impl Abort,
+    alloc: Global,
+    text: &str,
+    space: AttributeSpace,
+    local: &str,
+) -> bool {
+    let name = named(rt, alloc, text);
+    let well = match name.foreign_attribute() {
+        None => local.is_empty(),
+        Some(found) => found.space == space && found.local.text() == local,
+    };
+    mem::forget(name);
+    well
+}
+
+fn compare_respellings(rt: &impl Abort, alloc: Global, respelled: &[(&str, Respelling, &str)]) {
+    for (name, table, spelling) in respelled {
+        assert!(rt; respells_so(rt, alloc, name, *table, spelling), "{name}");
+    }
+}
+
+fn compare_foreign(rt: &impl Abort, alloc: Global, foreign: &[(&str, AttributeSpace, &str)]) {
+    for (name, space, local) in foreign {
+        assert!(rt; is_foreign_so(rt, alloc, name, *space, local), "{name}");
+    }
 }
 
 #[test]
-fn names_are_respelled(rt: HostRuntime) -> Result<(), Fail> {
-    for (name, table, spelling) in [
-        ("foreignobject", Respelling::SvgNames, "foreignObject"),
-        ("viewbox", Respelling::SvgAttributes, "viewBox"),
-        (
-            "definitionurl",
-            Respelling::MathMlAttributes,
-            "definitionURL",
-        ),
-        ("glyphref", Respelling::SvgNames, "glyphRef"),
-        ("glyphref", Respelling::SvgAttributes, "glyphRef"),
-        ("viewbox", Respelling::SvgNames, ""),
-        ("definitionurl", Respelling::SvgAttributes, ""),
-        ("viewBox", Respelling::SvgAttributes, ""),
-        ("title", Respelling::SvgNames, ""),
-        ("", Respelling::SvgNames, ""),
-    ] {
-        let name = Name::from_text(rt.alloc(), name)?;
-        match name.respelling(table) {
-            None => assert_eq!(rt; spelling, ""),
-            Some(known) => assert_eq!(rt; known.text(), spelling),
-        }
+fn names_are_respelled(rt: HostRuntime) {
+    compare_respellings(&rt, rt.alloc(), RESPELLED);
+    compare_foreign(&rt, rt.alloc(), FOREIGN);
+}
+
+type Part = Option<&'static str>;
+
+/// The name and the two identifiers of a doctype, and whether it gives quirks.
+const DOCTYPES: &[(&str, Part, Part, bool)] = &[
+    ("html", None, None, false),
+    ("HTML", None, None, false),
+    ("htm", None, None, true),
+    ("html", Some("HTML"), None, true),
+    (
+        "html",
+        Some("-//W3C//DTD HTML 3.2 Draft//EN"),
+        Some("x"),
+        true,
+    ),
+    ("html", Some("-//IETF//DTD HTML"), Some("x"), true),
+    (
+        "html",
+        Some("-//W3C//DTD HTML 4.01 Frameset//EN"),
+        None,
+        true,
+    ),
+    (
+        "html",
+        Some("-//W3C//DTD HTML 4.01 Frameset//EN"),
+        Some(""),
+        false,
+    ),
+    ("html", Some("-//W3C//DTD HTML 4.01//EN"), None, false),
+    ("html", None, Some("about:legacy-compat"), false),
+];
+
+fn part(rt: &impl Abort, alloc: Global, part: Part) -> Option<Text<'static>> {
+    match part {
+        None => None,
+        Some(text) => Some(Text::from_str(alloc, text).expect(rt, "there is memory")),
     }
-    for (name, space, local) in [
-        ("xlink:href", AttributeSpace::Xlink, "href"),
-        ("xml:space", AttributeSpace::Xml, "space"),
-        ("xmlns", AttributeSpace::Xmlns, "xmlns"),
-        ("xmlns:xlink", AttributeSpace::Xmlns, "xlink"),
-        ("xml:base", AttributeSpace::Plain, ""),
-        ("href", AttributeSpace::Plain, ""),
-    ] {
-        match Name::from_text(rt.alloc(), name)?.foreign_attribute() {
-            None => assert_eq!(rt; local, "", "{name}"),
-            Some(found) => {
-                assert!(rt; found.space == space, "{name}");
-                assert_eq!(rt; found.local.text(), local);
-            }
-        }
+}
+
+fn doctype(
+    rt: &impl Abort,
+    alloc: Global,
+    name: &'static str,
+    public: Part,
+    system: Part,
+) -> Doctype<'static> {
+    let parts = DoctypeParts {
+        name: part(rt, alloc, Some(name)),
+        public: part(rt, alloc, public),
+        system: part(rt, alloc, system),
+        force_quirks: false,
+    };
+    Doctype::new(alloc, parts).expect(rt, "there is memory")
+}
+
+/// Whether a doctype gives quirks as told, and it does where it is told to or has no name.
+fn gives_so(doctype: Doctype<'static>, quirks: bool) -> bool {
+    let so = doctype.parts().gives_quirks() == quirks;
+    let mut parts = doctype.into_parts();
+    parts.force_quirks = true;
+    let forced = parts.gives_quirks();
+    parts.force_quirks = false;
+    let name = mem::replace(&mut parts.name, None);
+    let nameless = parts.gives_quirks();
+    mem::forget(parts);
+    mem::forget(name);
+    so && forced && nameless
+}
+
+fn compare_doctypes(rt: &impl Abort, alloc: Global, doctypes: &[(&'static str, Part, Part, bool)]) {
+    for (name, public, system, quirks) in doctypes {
+        let doctype = doctype(rt, alloc, name, *public, *system);
+        assert!(rt; gives_so(doctype, *quirks), "{name}");
     }
-    Ok(())
 }
 
 #[test]
-fn doctypes_give_quirks(rt: HostRuntime) -> Result<(), Fail> {
-    for (name, public, system, quirks) in [
-        ("html", None, None, false),
-        ("HTML", None, None, false),
-        ("htm", None, None, true),
-        ("html", Some("HTML"), None, true),
-        (
-            "html",
-            Some("-//W3C//DTD HTML 3.2 Draft//EN"),
-            Some("x"),
-            true,
-        ),
-        ("html", Some("-//IETF//DTD HTML"), Some("x"), true),
-        (
-            "html",
-            Some("-//W3C//DTD HTML 4.01 Frameset//EN"),
-            None,
-            true,
-        ),
-        (
-            "html",
-            Some("-//W3C//DTD HTML 4.01 Frameset//EN"),
-            Some(""),
-            false,
-        ),
-        ("html", Some("-//W3C//DTD HTML 4.01//EN"), None, false),
-        ("html", None, Some("about:legacy-compat"), false),
-    ] {
-        let parts = DoctypeParts {
-            name: Some(Text::from_str(rt.alloc(), name)?),
-            public: part(rt.alloc(), public)?,
-            system: part(rt.alloc(), system)?,
-            force_quirks: false,
-        };
-        let doctype = Doctype::new(rt.alloc(), parts)?;
-        assert!(rt; doctype.parts().gives_quirks() == quirks, "{name}");
-        let mut parts = doctype.into_parts();
-        parts.force_quirks = true;
-        assert!(rt; parts.gives_quirks(), "{name}");
-        parts.force_quirks = false;
-        parts.name = None;
-        assert!(rt; parts.gives_quirks(), "{name}");
-    }
+fn doctypes_give_quirks(rt: HostRuntime) {
+    compare_doctypes(&rt, rt.alloc(), DOCTYPES);
     assert!(rt; Known::Title.raw_text() == Some(Rest::Rcdata));
     assert!(rt; Known::Script.raw_text() == Some(Rest::Script));
     assert!(rt; Known::Noframes.raw_text() == Some(Rest::Rawtext));
     assert!(rt; Known::Div.raw_text().is_none());
-    Ok(())
 }
 
-/// A part of a doctype.
-fn part(alloc: Global, text: Option<&'static str>) -> Result<Option<Text<'static>>, AllocError> {
-    match text {
-        None => Ok(None),
-        Some(text) => Ok(Some(Text::from_str(alloc, text)?)),
-    }
-}
-
-fn attribute(alloc: Global, name: &str, value: &'static str) -> Result<Attribute, AllocError> {
-    Ok(Attribute {
+/// Gives a tag one more attribute.
+fn add(rt: &impl Abort, alloc: Global, tag: &mut Tag, name: &str, value: &'static str) {
+    let attribute = Attribute {
         space: AttributeSpace::Plain,
-        name: Name::from_text(alloc, name)?,
-        value: Text::from_str(alloc, value)?,
-    })
+        name: named(rt, alloc, name),
+        value: Text::from_str(alloc, value).expect(rt, "there is memory"),
+    };
+    let pushed = tag.attributes.push(alloc, attribute);
+    assert!(rt; pushed.is_ok());
+    mem::forget(pushed);
 }
 
-/// Gives a tag its attributes.
-fn add_attributes(alloc: Global, tag: &mut Tag) -> Result<(), AllocError> {
-    let short = attribute(alloc, "class", "a")?;
-    tag.attributes.push(alloc, short)?;
-    let long = attribute(alloc, "data-a-name-of-its-own", "a value on the heap")?;
-    tag.attributes.push(alloc, long)?;
-    Ok(())
-}
-
-/// Whether the copy of a tag with two attributes is the same, and without the first of them another. It is kept to the end of the test.
-fn is_copied(alloc: Global, tag: &Tag) -> Result<bool, AllocError> {
-    let mut copy = tag.copy(alloc)?;
+/// Whether the copy of a tag with two attributes is the same, and without the first of them another.
+fn is_copied(rt: &impl Abort, alloc: Global, tag: &Tag) -> bool {
+    let mut copy = tag.copy(alloc).expect(rt, "there is memory");
     let same = copy.same(tag) && copy.attributes.len() == 2;
     let first = copy.attributes.pop_front();
     let differs = first.is_some() && !copy.same(tag) && !tag.same(&copy);
-    mem::forget((copy, first));
-    Ok(same && differs)
+    mem::forget(copy);
+    mem::forget(first);
+    same && differs
 }
 
-/// Whether the copy of a token is of its kind. It is kept to the end of the test.
-fn is_copied_token(alloc: Global, token: &Token<'_>) -> Result<bool, AllocError> {
-    let copy = token.copy(alloc)?;
+/// Whether the copy of a token is of its kind.
+fn is_copied_token(rt: &impl Abort, alloc: Global, token: &Token<'_>) -> bool {
+    let copy = token.copy(alloc).expect(rt, "there is memory");
     let well = copy.kind() == token.kind();
     mem::forget(copy);
-    Ok(well)
+    well
 }
 
 #[test]
-fn tags_are_copied(rt: HostRuntime) -> Result<(), Fail> {
+fn tags_are_copied(rt: HostRuntime) {
     let mut tag = Tag {
         namespace: Namespace::Svg,
         name: Name::of_known(Known::Title),
         attributes: Chain::new(),
     };
-    let added = add_attributes(rt.alloc(), &mut tag);
-    let copied = is_copied(rt.alloc(), &tag);
+    add(&rt, rt.alloc(), &mut tag, "class", "a");
+    let value = "a value on the heap";
+    add(&rt, rt.alloc(), &mut tag, "data-a-name-of-its-own", value);
+    assert!(rt; is_copied(&rt, rt.alloc(), &tag));
     let token = Token::Start {
         self_closing: true,
         tag,
     };
-    let copied_token = is_copied_token(rt.alloc(), &token);
+    assert!(rt; is_copied_token(&rt, rt.alloc(), &token));
     mem::forget(token);
-    added?;
-    assert!(rt; copied?);
-    assert!(rt; copied_token?);
-    Ok(())
 }
 
 #[test]
-fn lists_are_copied(rt: HostRuntime) -> Result<(), Fail> {
+fn lists_are_copied(rt: HostRuntime) {
     let mut names = List::of_one(Name::of_known(Known::Title));
-    names.push(rt.alloc(), Name::of_known(Known::Svg))?;
-    assert!(rt; names.copy(rt.alloc())?.len() == 2);
-    Ok(())
+    let pushed = names.push(rt.alloc(), Name::of_known(Known::Svg));
+    assert!(rt; pushed.is_ok());
+    let copy = names.copy(rt.alloc()).expect(&rt, "there is memory");
+    assert!(rt; copy.len() == 2);
+    mem::forget(names);
+    mem::forget(pushed);
+    mem::forget(copy);
+}
+
+/// How many items two lists have.
+const APPENDED: &[(u32, u32)] = &[
+    (0, 0),
+    (0, 2),
+    (1, 0),
+    (1, 1),
+    (1, 3),
+    (2, 0),
+    (2, 1),
+    (2, 2),
+];
+
+/// Pushes the numbers from one up to another.
+fn push_numbers(rt: &impl Abort, alloc: Global, list: &mut List<u32>, from: u32, to: u32) {
+    for item in from..to {
+        list.push(alloc, item).expect(rt, "there is memory");
+    }
+}
+
+/// Whether a list has the numbers from 0 on.
+fn counts(list: List<u32>) -> bool {
+    let mut well = true;
+    let mut next: u32 = 0;
+    for item in list {
+        well = well && item == next;
+        next = next.wrapping_add(1);
+    }
+    well
+}
+
+/// Whether a list of so many numbers is, with so many more appended, a list of all of them.
+fn appends(rt: &impl Abort, alloc: Global, front: u32, back: u32) -> bool {
+    let all = front.wrapping_add(back);
+    let mut list: List<u32> = List::new();
+    let mut more: List<u32> = List::new();
+    push_numbers(rt, alloc, &mut list, 0, front);
+    push_numbers(rt, alloc, &mut more, front, all);
+    list.append(alloc, &mut more).expect(rt, "there is memory");
+    let whole = more.is_empty() && list.len() == all as usize;
+    mem::forget(more);
+    counts(list) && whole
+}
+
+fn compare_appended(rt: &impl Abort, alloc: Global, appended: &[(u32, u32)]) {
+    for (front, back) in appended {
+        assert!(rt; appends(rt, alloc, *front, *back), "{front} {back}");
+    }
 }
 
 #[test]
-fn lists_are_appended(rt: HostRuntime) -> Result<(), Fail> {
-    for (front, back) in [
-        (0, 0),
-        (0, 2),
-        (1, 0),
-        (1, 1),
-        (1, 3),
-        (2, 0),
-        (2, 1),
-        (2, 2),
-    ] {
-        let mut list: List<u32> = List::new();
-        let mut more: List<u32> = List::new();
-        for item in 0..front {
-            list.push(rt.alloc(), item)?;
-        }
-        for item in front..front + back {
-            more.push(rt.alloc(), item)?;
-        }
-        list.append(rt.alloc(), &mut more)?;
-        assert!(rt; more.is_empty());
-        assert_eq!(rt; list.len(), front as usize + back as usize);
-        for (at, item) in list.into_iter().enumerate() {
-            assert_eq!(rt; at, item as usize);
-        }
-    }
-    Ok(())
+fn lists_are_appended(rt: HostRuntime) {
+    compare_appended(&rt, rt.alloc(), APPENDED);
 }

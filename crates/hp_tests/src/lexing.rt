@@ -3,7 +3,6 @@ use hp_elements::{Rest, Tokens};
 use hp_tokens::{Machine, NoMemory, State, buffer_emitted, buffer_emitted_at_end, emitted_again};
 use std::alloc::Global;
 use std::mem;
-use std::test::Fail;
 
 /// Emits a comment, a buffer of one letter, and the end of input behind an empty one.
 fn emit(
@@ -20,13 +19,11 @@ fn emit(
 }
 
 #[test]
-fn what_was_built_is_emitted(rt: HostRuntime) -> Result<(), Fail> {
+fn what_was_built_is_emitted(rt: HostRuntime) {
     let mut tokens: Tokens<'static> = Tokens::new();
     let mut machine = Machine::at_rest(Rest::Rawtext, false);
-    let emitted = emit(rt.alloc(), &mut machine, &mut tokens);
-    let count = tokens.len();
-    mem::forget((machine, tokens));
-    emitted?;
-    assert!(rt; count == 3);
-    Ok(())
+    assert!(rt; emit(rt.alloc(), &mut machine, &mut tokens).is_ok());
+    assert!(rt; tokens.len() == 3);
+    mem::forget(machine);
+    mem::forget(tokens);
 }
