@@ -10,7 +10,7 @@ use crate::name::Name;
 use crate::tag::AttributeSpace;
 
 /// A table of respellings: each name whose spelling in foreign elements has upper case letters, which the lexer has lowered.
-#[derive(Clone, Copy, PartialEq, Eq)]
+#[derive(Clone, Copy)]
 pub enum Respelling {
     /// The names of SVG elements (13.2.6.5).
     SvgNames,
@@ -21,7 +21,7 @@ pub enum Respelling {
 }
 
 /// An attribute that has a namespace in foreign elements: the namespace and the local name.
-#[derive(Clone, Copy, PartialEq, Eq)]
+#[derive(Clone, Copy)]
 pub struct ForeignAttribute {
     pub space: AttributeSpace,
     pub local: Known,
@@ -44,11 +44,7 @@ impl Respelling {
     fn mask(self) -> u8
         ensures { result ≡ bit_of self }
     {
-        match self {
-            Respelling::SvgNames => 1,
-            Respelling::SvgAttributes => 2,
-            Respelling::MathMlAttributes => 4,
-        }
+        1 << self as u32
     }
 
     /// Whether a known name is one of the table's spellings.

@@ -74,44 +74,7 @@ impl SetName {
     fn mask(self) -> u64
         ensures { result ≡ mask_of self }
     {
-        match self {
-            SetName::ForeignEnds => 0x1,
-            SetName::DefaultScopeEnds => 0x2,
-            SetName::ListItemScopeEnds => 0x4,
-            SetName::ButtonScopeEnds => 0x8,
-            SetName::TableScopeEnds => 0x10,
-            SetName::SelectScopeEnds => 0x20,
-            SetName::Special => 0x40,
-            SetName::ItemBarriers => 0x80,
-            SetName::Implied => 0x100,
-            SetName::ImpliedButDd => 0x200,
-            SetName::ImpliedButDt => 0x400,
-            SetName::ImpliedButLi => 0x800,
-            SetName::ImpliedButOptgroup => 0x1000,
-            SetName::ImpliedButOption => 0x2000,
-            SetName::ImpliedButP => 0x4000,
-            SetName::ImpliedButRb => 0x8000,
-            SetName::ImpliedButRp => 0x10000,
-            SetName::ImpliedButRt => 0x20000,
-            SetName::ImpliedButRtc => 0x40000,
-            SetName::ThoroughlyImplied => 0x80000,
-            SetName::Formatting => 0x100000,
-            SetName::Markers => 0x200000,
-            SetName::MathMlTextPoints => 0x400000,
-            SetName::SvgHtmlPoints => 0x800000,
-            SetName::Void => 0x1000000,
-            SetName::Breakout => 0x2000000,
-            SetName::Headings => 0x4000000,
-            SetName::DescriptionItems => 0x8000000,
-            SetName::Cells => 0x10000000,
-            SetName::TableSections => 0x20000000,
-            SetName::TableTextParents => 0x40000000,
-            SetName::FosterParents => 0x80000000,
-            SetName::TableContext => 0x100000000,
-            SetName::TableBodyContext => 0x200000000,
-            SetName::TableRowContext => 0x400000000,
-            SetName::Options => 0x800000000,
-        }
+        1 << self as u32
     }
 }
 
