@@ -197,32 +197,32 @@ impl<'p> Token<'p> {
         ensures { IfOk result (λ copy. copy ≡ self.now) }
     {
         match self {
-            Token::Characters { class, text } => {
-                let text = text.copy(alloc)?;
-                Ok(Token::Characters {
+            Token::Characters { class, text } => match text.copy(alloc) {
+                Ok(text) => Ok(Token::Characters {
                     class: *class,
                     text,
-                })
-            }
-            Token::Start { self_closing, tag } => {
-                let tag = tag.copy(alloc)?;
-                Ok(Token::Start {
+                }),
+                Err(error) => Err(error),
+            },
+            Token::Start { self_closing, tag } => match tag.copy(alloc) {
+                Ok(tag) => Ok(Token::Start {
                     self_closing: *self_closing,
                     tag,
-                })
-            }
-            Token::EndTag { name } => {
-                let name = name.copy(alloc)?;
-                Ok(Token::EndTag { name })
-            }
-            Token::Comment { text } => {
-                let text = text.copy(alloc)?;
-                Ok(Token::Comment { text })
-            }
-            Token::Doctype { doctype } => {
-                let doctype = doctype.copy(alloc)?;
-                Ok(Token::Doctype { doctype })
-            }
+                }),
+                Err(error) => Err(error),
+            },
+            Token::EndTag { name } => match name.copy(alloc) {
+                Ok(name) => Ok(Token::EndTag { name }),
+                Err(error) => Err(error),
+            },
+            Token::Comment { text } => match text.copy(alloc) {
+                Ok(text) => Ok(Token::Comment { text }),
+                Err(error) => Err(error),
+            },
+            Token::Doctype { doctype } => match doctype.copy(alloc) {
+                Ok(doctype) => Ok(Token::Doctype { doctype }),
+                Err(error) => Err(error),
+            },
             Token::EndOfInput => Ok(Token::EndOfInput),
         }
     }
