@@ -37,8 +37,12 @@ impl Attribute {
     pub fn copy(&self, alloc: Global) -> Result<Attribute, AllocError>
         ensures { IfOk result (λ copy. copy ≡ self.now) }
     {
-        let name = self.name.copy(alloc)?;
-        let value = self.value.copy(alloc)?;
+        let Ok(name) = self.name.copy(alloc) else {
+            return Err(AllocError);
+        };
+        let Ok(value) = self.value.copy(alloc) else {
+            return Err(AllocError);
+        };
         Ok(Attribute {
             space: self.space,
             name,
@@ -77,8 +81,12 @@ impl Tag {
     fn copy_all(&self, alloc: Global) -> Result<Tag, AllocError>
         ensures { IfOk result (λ copy. copy ≡ self.now) }
     {
-        let name = self.name.copy(alloc)?;
-        let attributes = copied(alloc, &self.attributes)?;
+        let Ok(name) = self.name.copy(alloc) else {
+            return Err(AllocError);
+        };
+        let Ok(attributes) = copied(alloc, &self.attributes) else {
+            return Err(AllocError);
+        };
         Ok(Tag {
             namespace: self.namespace,
             name,

@@ -133,10 +133,19 @@ impl<'p> Doctype<'p> {
         ensures { IfOk result (λ copy. copy ≡ self.now) }
     {
         let parts = &self.parts;
+        let Ok(name) = copied_part(alloc, &parts.name) else {
+            return Err(AllocError);
+        };
+        let Ok(public) = copied_part(alloc, &parts.public) else {
+            return Err(AllocError);
+        };
+        let Ok(system) = copied_part(alloc, &parts.system) else {
+            return Err(AllocError);
+        };
         let copy = DoctypeParts {
-            name: copied_part(alloc, &parts.name)?,
-            public: copied_part(alloc, &parts.public)?,
-            system: copied_part(alloc, &parts.system)?,
+            name,
+            public,
+            system,
             force_quirks: parts.force_quirks,
         };
         Doctype::new(alloc, copy)
