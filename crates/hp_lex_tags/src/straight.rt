@@ -55,15 +55,6 @@ enum Way {
     Left,
 }
 
-/// A text of its own.
-fn owned(alloc: Global, text: &str) -> Result<OwnedText, NoMemory>
-    ensures { IfOk result (λ own. own ≡ chars text.now) }
-{
-    let mut own = OwnedText::new();
-    own.push_str(alloc, text)?;
-    Ok(own)
-}
-
 /// The attribute with that name and value goes behind the others, unless one of them has its name. The first one needs no
 /// look at the others.
 #[inline(always)]
@@ -431,12 +422,11 @@ fn tell_last(alloc: Global, machine: &mut Machine, name: &Name) -> Result<(), No
     ensures { OnOk result (machine.new ≡ record machine.old { last_tag = Some name.now }) }
 {
     match &mut machine.last_tag {
-        Some(last) => {
-            last.clear();
-            last.push_str(alloc, name.as_str())
-        }
+        Some(last) => last.set_name(alloc, name),
         None => {
-            machine.last_tag = Some(owned(alloc, name.as_str())?);
+            let mut last = OwnedText::new();
+            last.set_name(alloc, name)?;
+            machine.last_tag = Some(last);
             Ok(())
         }
     }
