@@ -11,7 +11,7 @@ ghost use Rattle.hp_tokens.specs.Parts.{added};
 ghost use Rattle.hp_tokens.specs.Advancing.{held, lexing};
 ghost use Rattle.hp_lex_tags.specs.Tags.{TagTurned};
 ghost use Rattle.hp_lex_tags.specs.Usual.{ReferenceTaken};
-ghost use Rattle.hp_lex_tags.specs.Straight.{Reading, tagging, tag_of, ends_part, is_between, behind_blanks as spec_behind_blanks, IsQuoted, BeginsBy, NameTaken, ValueGrows, ValueKept, Arrives, TagGrows, TagRead};
+ghost use Rattle.hp_lex_tags.specs.Straight.{Reading, tagging, tag_of, ends_part, is_between, behind_blanks as spec_behind_blanks, IsQuoted, BeginsBy, NameTaken, ValueGrows, ValueKept, Arrives, Continues, TagGrows, TagRead};
 ghost use Rattle.hp_tokens.specs.Plain.{none_of, tag_name_stops, attribute_name_stops, unquoted_stops};
 ghost use Rattle.hp_tokens.specs.PlainLaws.{none-high};
 
@@ -105,7 +105,7 @@ fn behind_blanks(state: State) -> State
     }
 }
 
-/// What stands behind a name or a value in quotes: blanks, or what ends the tag.
+/// What stands behind a name: blanks, or what ends the tag.
 #[inline]
 fn behind(input: &mut Cursor<'_>, state: State) -> Way
     requires { ends_part state ≡ true }
@@ -120,6 +120,25 @@ fn behind(input: &mut Cursor<'_>, state: State) -> Way
         return Way::At(behind_blanks(state));
     }
     close(input, state)
+}
+
+/// The same behind a value in quotes, where the next name may stand at once.
+#[inline]
+fn behind_quoted(input: &mut Cursor<'_>) -> Way
+    ensures { (names : List Reference) (reading : Reading) → Continues names input.old reading input.new result }
+{
+    if input.take_byte(b'>') {
+        return Way::Whole {
+            self_closing: false,
+        };
+    }
+    if input.skip_blanks() {
+        return Way::At(State::BeforeAttributeName);
+    }
+    if begins_name(input) {
+        return Way::At(State::BeforeAttributeName);
+    }
+    close(input, State::AfterAttributeValueQuoted)
 }
 
 /// The same behind a value without quotes, where `/` ends nothing.
@@ -181,7 +200,7 @@ fn close_quoted<R: Run>(input: &mut Cursor<'_>, mark: u8, state: State) -> Way
     ensures { (names : List Reference) (reading : Reading) → Arrives names state (building.StartTag (tag_of reading)) input.old reading input.new result }
 {
     if input.take_byte(mark) {
-        return behind(input, State::AfterAttributeValueQuoted);
+        return behind_quoted(input);
     }
     Way::Left
 }
@@ -227,7 +246,7 @@ fn read_quoted<R: LongRun>(
     let value = Text::from_str(alloc, run)?;
     if input.take_byte(mark) {
         keep(alloc, attributes, name, value)?;
-        return Ok(behind(input, State::AfterAttributeValueQuoted));
+        return Ok(behind_quoted(input));
     }
     let way = read_behind_run::<R>(alloc, names, attributes, name, value, input, mark, state)?;
     Ok(way)
