@@ -55,11 +55,11 @@ impl Machine {
     {
         Ok(Machine {
             state: self.state,
-            building: self.building.copy(alloc)?,
             buffer: self.buffer.copy(alloc)?,
             return_to: self.return_to,
             value: self.value,
             last_tag: copied_part(alloc, &self.last_tag)?,
+            building: self.building.copy(alloc)?,
             after_cr: self.after_cr,
         })
     }

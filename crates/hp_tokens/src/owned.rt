@@ -72,10 +72,11 @@ impl OwnedText {
         }
     }
 
-    /// Becomes the text of a name. That of a known one is not copied.
+    /// Becomes the text of a name. That of a known one is not copied. An `Err` leaves it empty.
     #[inline]
     pub fn set_name(&mut self, alloc: Global, name: &Name) -> Result<(), NoMemory>
-        ensures { OnOk result (self.new ≡ name.now) }
+        ensures ok { OnOk result (self.new ≡ name.now) }
+        ensures err { OnErr result (self.new ≡ []) }
     {
         if let Some(known) = name.known() {
             self.store = Store::Named(known);
