@@ -12,6 +12,7 @@ ghost use Rattle.hp_tokens.specs.Advancing.{held, lexing};
 ghost use Rattle.hp_lex_tags.specs.Tags.{TagTurned};
 ghost use Rattle.hp_lex_tags.specs.Usual.{ReferenceTaken};
 ghost use Rattle.hp_lex_tags.specs.Straight.{Reading, tagging, tag_of, ends_part, is_between, behind_blanks as spec_behind_blanks, IsQuoted, BeginsBy, NameTaken, ValueGrows, ValueKept, Arrives, Continues, TagGrows, TagRead};
+ghost use Rattle.hp_lex_tags.specs.declared.straight.Way.TheVariants as ways;
 ghost use Rattle.hp_tokens.specs.Plain.{none_of, tag_name_stops, attribute_name_stops, unquoted_stops};
 ghost use Rattle.hp_tokens.specs.PlainLaws.{none-high};
 
@@ -483,6 +484,29 @@ fn read_name(alloc: Global, input: &mut Cursor<'_>) -> Result<Name, NoMemory>
     Name::from_lowered(alloc, input.take_run::<TagNameBytes>())
 }
 
+/// What follows the name of a start tag, and whether it closes itself; the machine stands behind it. `None` where the rows go on.
+#[inline(always)]
+fn read_behind_name(
+    alloc: Global,
+    names: &Names,
+    machine: &mut Machine,
+    name: &Name,
+    attributes: &mut Chain<Attribute>,
+    input: &mut Cursor<'_>,
+) -> Result<Option<bool>, NoMemory>
+    requires clear { machine.old.after_cr ≡ false }
+    ensures read { IfOk result (λ end. IfSome end (λ closing. TagGrows names.now states.TagName attributes.old input.old attributes.new input.new (ways.Whole closing))) }
+    ensures behind { IfOk result (λ end. IfSome end (λ closing. machine.new ≡ tagging (Some name.now) states.Data building.Nothing)) }
+    ensures left { IfOk result (λ end. IfNone end (machine.new ≡ machine.old)) }
+{
+    let way = read_rest(alloc, names, attributes, input)?;
+    if let Way::Whole { self_closing } = way {
+        stand_behind(alloc, machine, name)?;
+        return Ok(Some(self_closing));
+    }
+    Ok(None)
+}
+
 /// A start tag, of which `<` comes next and then a letter; `None` where the rows go on.
 #[inline(always)]
 fn read_start_tag<'p>(
@@ -500,9 +524,8 @@ fn read_start_tag<'p>(
     input.skip_ascii(1);
     let name = read_name(alloc, input)?;
     let mut attributes = Chain::new();
-    let way = read_rest(alloc, names, &mut attributes, input)?;
-    if let Way::Whole { self_closing } = way {
-        stand_behind(alloc, machine, &name)?;
+    let end = read_behind_name(alloc, names, machine, &name, &mut attributes, input)?;
+    if let Some(self_closing) = end {
         return Ok(Some(start_tag(name, attributes, self_closing)));
     }
     *input = start;

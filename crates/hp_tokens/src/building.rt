@@ -269,12 +269,7 @@ fn copied_attributes(
 {
     let mut copy = Chain::new();
     for attribute in attributes.iter() {
-        let attribute = Attribute {
-            space: attribute.space,
-            name: attribute.name.copy(alloc)?,
-            value: attribute.value.copy(alloc)?,
-        };
-        copy.push(alloc, attribute)?;
+        copy.push(alloc, attribute.copy(alloc)?)?;
     }
     Ok(copy)
 }
