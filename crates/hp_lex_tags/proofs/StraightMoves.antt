@@ -114,11 +114,11 @@ continues_join {names} new reading (way.At k) a less h = (onto_join a h.0, h.1, 
 continues_join {names} new reading (way.Whole closing) a less h = closes_join a h
 continues_join {names} new reading way.Left a less h = tt
 
-pub continues : {names : List Reference} {old : Unread} (new : Unread) (reading : Reading) (w : Way)
+pub continues : (names : List Reference) (old new : Unread) (reading : Reading) (w : Way)
     → Arrives names AfterAttributeValueQuoted (StartTag (tag_of reading)) old reading new w → Continues names old reading new w
-continues {names} new reading (way.At k) h = (h.0, h.1)
-continues {names} new reading (way.Whole closing) h = h
-continues {names} new reading way.Left h = tt
+continues names old new reading (way.At k) h = (h.0, h.1)
+continues names old new reading (way.Whole closing) h = h
+continues names old new reading way.Left h = tt
 
 -- the tag is emitted on the code point that is consumed
 pub emits_here : {names : List Reference} (s : State) (b : Building) (c : ℕ) (old new : Unread) (tag : Token) (name : Option (List ℕ) → Option (List ℕ))

@@ -1,5 +1,5 @@
 -- The parts of a usual tag: its name, the names and the values of its attributes.
-use Rattle.std.proofs.Common.{◌≡◌, ℕ, ◌<◌, ◌≤◌, List, [], ◌∷◌, ◌++◌, Bool, true, false, ◌&&◌, not, refl, ap, ◌∙◌, sym, subst, arith, Option, None, Some, IsTrue, eqb-true, ◌⊎◌, inl, inr}
+use Rattle.std.proofs.Common.{◌≡◌, ℕ, ◌<◌, ◌≤◌, List, [], ◌∷◌, ◌++◌, length, Bool, true, false, ◌&&◌, not, refl, ap, ◌∙◌, sym, subst, arith, Option, None, Some, IsTrue, eqb-true, ◌⊎◌, inl, inr}
 use Rattle.std.specs.Prelude.{◌==◌, nat_lt}
 use Rattle.std.specs.List.{list_all}
 use Rattle.std.specs.Char.{is_ascii_alphabetic}
@@ -28,6 +28,7 @@ use Rattle.hp_tokens.specs.Plain.{none_of, tag_name_stops, attribute_name_stops,
 use Rattle.hp_tokens.specs.PlainLaws.{unlike, apart, none-high}
 use Rattle.hp_lex_tags.specs.Rows.{has_row, row, row_of, tag_open, end_tag_open, tag_name, attribute_name, before_attribute_value}
 use Rattle.hp_lex_tags.specs.declared.straight.Way.{Way}
+use Rattle.hp_lex_tags.specs.declared.straight.Way.TheVariants as way
 use Rattle.hp_lex_tags.specs.Straight.{Reading, tagging, within, standing_at, tag_of, naming, bare, ending, gathered, is_between, uses_token_alone, Onto, Arrives, Continues, ValueKept, TagGrows, IsQuoted, BeginsBy, ValueGrows}
 use Rattle.hp_lex_tags.specs.Usual.{ReferenceTaken}
 use Rattle.hp_lex_tags.proofs.ValueReferences.{reference_onto}
@@ -150,15 +151,14 @@ next_row last b c h =
     let a = apart attribute_name_stops c h in
     rw (a.1.0, a.1.1.0, a.1.1.1.0, a.1.1.1.1.1.0, a.1.1.1.1.1.1.0, a.1.1.1.1.1.1.1.1.0) refl
 
-pub next_at_once : {names : List Reference} (reading : Reading) (old mid new : Unread) → BeginsBy (none_of attribute_name_stops) mid.text → mid ≡ old → new ≡ mid
+pub next_at_once : (names : List Reference) (reading : Reading) (old mid new : Unread) → BeginsBy (none_of attribute_name_stops) mid.text → mid ≡ old → new ≡ mid
     → Continues names old reading new (way.At BeforeAttributeName)
-next_at_once {names} reading old mid new b e f =
+next_at_once names reading old mid new b e f =
     let t : Building = StartTag (tag_of reading) in
     let P : Unread → Type 0 = λ u. Onto names AfterAttributeValueQuoted t u BeforeAttributeName t mid in
-    let Q : Unread → Type 0 = λ u. Onto names AfterAttributeValueQuoted t old BeforeAttributeName t u in
-    (
+    let Q : Unread → Type 0 = λ u. Onto names AfterAttributeValueQuoted t old BeforeAttributeName t u in (
       subst Q (sym f) (subst P e (rereads AfterAttributeValueQuoted BeforeAttributeName t t b.c b.rest mid (λ l. next_row l t b.c b.passed) refl refl
-      (unlike (none_of attribute_name_stops) 13 b.c refl b.passed) b.begins)),
+          (unlike (none_of attribute_name_stops) 13 b.c refl b.passed) b.begins)),
       refl,
     )
 

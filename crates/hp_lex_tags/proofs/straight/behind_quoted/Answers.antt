@@ -14,18 +14,18 @@ pub returns-then-skip_blanks : goal.returns-then-skip_blanks
 returns-then-skip_blanks c = λ names reading.
     let P : Unread → Type 0 = λ u. Continues names u reading c.skip_blanks.new.self (way.At BeforeAttributeName) in
     subst P (c.if-take_byte.ensures.left refl).0
-    (continues c.skip_blanks.new.self reading (way.At BeforeAttributeName) (behind_some AfterAttributeValueQuoted BeforeAttributeName reading c.take_byte.new.self c.skip_blanks.new.self refl c.if-skip_blanks.ensures.run refl))
+    (continues names c.take_byte.new.self c.skip_blanks.new.self reading (way.At BeforeAttributeName) (behind_some AfterAttributeValueQuoted BeforeAttributeName reading c.take_byte.new.self c.skip_blanks.new.self refl c.if-skip_blanks.ensures.run refl))
 
 pub returns-then-begins_name : goal.returns-then-begins_name
 returns-then-begins_name c = λ names reading.
     let P : Unread → Type 0 = λ u. Continues names u reading c.skip_blanks.new.self (way.At BeforeAttributeName) in
     subst P (c.if-take_byte.ensures.left refl).0
-    (next_at_once reading c.take_byte.new.self c.skip_blanks.new.self c.skip_blanks.new.self (c.if-begins_name.ensures refl)
+    (next_at_once names reading c.take_byte.new.self c.skip_blanks.new.self c.skip_blanks.new.self (c.if-begins_name.ensures refl)
     (none_skipped c.take_byte.new.self c.skip_blanks.new.self c.if-skip_blanks.ensures.run) refl)
 
 pub returns : goal.returns
 returns c = λ names reading.
     let P : Unread → Type 0 = λ u. Continues names u reading c.close.new.input c.close.result in
     subst P (c.if-take_byte.ensures.left refl).0
-    (continues c.close.new.input reading c.close.result
+    (continues names c.take_byte.new.self c.close.new.input reading c.close.result
     (behind_none names AfterAttributeValueQuoted reading c.take_byte.new.self c.skip_blanks.new.self c.close.new.input c.close.result c.if-skip_blanks.ensures.run (c.close.ensures names reading)))
