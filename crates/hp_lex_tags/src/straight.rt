@@ -525,11 +525,13 @@ fn read_start_tag<'p>(
     let name = read_name(alloc, input)?;
     let mut attributes = Chain::new();
     let end = read_behind_name(alloc, names, machine, &name, &mut attributes, input)?;
-    if let Some(self_closing) = end {
-        return Ok(Some(start_tag(name, attributes, self_closing)));
+    match end {
+        Some(self_closing) => Ok(Some(start_tag(name, attributes, self_closing))),
+        None => {
+            *input = start;
+            Ok(None)
+        }
     }
-    *input = start;
-    Ok(None)
 }
 
 /// An end tag, of which `</` comes next and then a letter; `None` where the rows go on.
