@@ -27,7 +27,7 @@ use Rattle.hp_lex_tags.specs.Tags.{tag_rules}
 use Rattle.hp_tokens.specs.Reading.{SkipsRun}
 use Rattle.hp_lex_tags.specs.declared.straight.Way.{Way}
 use Rattle.hp_lex_tags.specs.declared.straight.Way.TheVariants as way
-use Rattle.hp_lex_tags.specs.Straight.{Reading, tagging, tag_of, is_between, ends_part, behind_blanks, Onto, Closes, ClosesStart, Arrives}
+use Rattle.hp_lex_tags.specs.Straight.{Reading, tagging, tag_of, is_between, ends_part, behind_blanks, Onto, Closes, ClosesStart, Arrives, Continues}
 use Rattle.hp_lex_tags.proofs.NamedSteps.{tags_rows}
 
 -- a row that reads again, and one that emits a token and rests
@@ -106,6 +106,19 @@ pub arrives_join : {names : List Reference} {s n : State} {b d : Building} {old 
 arrives_join {names} new reading (way.At k) a h = (onto_join a h.0, h.1, omega (arith, a.shorter, h.2))
 arrives_join {names} new reading (way.Whole closing) a h = closes_join a h
 arrives_join {names} new reading way.Left a h = tt
+
+-- behind a value in quotes
+pub continues_join : {names : List Reference} {s : State} {b : Building} {old mid : Unread} (new : Unread) (reading : Reading) (w : Way)
+    → Onto names s b old AfterAttributeValueQuoted (StartTag (tag_of reading)) mid → length mid.text < length old.text → Continues names mid reading new w → Arrives names s b old reading new w
+continues_join {names} new reading (way.At k) a less h = (onto_join a h.0, h.1, omega (arith, less, h.0.shorter))
+continues_join {names} new reading (way.Whole closing) a less h = closes_join a h
+continues_join {names} new reading way.Left a less h = tt
+
+pub continues : (names : List Reference) (old new : Unread) (reading : Reading) (w : Way)
+    → Arrives names AfterAttributeValueQuoted (StartTag (tag_of reading)) old reading new w → Continues names old reading new w
+continues names old new reading (way.At k) h = (h.0, h.1)
+continues names old new reading (way.Whole closing) h = h
+continues names old new reading way.Left h = tt
 
 -- the tag is emitted on the code point that is consumed
 pub emits_here : {names : List Reference} (s : State) (b : Building) (c : ℕ) (old new : Unread) (tag : Token) (name : Option (List ℕ) → Option (List ℕ))

@@ -1,5 +1,5 @@
 -- The parts of a usual tag: its name, the names and the values of its attributes.
-use Rattle.std.proofs.Common.{◌≡◌, ℕ, ◌<◌, ◌≤◌, List, [], ◌∷◌, ◌++◌, Bool, true, false, ◌&&◌, not, refl, ap, ◌∙◌, sym, subst, arith, Option, None, Some, IsTrue, eqb-true, ◌⊎◌, inl, inr}
+use Rattle.std.proofs.Common.{◌≡◌, ℕ, ◌<◌, ◌≤◌, List, [], ◌∷◌, ◌++◌, length, Bool, true, false, ◌&&◌, not, refl, ap, ◌∙◌, sym, subst, arith, Option, None, Some, IsTrue, eqb-true, ◌⊎◌, inl, inr}
 use Rattle.std.specs.Prelude.{◌==◌, nat_lt}
 use Rattle.std.specs.List.{list_all}
 use Rattle.std.specs.Char.{is_ascii_alphabetic}
@@ -28,11 +28,12 @@ use Rattle.hp_tokens.specs.Plain.{none_of, tag_name_stops, attribute_name_stops,
 use Rattle.hp_tokens.specs.PlainLaws.{unlike, apart, none-high}
 use Rattle.hp_lex_tags.specs.Rows.{has_row, row, row_of, tag_open, end_tag_open, tag_name, attribute_name, before_attribute_value}
 use Rattle.hp_lex_tags.specs.declared.straight.Way.{Way}
-use Rattle.hp_lex_tags.specs.Straight.{Reading, tagging, within, standing_at, tag_of, naming, bare, ending, gathered, is_between, uses_token_alone, Onto, Arrives, ValueKept, TagGrows, IsQuoted, BeginsBy, ValueGrows}
+use Rattle.hp_lex_tags.specs.declared.straight.Way.TheVariants as way
+use Rattle.hp_lex_tags.specs.Straight.{Reading, tagging, within, standing_at, tag_of, naming, bare, ending, gathered, is_between, uses_token_alone, Onto, Arrives, Continues, ValueKept, TagGrows, IsQuoted, BeginsBy, ValueGrows}
 use Rattle.hp_lex_tags.specs.Usual.{ReferenceTaken}
 use Rattle.hp_lex_tags.proofs.ValueReferences.{reference_onto}
 use Rattle.hp_lex_tags.proofs.PlainRows.{double_quoted_plain, single_quoted_plain, unquoted_plain}
-use Rattle.hp_lex_tags.proofs.StraightMoves.{reread, consumed_move, consumes, rereads, onto_join, arrives_join, over_run, between_row}
+use Rattle.hp_lex_tags.proofs.StraightMoves.{reread, consumed_move, consumes, rereads, onto_join, arrives_join, continues_join, over_run, between_row}
 
 -- a lowered code point is U+0000 only where it was before
 lowered_zero : (c : ℕ) → (c == 0) ≡ false → (lowered c == 0) ≡ false
@@ -137,10 +138,29 @@ quoted_text {names} passes mark s q reading new name value old mid r e =
 
 -- a mark that ends a value in quotes, and one that is not there
 pub quoted_end : (names : List Reference) (passes : ℕ → Bool) (mark : ℕ) (s : State) → IsQuoted passes mark s → (reading : Reading) (old behind last : Unread) (w : Way)
-    → Reads old mark behind → Arrives names AfterAttributeValueQuoted (StartTag (tag_of reading)) behind reading last w → Arrives names s (StartTag (tag_of reading)) old reading last w
+    → Reads old mark behind → Continues names behind reading last w → Arrives names s (StartTag (tag_of reading)) old reading last w
 quoted_end names passes mark s q reading old behind last w taken h =
     let b : Building = StartTag (tag_of reading) in
-    arrives_join last reading w (consumes s AfterAttributeValueQuoted b b mark old behind (λ l. q.ends (tagging l s b) refl) q.has refl q.apart taken) h
+    continues_join last reading w (consumes s AfterAttributeValueQuoted b b mark old behind (λ l. q.ends (tagging l s b) refl) q.has refl q.apart taken)
+    (omega (arith, ap length taken.text)) h
+
+-- where the next name stands at once
+next_row : (last : Option (List ℕ)) (b : Building) (c : ℕ) → none_of attribute_name_stops c ≡ true
+    → row (tagging last AfterAttributeValueQuoted b) (Some c) ≡ reread (tagging last BeforeAttributeName b)
+next_row last b c h =
+    let a = apart attribute_name_stops c h in
+    rw (a.1.0, a.1.1.0, a.1.1.1.0, a.1.1.1.1.1.0, a.1.1.1.1.1.1.0, a.1.1.1.1.1.1.1.1.0) refl
+
+pub next_at_once : (names : List Reference) (reading : Reading) (old mid new : Unread) → BeginsBy (none_of attribute_name_stops) mid.text → mid ≡ old → new ≡ mid
+    → Continues names old reading new (way.At BeforeAttributeName)
+next_at_once names reading old mid new b e f =
+    let t : Building = StartTag (tag_of reading) in
+    let P : Unread → Type 0 = λ u. Onto names AfterAttributeValueQuoted t u BeforeAttributeName t mid in
+    let Q : Unread → Type 0 = λ u. Onto names AfterAttributeValueQuoted t old BeforeAttributeName t u in (
+      subst Q (sym f) (subst P e (rereads AfterAttributeValueQuoted BeforeAttributeName t t b.c b.rest mid (λ l. next_row l t b.c b.passed) refl refl
+          (unlike (none_of attribute_name_stops) 13 b.c refl b.passed) b.begins)),
+      refl,
+    )
 
 -- behind a run, its value is there and references may follow
 pub quoted_on : (names : List Reference) (passes : ℕ → Bool) (mark : ℕ) (s : State) → IsQuoted passes mark s → (reading new : Reading) (name run value : List ℕ) (old mid looked last : Unread) (w : Way)
@@ -164,12 +184,13 @@ refers {names} passes mark s q c value run longer longest old mid new t r is is_
 
 pub quoted_closed : (names : List Reference) (passes : ℕ → Bool) (mark : ℕ) (s : State) → IsQuoted passes mark s → (reading new : Reading) (name value : List ℕ) (old mid behind last : Unread) (w : Way)
     → ReadsRun passes old value mid → IsKept reading name value new → Reads mid mark behind
-    → Arrives names AfterAttributeValueQuoted (StartTag (tag_of new)) behind new last w → Arrives names s (naming reading name []) old new last w
+    → Continues names behind new last w → Arrives names s (naming reading name []) old new last w
 quoted_closed names passes mark s q reading new name value old mid behind last w r e taken h =
     let b : Building = StartTag (tag_of new) in
-    arrives_join last new w
-    (onto_join (quoted_text passes mark s q reading new name value old mid r e)
-    (consumes s AfterAttributeValueQuoted b b mark mid behind (λ l. q.ends (tagging l s b) refl) q.has refl q.apart taken))
+    let run : Onto names s (naming reading name []) old s b mid = quoted_text passes mark s q reading new name value old mid r e in
+    continues_join last new w
+    (onto_join run (consumes s AfterAttributeValueQuoted b b mark mid behind (λ l. q.ends (tagging l s b) refl) q.has refl q.apart taken))
+    (omega (arith, run.shorter, ap length taken.text))
     h
 
 pub unquoted_read : (names : List Reference) (reading new : Reading) (name value : List ℕ) (old mid last : Unread) (w : Way)

@@ -125,6 +125,12 @@ Arrives names s b old reading new (way.At n) =
 Arrives names s b old reading new (way.Whole closing) = ClosesStart names s b old closing reading new
 Arrives names s b old reading new way.Left = Unit {0}
 
+-- the same behind a value in quotes, where the next name may begin at once
+abbrev pub Continues : List Reference → Unread → Reading → Unread → Way → Type 0
+Continues names old reading new (way.At n) =
+    Onto names AfterAttributeValueQuoted (StartTag (tag_of reading)) old n (StartTag (tag_of reading)) new × (is_between n ≡ true)
+Continues names old reading new w = Arrives names AfterAttributeValueQuoted (StartTag (tag_of reading)) old reading new w
+
 -- an attribute of this name was kept, whose value was read on from here
 pub record ValueKept (names : List Reference) (s : State) (name value : List ℕ) (attributes : List Attribute) (old : Unread) (longer : List Attribute) (new : Unread) (w : Way) : Type 0 where
   pub whole : List ℕ

@@ -11,7 +11,8 @@ ghost use Rattle.hp_tokens.specs.Parts.{added};
 ghost use Rattle.hp_tokens.specs.Advancing.{held, lexing};
 ghost use Rattle.hp_lex_tags.specs.Tags.{TagTurned};
 ghost use Rattle.hp_lex_tags.specs.Usual.{ReferenceTaken};
-ghost use Rattle.hp_lex_tags.specs.Straight.{Reading, tagging, tag_of, ends_part, is_between, behind_blanks as spec_behind_blanks, IsQuoted, BeginsBy, NameTaken, ValueGrows, ValueKept, Arrives, TagGrows, TagRead};
+ghost use Rattle.hp_lex_tags.specs.Straight.{Reading, tagging, tag_of, ends_part, is_between, behind_blanks as spec_behind_blanks, IsQuoted, BeginsBy, NameTaken, ValueGrows, ValueKept, Arrives, Continues, TagGrows, TagRead};
+ghost use Rattle.hp_lex_tags.specs.declared.straight.Way.TheVariants as ways;
 ghost use Rattle.hp_tokens.specs.Plain.{none_of, tag_name_stops, attribute_name_stops, unquoted_stops};
 ghost use Rattle.hp_tokens.specs.PlainLaws.{none-high};
 
@@ -53,15 +54,6 @@ enum Way {
     Whole { self_closing: bool },
     /// Not to its end: it is for the rows.
     Left,
-}
-
-/// A text of its own.
-fn owned(alloc: Global, text: &str) -> Result<OwnedText, NoMemory>
-    ensures { IfOk result (λ own. own ≡ chars text.now) }
-{
-    let mut own = OwnedText::new();
-    own.push_str(alloc, text)?;
-    Ok(own)
 }
 
 /// The attribute with that name and value goes behind the others, unless one of them has its name. The first one needs no
@@ -114,7 +106,7 @@ fn behind_blanks(state: State) -> State
     }
 }
 
-/// What stands behind a name or a value in quotes: blanks, or what ends the tag.
+/// What stands behind a name: blanks, or what ends the tag.
 #[inline]
 fn behind(input: &mut Cursor<'_>, state: State) -> Way
     requires { ends_part state ≡ true }
@@ -129,6 +121,25 @@ fn behind(input: &mut Cursor<'_>, state: State) -> Way
         return Way::At(behind_blanks(state));
     }
     close(input, state)
+}
+
+/// The same behind a value in quotes, where the next name may stand at once.
+#[inline]
+fn behind_quoted(input: &mut Cursor<'_>) -> Way
+    ensures { (names : List Reference) (reading : Reading) → Continues names input.old reading input.new result }
+{
+    if input.take_byte(b'>') {
+        return Way::Whole {
+            self_closing: false,
+        };
+    }
+    if input.skip_blanks() {
+        return Way::At(State::BeforeAttributeName);
+    }
+    if begins_name(input) {
+        return Way::At(State::BeforeAttributeName);
+    }
+    close(input, State::AfterAttributeValueQuoted)
 }
 
 /// The same behind a value without quotes, where `/` ends nothing.
@@ -190,7 +201,7 @@ fn close_quoted<R: Run>(input: &mut Cursor<'_>, mark: u8, state: State) -> Way
     ensures { (names : List Reference) (reading : Reading) → Arrives names state (building.StartTag (tag_of reading)) input.old reading input.new result }
 {
     if input.take_byte(mark) {
-        return behind(input, State::AfterAttributeValueQuoted);
+        return behind_quoted(input);
     }
     Way::Left
 }
@@ -236,7 +247,7 @@ fn read_quoted<R: LongRun>(
     let value = Text::from_str(alloc, run)?;
     if input.take_byte(mark) {
         keep(alloc, attributes, name, value)?;
-        return Ok(behind(input, State::AfterAttributeValueQuoted));
+        return Ok(behind_quoted(input));
     }
     let way = read_behind_run::<R>(alloc, names, attributes, name, value, input, mark, state)?;
     Ok(way)
@@ -431,12 +442,11 @@ fn tell_last(alloc: Global, machine: &mut Machine, name: &Name) -> Result<(), No
     ensures { OnOk result (machine.new ≡ record machine.old { last_tag = Some name.now }) }
 {
     match &mut machine.last_tag {
-        Some(last) => {
-            last.clear();
-            last.push_str(alloc, name.as_str())
-        }
+        Some(last) => last.set_name(alloc, name),
         None => {
-            machine.last_tag = Some(owned(alloc, name.as_str())?);
+            let mut last = OwnedText::new();
+            last.set_name(alloc, name)?;
+            machine.last_tag = Some(last);
             Ok(())
         }
     }
@@ -474,6 +484,29 @@ fn read_name(alloc: Global, input: &mut Cursor<'_>) -> Result<Name, NoMemory>
     Name::from_lowered(alloc, input.take_run::<TagNameBytes>())
 }
 
+/// What follows the name of a start tag, and whether it closes itself; the machine stands behind it. `None` where the rows go on.
+#[inline(always)]
+fn read_behind_name(
+    alloc: Global,
+    names: &Names,
+    machine: &mut Machine,
+    name: &Name,
+    attributes: &mut Chain<Attribute>,
+    input: &mut Cursor<'_>,
+) -> Result<Option<bool>, NoMemory>
+    requires clear { machine.old.after_cr ≡ false }
+    ensures read { IfOk result (λ end. IfSome end (λ closing. TagGrows names.now states.TagName attributes.old input.old attributes.new input.new (ways.Whole closing))) }
+    ensures behind { IfOk result (λ end. IfSome end (λ closing. machine.new ≡ tagging (Some name.now) states.Data building.Nothing)) }
+    ensures left { IfOk result (λ end. IfNone end (machine.new ≡ machine.old)) }
+{
+    let way = read_rest(alloc, names, attributes, input)?;
+    if let Way::Whole { self_closing } = way {
+        stand_behind(alloc, machine, name)?;
+        return Ok(Some(self_closing));
+    }
+    Ok(None)
+}
+
 /// A start tag, of which `<` comes next and then a letter; `None` where the rows go on.
 #[inline(always)]
 fn read_start_tag<'p>(
@@ -491,13 +524,14 @@ fn read_start_tag<'p>(
     input.skip_ascii(1);
     let name = read_name(alloc, input)?;
     let mut attributes = Chain::new();
-    let way = read_rest(alloc, names, &mut attributes, input)?;
-    if let Way::Whole { self_closing } = way {
-        stand_behind(alloc, machine, &name)?;
-        return Ok(Some(start_tag(name, attributes, self_closing)));
+    let end = read_behind_name(alloc, names, machine, &name, &mut attributes, input)?;
+    match end {
+        Some(self_closing) => Ok(Some(start_tag(name, attributes, self_closing))),
+        None => {
+            *input = start;
+            Ok(None)
+        }
     }
-    *input = start;
-    Ok(None)
 }
 
 /// An end tag, of which `</` comes next and then a letter; `None` where the rows go on.

@@ -100,12 +100,11 @@ impl Building {
         ensures { OnOk result (self.new ≡ attribute_begun self.old) }
     {
         if let Building::StartTag(tag) = self {
-            let attribute = tag.attribute.take();
-            finish(alloc, &mut tag.attributes, attribute)?;
-            tag.attribute = Some(NewAttribute {
+            let attribute = tag.attribute.replace(NewAttribute {
                 name: OwnedText::new(),
                 value: OwnedText::new(),
             });
+            return finish(alloc, &mut tag.attributes, attribute);
         }
         Ok(())
     }
@@ -130,6 +129,8 @@ impl Building {
 }
 
 ghost use Rattle.std.specs.Str.{chars, bytes_eq};
+ghost use Rattle.std.specs.Prelude.{Some};
+ghost use Rattle.hp_elements.specs.declared.tag.AttributeSpace.TheVariants as spaces;
 ghost use Rattle.hp_tokens.specs.Parts.{put_in_tag, put_in_doctype, longer_name, longer_value, appended, added, has_name};
 
 fn put_tag(alloc: Global, tag: &mut NewTag, part: Part, text: &str) -> Result<(), NoMemory>
@@ -202,27 +203,44 @@ pub(crate) fn finish(
 ) -> Result<(), NoMemory>
     ensures { OnOk result (attributes.new ≡ added attributes.old attribute) }
 {
-    let Some(attribute) = attribute else {
-        return Ok(());
-    };
+    match attribute {
+        None => Ok(()),
+        Some(attribute) => finish_one(alloc, attributes, attribute),
+    }
+}
+
+fn finish_one(
+    alloc: Global,
+    attributes: &mut Chain<Attribute>,
+    attribute: NewAttribute,
+) -> Result<(), NoMemory>
+    ensures { OnOk result (attributes.new ≡ added attributes.old (Some attribute)) }
+{
     if names(attributes, &attribute.name) {
         return Ok(());
     }
-    let attribute = Attribute {
+    let attribute = finished_attribute(alloc, attribute)?;
+    attributes.push(alloc, attribute)?;
+    Ok(())
+}
+
+/// The attribute that was built.
+fn finished_attribute(alloc: Global, attribute: NewAttribute) -> Result<Attribute, NoMemory>
+    ensures { IfOk result (λ finished. finished ≡ record { space = spaces.Plain; name = attribute.name; value = attribute.value }) }
+{
+    Ok(Attribute {
         space: AttributeSpace::Plain,
         name: Name::from_text(alloc, attribute.name.as_str())?,
         value: attribute.value.into_text(alloc)?,
-    };
-    attributes.push(alloc, attribute)?;
-    Ok(())
+    })
 }
 
 fn copied_tag(alloc: Global, tag: &NewTag) -> Result<NewTag, NoMemory>
     ensures { IfOk result (λ copy. copy ≡ tag.now) }
 {
     Ok(NewTag {
-        name: tag.name.copy(alloc)?,
         attributes: copied_attributes(alloc, &tag.attributes)?,
+        name: tag.name.copy(alloc)?,
         attribute: copied_attribute(alloc, &tag.attribute)?,
         self_closing: tag.self_closing,
     })
@@ -251,12 +269,7 @@ fn copied_attributes(
 {
     let mut copy = Chain::new();
     for attribute in attributes.iter() {
-        let attribute = Attribute {
-            space: attribute.space,
-            name: attribute.name.copy(alloc)?,
-            value: attribute.value.copy(alloc)?,
-        };
-        copy.push(alloc, attribute)?;
+        copy.push(alloc, attribute.copy(alloc)?)?;
     }
     Ok(copy)
 }

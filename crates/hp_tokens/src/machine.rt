@@ -55,11 +55,11 @@ impl Machine {
     {
         Ok(Machine {
             state: self.state,
-            building: self.building.copy(alloc)?,
             buffer: self.buffer.copy(alloc)?,
             return_to: self.return_to,
             value: self.value,
             last_tag: copied_part(alloc, &self.last_tag)?,
+            building: self.building.copy(alloc)?,
             after_cr: self.after_cr,
         })
     }
@@ -185,7 +185,8 @@ impl Machine {
 
 ghost use Rattle.hp_tokens.specs.Parts.{built, last_tag_after, finished_tag as spec_tag};
 ghost use Rattle.hp_tokens.specs.Rows.{character};
-ghost use Rattle.std.specs.Prelude.{map, option_to_list};
+ghost use Rattle.std.specs.Prelude.{map, option_to_list, Some};
+ghost use Rattle.hp_elements.specs.declared.token.Token.TheVariants as tokens;
 
 /// The token that was built; the name of a start tag is kept as the last one.
 fn built_token<'p>(
@@ -198,12 +199,7 @@ fn built_token<'p>(
 {
     Ok(Some(match building {
         Building::Nothing => return Ok(None),
-        Building::StartTag(tag) => {
-            let self_closing = tag.self_closing;
-            let (tag, name) = finished_tag(alloc, tag)?;
-            *last_tag = Some(name);
-            Token::Start { self_closing, tag }
-        }
+        Building::StartTag(tag) => start_token(alloc, tag, last_tag)?,
         Building::EndTag(name) => Token::EndTag {
             name: Name::from_text(alloc, name.as_str())?,
         },
@@ -218,13 +214,28 @@ fn built_token<'p>(
     }))
 }
 
+/// The start tag that was built; its name is kept as the last one.
+fn start_token<'p>(
+    alloc: Global,
+    tag: NewTag,
+    last_tag: &mut Option<OwnedText>,
+) -> Result<Token<'p>, NoMemory>
+    ensures token { IfOk result (λ token. token ≡ tokens.Start tag.self_closing (spec_tag tag)) }
+    ensures last { OnOk result (last_tag.new ≡ Some tag.name) }
+{
+    let self_closing = tag.self_closing;
+    let (tag, name) = finished_tag(alloc, tag)?;
+    *last_tag = Some(name);
+    Ok(Token::Start { self_closing, tag })
+}
+
 /// The tag that was built, and its name.
 fn finished_tag(alloc: Global, tag: NewTag) -> Result<(Tag, OwnedText), NoMemory>
     ensures { IfOk result (λ both. (both.0 ≡ spec_tag tag) × (both.1 ≡ tag.name)) }
 {
-    let name = Name::from_text(alloc, tag.name.as_str())?;
     let mut attributes = tag.attributes;
     finish(alloc, &mut attributes, tag.attribute)?;
+    let name = Name::from_text(alloc, tag.name.as_str())?;
     let finished = Tag {
         namespace: Namespace::Html,
         name,

@@ -3,7 +3,7 @@ ghost use Rattle.std.specs.Prelude.{◌≡◌, ◌↔◌, ℕ, List, [], ◌∷�
 
 use crate::NoMemory;
 use crate::few::{Few, ROOM};
-use hp_elements::Text;
+use hp_elements::{Known, Name, Text};
 use std::alloc::Global;
 use std::marker::Model;
 
@@ -17,6 +17,8 @@ pub struct OwnedText {
 enum Store {
     Few(Few),
     Long(String),
+    /// The text of a known name.
+    Named(Known),
 }
 
 impl Model for OwnedText {
@@ -54,6 +56,7 @@ impl OwnedText {
         match &self.store {
             Store::Few(bytes) => unsafe { std::str::from_utf8_unchecked(bytes.as_slice()) },
             Store::Long(text) => text.as_str(),
+            Store::Named(known) => known.text(),
         }
     }
 
@@ -65,7 +68,22 @@ impl OwnedText {
         match &mut self.store {
             Store::Few(bytes) => bytes.clear(),
             Store::Long(text) => text.clear(),
+            Store::Named(_) => self.store = Store::Few(Few::new()),
         }
+    }
+
+    /// Becomes the text of a name. That of a known one is not copied. An `Err` leaves it empty.
+    #[inline]
+    pub fn set_name(&mut self, alloc: Global, name: &Name) -> Result<(), NoMemory>
+        ensures ok { OnOk result (self.new ≡ name.now) }
+        ensures err { OnErr result (self.new ≡ []) }
+    {
+        if let Some(known) = name.known() {
+            self.store = Store::Named(known);
+            return Ok(());
+        }
+        self.clear();
+        self.push_str(alloc, name.as_str())
     }
 
     /// Appends a text. An `Err` changes nothing.
@@ -97,6 +115,11 @@ impl OwnedText {
                     return Ok(());
                 }
                 let text = joined(alloc, bytes.as_slice(), more)?;
+                self.store = Store::Long(text);
+                Ok(())
+            }
+            Store::Named(known) => {
+                let text = joined(alloc, known.text().as_bytes(), more)?;
                 self.store = Store::Long(text);
                 Ok(())
             }
@@ -149,6 +172,12 @@ impl OwnedText {
                 let _bytes = text.as_bytes();
                 let _ = text.remove(0);
             }
+            Store::Named(known) => {
+                let mut bytes = Few::new();
+                bytes.extend(known.text().as_bytes());
+                bytes.drop_front(c.len_utf8());
+                self.store = Store::Few(bytes);
+            }
         }
         Some(c)
     }
@@ -172,6 +201,7 @@ impl OwnedText {
                 Text::from_str(alloc, text)
             }
             Store::Long(text) => Text::of_owned(alloc, text),
+            Store::Named(known) => Text::from_str(alloc, known.text()),
         }
     }
 
