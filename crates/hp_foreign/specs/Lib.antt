@@ -1,3 +1,4 @@
+pub mod Changes
 pub mod Encodings
 pub mod Fonts
 pub mod Plans

@@ -1,7 +1,10 @@
 //! The attributes of foreign elements (13.2.6.1, 13.2.6.5).
 ghost use Rattle.std.specs.Prelude.{◌≡◌, map, IfOk};
 ghost use Rattle.std.specs.List.{list_any};
+ghost use Rattle.std.specs.Option.{is_some};
+ghost use Rattle.hp_elements.specs.Respelling.{respelling_of};
 ghost use Rattle.hp_control.specs.Foreign.{attribute_in, attribute_spellings, has_font_attribute, name_in, respelled};
+ghost use Rattle.hp_foreign.specs.Changes.{changes_in};
 
 use hp_elements::{
     Attribute, Chain, ForeignAttribute, Known, Name, Namespace, NoMemory, Respelling, Tag,
@@ -59,8 +62,49 @@ fn attribute_in(namespace: Namespace, attribute: Attribute) -> Attribute
     }
 }
 
-/// The attributes that an element of the namespace has for those of the token.
+/// Whether the name is the lower case of another spelling in elements of the namespace.
+fn is_respelled(namespace: Namespace, name: &Name) -> bool
+    ensures { result ≡ is_some (respelling_of (attribute_spellings namespace) name.now) }
+{
+    match namespace {
+        Namespace::Html => false,
+        Namespace::MathMl => name.respelling(Respelling::MathMlAttributes).is_some(),
+        Namespace::Svg => name.respelling(Respelling::SvgAttributes).is_some(),
+    }
+}
+
+/// Whether an element of the namespace has another attribute for this one of the token.
+fn changes_in(namespace: Namespace, attribute: &Attribute) -> bool
+    ensures { result ≡ changes_in namespace attribute.now }
+{
+    attribute.name.foreign_attribute().is_some() || is_respelled(namespace, &attribute.name)
+}
+
+fn any_changes(namespace: Namespace, attributes: &Chain<Attribute>) -> bool
+    ensures { result ≡ list_any (changes_in namespace) attributes.now }
+{
+    attributes
+        .iter()
+        .any(|attribute| changes_in(namespace, attribute))
+}
+
+/// The attributes that an element of the namespace has for those of the token. Where none changes, as mostly, none is moved.
 pub(crate) fn attributes_in(
+    alloc: Global,
+    namespace: Namespace,
+    attributes: Chain<Attribute>,
+) -> Result<Chain<Attribute>, NoMemory>
+    ensures { IfOk result (λ made. made ≡ map (attribute_in namespace) attributes) }
+{
+    if any_changes(namespace, &attributes) {
+        return changed_in(alloc, namespace, attributes);
+    }
+    Ok(attributes)
+}
+
+/// The same, each moved into a list of their own.
+#[inline(never)]
+fn changed_in(
     alloc: Global,
     namespace: Namespace,
     attributes: Chain<Attribute>,
