@@ -158,23 +158,22 @@ fn joined(rt: &impl Abort, alloc: Global) -> Chain<u32> {
 fn lists_grow(rt: HostRuntime) {
     let mut list: List<u32> = List::new();
     grow_list(&rt, rt.alloc(), &mut list);
-    assert!(rt; has_items(&list, GROWN));
-    assert!(rt; loses_its_ends(&mut list));
-    assert!(rt; has_items(&list, WITHOUT_ENDS));
+    let well = has_items(&list, GROWN)
+        && loses_its_ends(&mut list)
+        && has_items(&list, WITHOUT_ENDS);
     mem::forget(list);
+    assert!(rt; well);
     let chain = joined(&rt, rt.alloc());
-    assert!(rt; ends_with_three(&chain));
+    let well = ends_with_three(&chain);
     mem::forget(chain);
+    assert!(rt; well);
 }
 
 #[test]
 fn types_are_small(rt: HostRuntime) {
-    assert!(rt; size_of::<Name>() <= 16);
-    assert!(rt; size_of::<Text<'static>>() <= 32);
-    assert!(rt; size_of::<Attribute>() <= 56);
-    assert!(rt; size_of::<Tag>() <= 56);
-    assert!(rt; size_of::<Token<'static>>() <= 64);
-    assert!(rt; size_of::<List<Token<'static>>>() <= 72);
+    assert!(rt; size_of::<Name>() <= 16 && size_of::<Text<'static>>() <= 32);
+    assert!(rt; size_of::<Attribute>() <= 56 && size_of::<Tag>() <= 56);
+    assert!(rt; size_of::<Token<'static>>() <= 64 && size_of::<List<Token<'static>>>() <= 72);
     assert!(rt; CharClass::of('\u{c}') == CharClass::White);
 }
 
@@ -425,12 +424,12 @@ fn tags_are_copied(rt: HostRuntime) {
 fn lists_are_copied(rt: HostRuntime) {
     let mut names = List::of_one(Name::of_known(Known::Title));
     let pushed = names.push(rt.alloc(), Name::of_known(Known::Svg));
-    assert!(rt; pushed.is_ok());
     let copy = names.copy(rt.alloc()).expect(&rt, "there is memory");
-    assert!(rt; copy.len() == 2);
+    let well = pushed.is_ok() && copy.len() == 2;
     mem::forget(names);
     mem::forget(pushed);
     mem::forget(copy);
+    assert!(rt; well);
 }
 
 /// How many items two lists have.
