@@ -98,13 +98,14 @@ fn texts_side_by_side_join(rt: HostRuntime) {
     assert!(rt; is_taken(&rt, rt.alloc(), page));
     assert!(rt; length_of(&rt, rt.alloc(), "é€") == 5);
     let mut text = Text::of_page(page, 0, 3);
-    assert!(rt; joins(&mut text, Text::of_page(page, 3, 7), None, "one two"));
     let apart = Some(" twenty-three code points more");
-    assert!(rt; joins(&mut text, Text::of_page(page, 12, 42), apart, "one two"));
     let grown = "one two! And then some more words.";
-    assert!(rt; grows_to(&rt, rt.alloc(), &text, grown));
-    assert!(rt; joins(&mut text, Text::of_page(page, 8, 12), None, "one two and"));
+    let well = joins(&mut text, Text::of_page(page, 3, 7), None, "one two")
+        && joins(&mut text, Text::of_page(page, 12, 42), apart, "one two")
+        && grows_to(&rt, rt.alloc(), &text, grown)
+        && joins(&mut text, Text::of_page(page, 8, 12), None, "one two and");
     mem::forget(text);
+    assert!(rt; well);
 }
 
 /// Fills a list with 0 to 4, and puts 9 at 2.
@@ -411,13 +412,14 @@ fn tags_are_copied(rt: HostRuntime) {
     add(&rt, rt.alloc(), &mut tag, "class", "a");
     let value = "a value on the heap";
     add(&rt, rt.alloc(), &mut tag, "data-a-name-of-its-own", value);
-    assert!(rt; is_copied(&rt, rt.alloc(), &tag));
+    let copied = is_copied(&rt, rt.alloc(), &tag);
     let token = Token::Start {
         self_closing: true,
         tag,
     };
-    assert!(rt; is_copied_token(&rt, rt.alloc(), &token));
+    let well = copied && is_copied_token(&rt, rt.alloc(), &token);
     mem::forget(token);
+    assert!(rt; well);
 }
 
 #[test]

@@ -60,15 +60,17 @@ fn checksum_of(rt: &impl Abort, alloc: Global, number: u64) -> Option<u64> {
     made
 }
 
+/// Whether the page of that number has the checksum of these digits.
+fn has_checksum(rt: &impl Abort, alloc: Global, number: u64, digits: &str) -> bool {
+    let wanted = u64::from_str_radix(digits, 16).expect(rt, "a checksum");
+    checksum_of(rt, alloc, number) == Some(wanted)
+}
+
 /// Compares the checksums of pages, and answers how many there were.
 fn compare_checksums(rt: &impl Abort, alloc: Global, checksums: &str) -> u64 {
     let mut number: u64 = 0;
     for digits in checksums.split(',') {
-        let wanted = u64::from_str_radix(digits, 16).expect(rt, "a checksum");
-        assert!(rt;
-            checksum_of(rt, alloc, number) == Some(wanted),
-            "page {number}"
-        );
+        assert!(rt; has_checksum(rt, alloc, number, digits), "page {number}");
         number = number.saturating_add(1);
     }
     number

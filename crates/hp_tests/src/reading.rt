@@ -124,8 +124,7 @@ fn a_chunk_is_a_part(rt: HostRuntime) {
         from: 1,
         to: 3,
     };
-    assert!(rt; chunk.text() == b"\xC3\xA9".as_slice());
-    assert!(rt; chunk.before() == b"a".as_slice());
+    assert!(rt; chunk.text() == b"\xC3\xA9".as_slice() && chunk.before() == b"a".as_slice());
     assert!(rt; page.as_str() == "a\u{e9}b");
 }
 
@@ -214,13 +213,13 @@ fn is_fault(read: Result<Vec<u8>, ReadRefusal>) -> bool {
 #[test]
 fn a_reader_is_a_source(rt: HostRuntime) {
     let mut source = StreamSource::new(b"hello".as_slice());
-    assert!(rt; is_page(read_page(rt.alloc(), &mut source), b"hello"));
-    assert!(rt; source.faults() == 0);
-    let mut broken = StreamSource::new(Breaks(0));
-    assert!(rt; is_fault(read_page(rt.alloc(), &mut broken)));
-    assert!(rt; broken.faults() == 1);
+    let reads = is_page(read_page(rt.alloc(), &mut source), b"hello") && source.faults() == 0;
     mem::forget(source);
+    assert!(rt; reads);
+    let mut broken = StreamSource::new(Breaks(0));
+    let breaks = is_fault(read_page(rt.alloc(), &mut broken)) && broken.faults() == 1;
     mem::forget(broken);
+    assert!(rt; breaks);
 }
 
 /// A writer whose flushes fail, where it says so.
