@@ -1,7 +1,15 @@
-//! Tests of the parser from outside: whole pages, and pages that are read in two parts from known states.
+//! Tests of the parser from outside: whole pages, pages that are read in two parts from known states, and the steps of tree construction on views.
 #![tactic(auto)]
 
+#[cfg(test)]
+mod carrying;
+#[cfg(test)]
+mod guessed;
+#[cfg(test)]
+mod known;
 #[cfg(test)]
 mod pages;
 #[cfg(test)]
 mod parts;
+#[cfg(test)]
+mod views;

@@ -1,10 +1,9 @@
 //! Pages, and how many elements their trees have, with the document.
 use hp_fragment::parse_whole;
-use hp_text::{NoMemory, Page, check_page};
+use hp_text::{Page, check_page};
 use std::alloc::Global;
 use std::mem;
 use std::process::Abort;
-use std::test::Fail;
 
 /// A page, and how many elements its tree has.
 const PAGES: &[(&str, u32)] = &[
@@ -18,24 +17,26 @@ const PAGES: &[(&str, u32)] = &[
     ("<script><!--<script></script>--></script>z", 5),
 ];
 
-/// How many elements the page's tree has.
-fn elements(alloc: Global, page: Page<'_>) -> Result<u32, NoMemory> {
-    let tree = parse_whole(alloc, page)?;
-    let count = tree.len();
-    mem::forget(tree);
-    Ok(count)
+pub(crate) fn page_of<'p>(rt: &impl Abort, text: &'p str) -> Page<'p> {
+    check_page(text.as_bytes()).expect(rt, "the page is UTF-8")
 }
 
-fn compare(rt: &impl Abort, alloc: Global, pages: &[(&str, u32)]) -> Result<(), Fail> {
+/// How many elements the page's tree has. What is owned is kept to the end of the test.
+fn elements(rt: &impl Abort, alloc: Global, page: Page<'_>) -> u32 {
+    let tree = parse_whole(alloc, page).expect(rt, "there is memory");
+    let count = tree.len();
+    mem::forget(tree);
+    count
+}
+
+fn compare(rt: &impl Abort, alloc: Global, pages: &[(&str, u32)]) {
     for (text, count) in pages {
-        let page = check_page(text.as_bytes())?;
-        let made = elements(alloc, page)?;
+        let made = elements(rt, alloc, page_of(rt, text));
         assert!(rt; made == *count, "over {text}");
     }
-    Ok(())
 }
 
 #[test]
-fn pages_become_trees(rt: HostRuntime) -> Result<(), Fail> {
-    compare(&rt, rt.alloc(), PAGES)
+fn pages_become_trees(rt: HostRuntime) {
+    compare(&rt, rt.alloc(), PAGES);
 }

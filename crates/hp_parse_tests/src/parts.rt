@@ -1,13 +1,13 @@
 //! Pages in two parts, of which the second is run from the state behind the first, and how many elements they make.
 
+use crate::pages::page_of;
 use hp_control::{Control, Edit, Edits};
 use hp_fragment::{ending, replay};
 use hp_pieces::Fragment;
-use hp_text::{Chunk, NoMemory, Page, check_page};
+use hp_text::{Chunk, Page};
 use std::alloc::Global;
 use std::mem;
 use std::process::Abort;
-use std::test::Fail;
 
 /// How many elements these edits make.
 fn made(edits: &Edits<'_>) -> u64 {
@@ -41,36 +41,32 @@ fn parts<'p>(rt: &impl Abort, page: Page<'p>, cut: usize) -> (Chunk<'p>, Chunk<'
     (first, second)
 }
 
-/// The state behind the part, and how many elements it makes.
-fn run_part<'p>(
-    alloc: Global,
-    chunk: Chunk<'p>,
-    from: Control,
-) -> Result<(Control, u64), NoMemory> {
-    let Fragment::Exact(exact) = replay(alloc, chunk, from)?;
+/// The state behind the part, and how many elements it makes. What is owned is kept to the end of the test.
+fn run_part(rt: &impl Abort, alloc: Global, chunk: Chunk<'_>, from: Control) -> (Control, u64) {
+    let Fragment::Exact(exact) = replay(alloc, chunk, from).expect(rt, "there is memory");
     let (entry, exit, edits) = exact.into_parts();
     let count = made(&edits);
-    mem::forget((entry, edits));
-    Ok((exit, count))
+    mem::forget(entry);
+    mem::forget(edits);
+    (exit, count)
 }
 
 /// How many elements the end of input makes.
-fn run_end(alloc: Global, from: Control) -> Result<u64, NoMemory> {
-    let end = ending(alloc, &from);
-    mem::forget(from);
-    let end = end?;
+fn run_end(rt: &impl Abort, alloc: Global, from: Control) -> u64 {
+    let end = ending(alloc, &from).expect(rt, "there is memory");
     let count = made(end.edits());
     mem::forget(end);
-    Ok(count)
+    mem::forget(from);
+    count
 }
 
 /// How many elements the page makes in two parts.
-fn elements(rt: &impl Abort, alloc: Global, page: Page<'_>, cut: usize) -> Result<u64, NoMemory> {
+fn elements(rt: &impl Abort, alloc: Global, page: Page<'_>, cut: usize) -> u64 {
     let (first, second) = parts(rt, page, cut);
-    let (mid, front) = run_part(alloc, first, Control::start())?;
-    let (end, back) = run_part(alloc, second, mid)?;
-    let last = run_end(alloc, end)?;
-    Ok(front.saturating_add(back).saturating_add(last))
+    let (mid, front) = run_part(rt, alloc, first, Control::start());
+    let (end, back) = run_part(rt, alloc, second, mid);
+    let last = run_end(rt, alloc, end);
+    front.saturating_add(back).saturating_add(last)
 }
 
 /// A page, a cut, and how many elements it makes. The cuts stand before the page, in a name, a value, a reference, raw text,
@@ -86,16 +82,14 @@ const PARTED: &[(&str, usize, u64)] = &[
     ("<title>x", 8, 4),
 ];
 
-fn compare(rt: &impl Abort, alloc: Global, pages: &[(&str, usize, u64)]) -> Result<(), Fail> {
+fn compare(rt: &impl Abort, alloc: Global, pages: &[(&str, usize, u64)]) {
     for (text, cut, count) in pages {
-        let page = check_page(text.as_bytes())?;
-        let made = elements(rt, alloc, page, *cut)?;
+        let made = elements(rt, alloc, page_of(rt, text), *cut);
         assert!(rt; made == *count, "over {text}");
     }
-    Ok(())
 }
 
 #[test]
-fn parts_make_the_elements_of_the_page(rt: HostRuntime) -> Result<(), Fail> {
-    compare(&rt, rt.alloc(), PARTED)
+fn parts_make_the_elements_of_the_page(rt: HostRuntime) {
+    compare(&rt, rt.alloc(), PARTED);
 }

@@ -98,13 +98,14 @@ fn texts_side_by_side_join(rt: HostRuntime) {
     assert!(rt; is_taken(&rt, rt.alloc(), page));
     assert!(rt; length_of(&rt, rt.alloc(), "é€") == 5);
     let mut text = Text::of_page(page, 0, 3);
-    assert!(rt; joins(&mut text, Text::of_page(page, 3, 7), None, "one two"));
     let apart = Some(" twenty-three code points more");
-    assert!(rt; joins(&mut text, Text::of_page(page, 12, 42), apart, "one two"));
     let grown = "one two! And then some more words.";
-    assert!(rt; grows_to(&rt, rt.alloc(), &text, grown));
-    assert!(rt; joins(&mut text, Text::of_page(page, 8, 12), None, "one two and"));
+    let well = joins(&mut text, Text::of_page(page, 3, 7), None, "one two")
+        && joins(&mut text, Text::of_page(page, 12, 42), apart, "one two")
+        && grows_to(&rt, rt.alloc(), &text, grown)
+        && joins(&mut text, Text::of_page(page, 8, 12), None, "one two and");
     mem::forget(text);
+    assert!(rt; well);
 }
 
 /// Fills a list with 0 to 4, and puts 9 at 2.
@@ -158,23 +159,22 @@ fn joined(rt: &impl Abort, alloc: Global) -> Chain<u32> {
 fn lists_grow(rt: HostRuntime) {
     let mut list: List<u32> = List::new();
     grow_list(&rt, rt.alloc(), &mut list);
-    assert!(rt; has_items(&list, GROWN));
-    assert!(rt; loses_its_ends(&mut list));
-    assert!(rt; has_items(&list, WITHOUT_ENDS));
+    let well = has_items(&list, GROWN)
+        && loses_its_ends(&mut list)
+        && has_items(&list, WITHOUT_ENDS);
     mem::forget(list);
+    assert!(rt; well);
     let chain = joined(&rt, rt.alloc());
-    assert!(rt; ends_with_three(&chain));
+    let well = ends_with_three(&chain);
     mem::forget(chain);
+    assert!(rt; well);
 }
 
 #[test]
 fn types_are_small(rt: HostRuntime) {
-    assert!(rt; size_of::<Name>() <= 16);
-    assert!(rt; size_of::<Text<'static>>() <= 32);
-    assert!(rt; size_of::<Attribute>() <= 56);
-    assert!(rt; size_of::<Tag>() <= 56);
-    assert!(rt; size_of::<Token<'static>>() <= 64);
-    assert!(rt; size_of::<List<Token<'static>>>() <= 72);
+    assert!(rt; size_of::<Name>() <= 16 && size_of::<Text<'static>>() <= 32);
+    assert!(rt; size_of::<Attribute>() <= 56 && size_of::<Tag>() <= 56);
+    assert!(rt; size_of::<Token<'static>>() <= 64 && size_of::<List<Token<'static>>>() <= 72);
     assert!(rt; CharClass::of('\u{c}') == CharClass::White);
 }
 
@@ -412,25 +412,26 @@ fn tags_are_copied(rt: HostRuntime) {
     add(&rt, rt.alloc(), &mut tag, "class", "a");
     let value = "a value on the heap";
     add(&rt, rt.alloc(), &mut tag, "data-a-name-of-its-own", value);
-    assert!(rt; is_copied(&rt, rt.alloc(), &tag));
+    let copied = is_copied(&rt, rt.alloc(), &tag);
     let token = Token::Start {
         self_closing: true,
         tag,
     };
-    assert!(rt; is_copied_token(&rt, rt.alloc(), &token));
+    let well = copied && is_copied_token(&rt, rt.alloc(), &token);
     mem::forget(token);
+    assert!(rt; well);
 }
 
 #[test]
 fn lists_are_copied(rt: HostRuntime) {
     let mut names = List::of_one(Name::of_known(Known::Title));
     let pushed = names.push(rt.alloc(), Name::of_known(Known::Svg));
-    assert!(rt; pushed.is_ok());
     let copy = names.copy(rt.alloc()).expect(&rt, "there is memory");
-    assert!(rt; copy.len() == 2);
+    let well = pushed.is_ok() && copy.len() == 2;
     mem::forget(names);
     mem::forget(pushed);
     mem::forget(copy);
+    assert!(rt; well);
 }
 
 /// How many items two lists have.

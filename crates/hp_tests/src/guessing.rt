@@ -1,15 +1,15 @@
 //! Guesses as an independent model makes them, and what each predictor says.
 
+use crate::reading::page_of;
 use hp_control::{
     Answer, Control, FactKind, FormattingEntry, OpenElements, Predictor, Question, Stack, truth,
 };
-use hp_elements::{Chain, Kinds, Known, Mode, Name, Namespace, NoMemory, Rest, SetName, Tag};
+use hp_elements::{Chain, Kinds, Known, Mode, Name, Namespace, Rest, SetName, Tag};
 use hp_predict::{Contrary, Prescan, Quiet};
-use hp_text::{Chunk, Page, check_page};
+use hp_text::{Chunk, Page};
 use std::alloc::Global;
 use std::mem;
 use std::process::Abort;
-use std::test::Fail;
 
 /// A page with a mark before the chunk that is guessed for, and the guess: the names of the open elements, the current node
 /// first; the formatting list, its last entry first, with a star for a marker; the number of the form; mode; lexer.
@@ -43,23 +43,25 @@ fn rest_of<'p>(rt: &impl Abort, page: Page<'p>, from: usize) -> Chunk<'p> {
     }
 }
 
-fn put_names(line: &mut String, stack: &OpenElements) -> Result<(), NoMemory> {
-    for depth in 0..stack.len() {
-        line.push_str(" ")?;
-        line.push_str(stack.at(depth).name.as_str())?;
-    }
-    Ok(())
+fn put(rt: &impl Abort, line: &mut String, text: &str) {
+    line.push_str(text).expect(rt, "there is memory");
 }
 
-fn put_entries(line: &mut String, list: &Stack<FormattingEntry>) -> Result<(), NoMemory> {
+fn put_names(rt: &impl Abort, line: &mut String, stack: &OpenElements) {
+    for depth in 0..stack.len() {
+        put(rt, line, " ");
+        put(rt, line, stack.at(depth).name.as_str());
+    }
+}
+
+fn put_entries(rt: &impl Abort, line: &mut String, list: &Stack<FormattingEntry>) {
     for depth in 0..list.len() {
-        line.push_str(" ")?;
+        put(rt, line, " ");
         match list.at(depth) {
-            FormattingEntry::Marker => line.push_str("*")?,
-            FormattingEntry::Element { tag, .. } => line.push_str(tag.name.as_str())?,
+            FormattingEntry::Marker => put(rt, line, "*"),
+            FormattingEntry::Element { tag, .. } => put(rt, line, tag.name.as_str()),
         }
     }
-    Ok(())
 }
 
 fn mode_word(mode: Mode) -> &'static str {
@@ -92,80 +94,65 @@ fn rest_word(rest: Option<Rest>) -> &'static str {
 }
 
 /// Puts a line about a guessed state.
-fn describe(line: &mut String, state: &Control) -> Result<(), NoMemory> {
-    put_names(line, &state.stack)?;
-    line.push_str(";")?;
-    put_entries(line, &state.formatting)?;
-    line.push_str(";")?;
-    line.push_str(form_word(state.form))?;
-    line.push_str(";")?;
-    line.push_str(mode_word(state.mode))?;
-    line.push_str(";")?;
-    line.push_str(rest_word(state.lex.machine.state.rest()))?;
+fn describe(rt: &impl Abort, line: &mut String, state: &Control) {
+    put_names(rt, line, &state.stack);
+    put(rt, line, ";");
+    put_entries(rt, line, &state.formatting);
+    put(rt, line, ";");
+    put(rt, line, form_word(state.form));
+    put(rt, line, ";");
+    put(rt, line, mode_word(state.mode));
+    put(rt, line, ";");
+    put(rt, line, rest_word(state.lex.machine.state.rest()));
     if state.lex.machine.after_cr {
-        line.push_str(" after CR")?;
+        put(rt, line, " after CR");
     }
-    Ok(())
 }
 
 /// Whether the line about a guessed state is that.
-fn is_described(alloc: Global, state: &Control, wanted: &str) -> Result<bool, NoMemory> {
+fn is_described(rt: &impl Abort, alloc: Global, state: &Control, wanted: &str) -> bool {
     let mut line = String::new(alloc);
-    let described = describe(&mut line, state);
+    describe(rt, &mut line, state);
     let well = line.as_str() == wanted;
     mem::forget(line);
-    described?;
-    Ok(well)
-}
-
-fn put_both(text: &mut String, before: &str, chunk: &str) -> Result<(), NoMemory> {
-    text.push_str(before)?;
-    text.push_str(chunk)
+    well
 }
 
 /// The guess for a text from a place on.
-fn guess_from(
-    rt: &impl Abort,
-    alloc: Global,
-    text: &str,
-    from: usize,
-) -> Result<Prescan, NoMemory> {
-    let page = check_page(text.as_bytes()).expect(rt, "the page is UTF-8");
-    Prescan::new(alloc, &rest_of(rt, page, from))
+fn guess_from(rt: &impl Abort, alloc: Global, text: &str, from: usize) -> Prescan {
+    let page = page_of(rt, text.as_bytes());
+    Prescan::new(alloc, &rest_of(rt, page, from)).expect(rt, "there is memory")
 }
 
 /// The guess for the part of a page from a mark on.
-fn guess(rt: &impl Abort, alloc: Global, before: &str, chunk: &str) -> Result<Prescan, NoMemory> {
+fn guess(rt: &impl Abort, alloc: Global, before: &str, chunk: &str) -> Prescan {
     let mut text = String::new(alloc);
-    let guessed = match put_both(&mut text, before, chunk) {
-        Ok(()) => guess_from(rt, alloc, text.as_str(), before.len()),
-        Err(fault) => Err(fault),
-    };
+    put(rt, &mut text, before);
+    put(rt, &mut text, chunk);
+    let guessed = guess_from(rt, alloc, text.as_str(), before.len());
     mem::forget(text);
     guessed
 }
 
 /// Whether the guess of a row is the one that stands there. What is owned is kept to the end of the test.
-fn guesses_so(rt: &impl Abort, alloc: Global, row: &str) -> Result<bool, NoMemory> {
+fn guesses_so(rt: &impl Abort, alloc: Global, row: &str) -> bool {
     let (page, wanted) = row.split_once('|').expect(rt, "a row has a guess");
     let (before, chunk) = page.split_once('^').expect(rt, "a row has a mark");
-    let prescan = guess(rt, alloc, before, chunk)?;
-    let well = is_described(alloc, prescan.state(), wanted);
+    let prescan = guess(rt, alloc, before, chunk);
+    let well = is_described(rt, alloc, prescan.state(), wanted);
     mem::forget(prescan);
     well
 }
 
-fn compare(rt: &impl Abort, alloc: Global, guesses: &str) -> Result<(), NoMemory> {
+fn compare(rt: &impl Abort, alloc: Global, guesses: &str) {
     for row in guesses.split('\n') {
-        assert!(rt; guesses_so(rt, alloc, row)?, "{row}");
+        assert!(rt; guesses_so(rt, alloc, row), "{row}");
     }
-    Ok(())
 }
 
 #[test]
-fn guesses_as_the_model(rt: HostRuntime) -> Result<(), Fail> {
-    compare(&rt, rt.alloc(), GUESSES)?;
-    Ok(())
+fn guesses_as_the_model(rt: HostRuntime) {
+    compare(&rt, rt.alloc(), GUESSES);
 }
 
 /// The questions, one of each kind.
@@ -240,96 +227,94 @@ fn word_of(answer: &Answer) -> &'static str {
 
 /// The word of what a predictor says to a question. The answer is kept to the end of the test.
 fn word_said<P: Predictor>(
+    rt: &impl Abort,
     alloc: Global,
     predictor: &P,
     question: &Question,
-) -> Result<&'static str, NoMemory> {
-    let answer = predictor.say(alloc, question)?;
+) -> &'static str {
+    let answer = predictor.say(alloc, question).expect(rt, "there is memory");
     let word = word_of(&answer);
     mem::forget(answer);
-    Ok(word)
+    word
 }
 
 /// The word of what a predictor says to the question of a number; none where it has no question.
 fn word_for<P: Predictor>(
+    rt: &impl Abort,
     alloc: Global,
     predictor: &P,
     number: u32,
-) -> Result<&'static str, NoMemory> {
+) -> &'static str {
     let question = question(number);
     let word = match &question {
-        Some(question) => word_said(alloc, predictor, question),
-        None => Ok(""),
+        Some(question) => word_said(rt, alloc, predictor, question),
+        None => "",
     };
     mem::forget(question);
     word
 }
 
 /// Puts what a predictor says to each question.
-fn put_said<P: Predictor>(alloc: Global, predictor: &P, line: &mut String) -> Result<(), NoMemory> {
+fn put_said<P: Predictor>(rt: &impl Abort, alloc: Global, predictor: &P, line: &mut String) {
     for number in 0..14 {
-        line.push_str(word_for(alloc, predictor, number)?)?;
+        put(rt, line, word_for(rt, alloc, predictor, number));
     }
-    Ok(())
 }
 
 /// Whether a predictor says that to the questions.
-fn says<P: Predictor>(alloc: Global, predictor: &P, wanted: &str) -> Result<bool, NoMemory> {
+fn says<P: Predictor>(rt: &impl Abort, alloc: Global, predictor: &P, wanted: &str) -> bool {
     let mut line = String::new(alloc);
-    let said = put_said(alloc, predictor, &mut line);
+    put_said(rt, alloc, predictor, &mut line);
     let well = line.as_str() == wanted;
     mem::forget(line);
-    said?;
-    Ok(well)
+    well
 }
 
 #[test]
-fn says_what_needs_no_text(rt: HostRuntime) -> Result<(), Fail> {
+fn says_what_needs_no_text(rt: HostRuntime) {
     let wanted =
         " resting element yes depth count no new-mode yes entry count null no last-tag whole";
-    assert!(rt; says(rt.alloc(), &Quiet, wanted)?);
-    assert!(rt; says(rt.alloc(), &Contrary, wanted)?);
-    Ok(())
+    assert!(rt; says(&rt, rt.alloc(), &Quiet, wanted));
+    assert!(rt; says(&rt, rt.alloc(), &Contrary, wanted));
 }
 
 /// Whether what a guess says to a question is true of the guessed state.
-fn is_true(alloc: Global, prescan: &Prescan, question: &Question) -> Result<bool, NoMemory> {
-    let answer = prescan.say(alloc, question)?;
+fn is_true(rt: &impl Abort, alloc: Global, prescan: &Prescan, question: &Question) -> bool {
+    let answer = prescan.say(alloc, question).expect(rt, "there is memory");
     let well = truth(prescan.state(), question, &answer);
     mem::forget(answer);
-    Ok(well)
+    well
 }
 
 /// Whether what a guess says to the question of a number is true; it is where there is no question.
-fn is_true_for(alloc: Global, prescan: &Prescan, number: u32) -> Result<bool, NoMemory> {
+fn is_true_for(rt: &impl Abort, alloc: Global, prescan: &Prescan, number: u32) -> bool {
     let question = question(number);
     let told = match &question {
-        Some(question) => is_true(alloc, prescan, question),
-        None => Ok(true),
+        Some(question) => is_true(rt, alloc, prescan, question),
+        None => true,
     };
     mem::forget(question);
     told
 }
 
 /// Whether all that a guess says is true of the guessed state.
-fn all_is_true(alloc: Global, prescan: &Prescan) -> Result<bool, NoMemory> {
+fn all_is_true(rt: &impl Abort, alloc: Global, prescan: &Prescan) -> bool {
     let mut well = true;
     for number in 0..14 {
-        well = is_true_for(alloc, prescan, number)? && well;
+        well = is_true_for(rt, alloc, prescan, number) && well;
     }
-    Ok(well)
+    well
 }
 
 #[test]
-fn says_what_the_guessed_state_is(rt: HostRuntime) -> Result<(), Fail> {
+fn says_what_the_guessed_state_is(rt: HostRuntime) {
     let before = "<form><b><table><td>x";
-    let prescan = guess(&rt, rt.alloc(), before, "</td></table></b></form>")?;
+    let prescan = guess(&rt, rt.alloc(), before, "</td></table></b></form>");
     let wanted =
         " resting element no depth count no new-mode yes entry count away no last-tag whole";
-    let words = says(rt.alloc(), &prescan, wanted);
-    let well = all_is_true(rt.alloc(), &prescan);
+    let words = says(&rt, rt.alloc(), &prescan, wanted);
+    let well = all_is_true(&rt, rt.alloc(), &prescan);
     mem::forget(prescan);
-    assert!(rt; words?);
-    assert!(rt; well?);
-    Ok(())
+    assert!(rt; words);
+    assert!(rt; well);
 }

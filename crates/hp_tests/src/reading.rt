@@ -2,13 +2,16 @@
 ghost use Rattle.std.specs.Prelude.{false, refl};
 
 use hp_text::{
-    Chunk, MemorySink, MemorySource, NoMemory, ReadRefusal, SteadySource, StreamSink, StreamSource,
+    Chunk, MemorySink, MemorySource, Page, ReadRefusal, SteadySource, StreamSink, StreamSource,
     TellingRead, TellingWrite, check_page, read_page, write_whole,
 };
 use std::alloc::Global;
 use std::process::Abort;
-use std::test::Fail;
 use std::{io, mem};
+
+pub fn page_of<'p>(rt: &impl Abort, bytes: &'p [u8]) -> Page<'p> {
+    check_page(bytes).expect(rt, "the page is UTF-8")
+}
 
 /// How many bytes a page has, and whether so large a page is read.
 const LENGTHS: &[(usize, bool)] = &[
@@ -19,51 +22,51 @@ const LENGTHS: &[(usize, bool)] = &[
 ];
 
 /// Whether a page of so many bytes `x` is read whole, or else refused as too large.
-fn reads_so(alloc: Global, len: usize, whole: bool) -> Result<bool, NoMemory> {
-    let bytes = vec![in alloc; b'x'; len]?;
+fn reads_so(rt: &impl Abort, alloc: Global, len: usize, whole: bool) -> bool {
+    let bytes = vec![in alloc; b'x'; len].expect(rt, "there is memory");
     let mut source = SteadySource::new(bytes.as_slice());
     let read = read_page(alloc, &mut source);
     let well = match &read {
         Ok(page) => whole && page.len() == len,
         Err(refusal) => !whole && *refusal == ReadRefusal::TooLarge,
     };
-    mem::forget((bytes, read));
-    Ok(well)
+    mem::forget(bytes);
+    mem::forget(read);
+    well
 }
 
-fn compare_lengths(rt: &impl Abort, alloc: Global, lengths: &[(usize, bool)]) -> Result<(), Fail> {
+fn compare_lengths(rt: &impl Abort, alloc: Global, lengths: &[(usize, bool)]) {
     for (len, whole) in lengths {
-        assert!(rt; reads_so(alloc, *len, *whole)?, "{len}");
+        assert!(rt; reads_so(rt, alloc, *len, *whole), "{len}");
     }
-    Ok(())
 }
 
 #[test]
-fn reads_at_most_the_limit(rt: HostRuntime) -> Result<(), Fail> {
-    compare_lengths(&rt, rt.alloc(), LENGTHS)
+fn reads_at_most_the_limit(rt: HostRuntime) {
+    compare_lengths(&rt, rt.alloc(), LENGTHS);
 }
 
 /// Whether `abc`, a byte a call, is read where so many calls fail, or else refused as a fault.
-fn reads_abc(alloc: Global, failing: u64, faults: u64) -> Result<bool, NoMemory> {
-    let mut source = MemorySource::new(alloc, b"abc", 1, &[failing])?;
+fn reads_abc(rt: &impl Abort, alloc: Global, failing: u64, faults: u64) -> bool {
+    let mut source = MemorySource::new(alloc, b"abc", 1, &[failing]).expect(rt, "there is memory");
     let read = read_page(alloc, &mut source);
     let well = match &read {
         Ok(page) => faults == 0 && page.as_slice() == b"abc".as_slice(),
         Err(refusal) => faults == 1 && *refusal == ReadRefusal::Fault,
     };
     let counted = source.faults() == faults;
-    mem::forget((source, read));
-    Ok(well && counted)
+    mem::forget(source);
+    mem::forget(read);
+    well && counted
 }
 
 // Call 3 is the one at the end, and there is no call 4.
 #[test]
-fn a_failing_read_is_a_fault(rt: HostRuntime) -> Result<(), Fail> {
+fn a_failing_read_is_a_fault(rt: HostRuntime) {
     for failing in 0..4 {
-        assert!(rt; reads_abc(rt.alloc(), failing, 1)?, "{failing}");
+        assert!(rt; reads_abc(&rt, rt.alloc(), failing, 1), "{failing}");
     }
-    assert!(rt; reads_abc(rt.alloc(), 4, 0)?);
-    Ok(())
+    assert!(rt; reads_abc(&rt, rt.alloc(), 4, 0));
 }
 
 const PAGES: &[(&str, &str)] = &[
@@ -86,41 +89,43 @@ const NO_PAGES: &[(&[u8], u64)] = &[
     (b"\xF4\x90\x80\x80", 0),
 ];
 
-fn compare_pages(rt: &impl Abort, pages: &[(&str, &str)]) -> Result<(), Fail> {
+fn compare_pages(rt: &impl Abort, pages: &[(&str, &str)]) {
     for (bytes, text) in pages {
-        assert!(rt; check_page(bytes.as_bytes())?.text() == text.as_bytes());
+        assert!(rt; page_of(rt, bytes.as_bytes()).text() == text.as_bytes());
     }
-    Ok(())
+}
+
+/// How many bytes are UTF-8, where not all are.
+fn refused_at(bytes: &[u8]) -> Option<u64> {
+    match check_page(bytes) {
+        Ok(_) => None,
+        Err(refusal) => Some(refusal.at),
+    }
 }
 
 fn compare_refusals(rt: &impl Abort, refused: &[(&[u8], u64)]) {
     for (bytes, at) in refused {
-        match check_page(bytes) {
-            Ok(_) => panic!(rt; "a page"),
-            Err(refusal) => assert!(rt; refusal.at == *at),
-        }
+        assert!(rt; refused_at(bytes) == Some(*at), "{at}");
     }
 }
 
 #[test]
-fn only_utf8_is_a_page(rt: HostRuntime) -> Result<(), Fail> {
+fn only_utf8_is_a_page(rt: HostRuntime) {
     compare_refusals(&rt, NO_PAGES);
-    compare_pages(&rt, PAGES)
+    compare_pages(&rt, PAGES);
 }
 
 #[test]
-fn a_chunk_is_a_part(rt: HostRuntime) -> Result<(), Fail> {
-    let page = check_page(b"\xEF\xBB\xBFa\xC3\xA9b")?;
+fn a_chunk_is_a_part(rt: HostRuntime) {
+    let page = check_page(b"\xEF\xBB\xBFa\xC3\xA9b").expect(&rt, "the page is UTF-8");
     let chunk = Chunk {
         page,
         number: 1,
         from: 1,
         to: 3,
     };
-    assert!(rt; chunk.text() == b"\xC3\xA9".as_slice());
-    assert!(rt; chunk.before() == b"a".as_slice());
+    assert!(rt; chunk.text() == b"\xC3\xA9".as_slice() && chunk.before() == b"a".as_slice());
     assert!(rt; page.as_str() == "a\u{e9}b");
-    Ok(())
 }
 
 /// A sink's room and which of its calls fails; what a fault counts as taken, and what the sink took.
@@ -136,13 +141,14 @@ const WRITES: &[Write] = &[
 
 /// Whether the beginning of a printed tree is so written into a sink with so much room, one of whose calls fails.
 fn writes_so(
+    rt: &impl Abort,
     alloc: Global,
     room: usize,
     failing: u64,
     fault: Option<u64>,
     taken: &str,
-) -> Result<bool, NoMemory> {
-    let mut sink = MemorySink::new(alloc, room, &[failing])?;
+) -> bool {
+    let mut sink = MemorySink::new(alloc, room, &[failing]).expect(rt, "there is memory");
     let found = match write_whole(&mut sink, b"| <html>\n|   <head>\n") {
         Ok(()) => None,
         Err(fault) => Some(fault.taken),
@@ -150,20 +156,19 @@ fn writes_so(
     let faults = u64::from(fault.is_some());
     let well = found == fault && sink.faults() == faults && sink.taken() == taken.as_bytes();
     mem::forget(sink);
-    Ok(well)
+    well
 }
 
-fn compare_writes(rt: &impl Abort, alloc: Global, writes: &[Write]) -> Result<(), Fail> {
+fn compare_writes(rt: &impl Abort, alloc: Global, writes: &[Write]) {
     for (room, failing, fault, taken) in writes {
-        let well = writes_so(alloc, *room, *failing, *fault, taken)?;
+        let well = writes_so(rt, alloc, *room, *failing, *fault, taken);
         assert!(rt; well, "{room} {failing}");
     }
-    Ok(())
 }
 
 #[test]
-fn writes_all_or_a_stated_part(rt: HostRuntime) -> Result<(), Fail> {
-    compare_writes(&rt, rt.alloc(), WRITES)
+fn writes_all_or_a_stated_part(rt: HostRuntime) {
+    compare_writes(&rt, rt.alloc(), WRITES);
 }
 
 /// Its first read gives one byte and its second fails.
@@ -208,12 +213,13 @@ fn is_fault(read: Result<Vec<u8>, ReadRefusal>) -> bool {
 #[test]
 fn a_reader_is_a_source(rt: HostRuntime) {
     let mut source = StreamSource::new(b"hello".as_slice());
-    assert!(rt; is_page(read_page(rt.alloc(), &mut source), b"hello"));
-    assert!(rt; source.faults() == 0);
+    let reads = is_page(read_page(rt.alloc(), &mut source), b"hello") && source.faults() == 0;
+    mem::forget(source);
+    assert!(rt; reads);
     let mut broken = StreamSource::new(Breaks(0));
-    assert!(rt; is_fault(read_page(rt.alloc(), &mut broken)));
-    assert!(rt; broken.faults() == 1);
-    mem::forget((source, broken));
+    let breaks = is_fault(read_page(rt.alloc(), &mut broken)) && broken.faults() == 1;
+    mem::forget(broken);
+    assert!(rt; breaks);
 }
 
 /// A writer whose flushes fail, where it says so.

@@ -1,9 +1,8 @@
 //! Pages against an independent maker's.
-use hp_make::{NoMemory, make_page};
+use hp_make::make_page;
 use std::alloc::Global;
 use std::mem;
 use std::process::Abort;
-use std::test::Fail;
 
 /// A seed, a length, and the page.
 const WORKED: &[(u64, u32, &str)] = &[
@@ -15,18 +14,26 @@ const WORKED: &[(u64, u32, &str)] = &[
     (0, 16, "<!DOCTYPE html>x"),
 ];
 
-fn compare_pages(rt: &impl Abort, alloc: Global, pages: &[(u64, u32, &str)]) -> Result<(), Fail> {
+/// Whether the page of a seed and a length is that.
+fn makes_so(rt: &impl Abort, alloc: Global, seed: u64, bytes: u32, wanted: &str) -> bool {
+    let page = make_page(alloc, seed, bytes).expect(rt, "there is memory");
+    let well = page.as_slice() == wanted.as_bytes();
+    mem::forget(page);
+    well
+}
+
+fn compare_pages(rt: &impl Abort, alloc: Global, pages: &[(u64, u32, &str)]) {
     for (seed, bytes, wanted) in pages {
-        let page = make_page(alloc, *seed, *bytes)?;
-        assert!(rt; page.as_slice() == wanted.as_bytes(), "{seed} {bytes}");
-        mem::forget(page);
+        assert!(rt;
+            makes_so(rt, alloc, *seed, *bytes, wanted),
+            "{seed} {bytes}"
+        );
     }
-    Ok(())
 }
 
 #[test]
-fn makes_the_worked_pages(rt: HostRuntime) -> Result<(), Fail> {
-    compare_pages(&rt, rt.alloc(), WORKED)
+fn makes_the_worked_pages(rt: HostRuntime) {
+    compare_pages(&rt, rt.alloc(), WORKED);
 }
 
 /// FNV-1a over the bytes.
@@ -39,7 +46,7 @@ fn checksum(page: &[u8]) -> u64 {
 }
 
 /// The checksum of the page of that number, with the length that the checksums were made for; none where it has another.
-fn checksum_of(alloc: Global, number: u64) -> Result<Option<u64>, NoMemory> {
+fn checksum_of(rt: &impl Abort, alloc: Global, number: u64) -> Option<u64> {
     let number = number % 1000;
     let bytes = if number < 100 {
         number
@@ -47,30 +54,31 @@ fn checksum_of(alloc: Global, number: u64) -> Result<Option<u64>, NoMemory> {
         number * number * 7 % 5000
     };
     let seed = number.wrapping_mul(0x9e37_79b9_7f4a_7c15);
-    let page = make_page(alloc, seed, bytes as u32)?;
+    let page = make_page(alloc, seed, bytes as u32).expect(rt, "there is memory");
     let made = (page.len() as u64 == bytes).then_some(checksum(&page));
     mem::forget(page);
-    Ok(made)
+    made
+}
+
+/// Whether the page of that number has the checksum of these digits.
+fn has_checksum(rt: &impl Abort, alloc: Global, number: u64, digits: &str) -> bool {
+    let wanted = u64::from_str_radix(digits, 16).expect(rt, "a checksum");
+    checksum_of(rt, alloc, number) == Some(wanted)
 }
 
 /// Compares the checksums of pages, and answers how many there were.
-fn compare_checksums(rt: &impl Abort, alloc: Global, checksums: &str) -> Result<u64, Fail> {
+fn compare_checksums(rt: &impl Abort, alloc: Global, checksums: &str) -> u64 {
     let mut number: u64 = 0;
     for digits in checksums.split(',') {
-        let wanted = u64::from_str_radix(digits, 16)?;
-        assert!(rt;
-            checksum_of(alloc, number)? == Some(wanted),
-            "page {number}"
-        );
+        assert!(rt; has_checksum(rt, alloc, number, digits), "page {number}");
         number = number.saturating_add(1);
     }
-    Ok(number)
+    number
 }
 
 #[test]
-fn makes_a_thousand_pages(rt: HostRuntime) -> Result<(), Fail> {
-    assert!(rt; compare_checksums(&rt, rt.alloc(), CHECKSUMS)? == 1000);
-    Ok(())
+fn makes_a_thousand_pages(rt: HostRuntime) {
+    assert!(rt; compare_checksums(&rt, rt.alloc(), CHECKSUMS) == 1000);
 }
 
 /// The checksums of the pages by tools/page_checksums.py.

@@ -1,10 +1,13 @@
 //! Pages cut at tags, by size and at listed places, each public call once with ample memory.
-use hp_cut::{CutRefusal, NoMemory, cuts_at_tags, cuts_by_size, cuts_listed};
-use hp_text::{Page, check_page};
+ghost use Rattle.hp_cut.specs.Places.{IsOf};
+ghost use Rattle.hp_text.specs.Page.{text_of};
+
+use crate::reading::page_of;
+use hp_cut::{CutRefusal, Cuts, cuts_at_tags, cuts_by_size, cuts_listed};
+use hp_text::Page;
 use std::alloc::Global;
 use std::mem;
 use std::process::Abort;
-use std::test::Fail;
 
 const PAGE: &str = "<!DOCTYPE html>
 <html lang=\"en\">
@@ -28,53 +31,66 @@ const PAGE: &str = "<!DOCTYPE html>
 </html>
 ";
 
-fn page_of<'p>(rt: &impl Abort, bytes: &'p [u8]) -> Page<'p> {
-    check_page(bytes).expect(rt, "the page is UTF-8")
-}
+/// Where the page is cut.
+const TAGS: &[u64] = &[96, 141, 222, 272, 320];
 
-#[test]
-fn cuts_at_tags_of_a_small_page(rt: HostRuntime) -> Result<(), Fail> {
-    let page = page_of(&rt, PAGE.as_bytes());
-    let cuts = cuts_at_tags(rt.alloc(), page, 64)?;
-    assert!(rt; cuts.text_length() == 348);
-    assert!(rt; cuts.places() == [96, 141, 222, 272, 320].as_slice());
+/// The lengths of the chunks, of which there are six at most.
+fn lengths_of(rt: &impl Abort, page: Page<'_>, cuts: &Cuts) -> [u64; 6]
+    requires { IsOf (text_of page) cuts.now }
+{
     let mut lengths = [0; 6];
     for number in 0..cuts.chunks() {
         let chunk = cuts.chunk(page, number);
         assert!(rt; number < 6);
         lengths[number as usize] = chunk.to - chunk.from;
     }
-    assert!(rt; lengths == [96, 45, 81, 50, 48, 28]);
+    lengths
+}
+
+#[test]
+fn cuts_at_tags_of_a_small_page(rt: HostRuntime) {
+    let page = page_of(&rt, PAGE.as_bytes());
+    let cuts = cuts_at_tags(rt.alloc(), page, 64).expect(&rt, "there is memory");
+    assert!(rt; cuts.text_length() == 348 && cuts.places() == TAGS);
+    assert!(rt; lengths_of(&rt, page, &cuts) == [96, 45, 81, 50, 48, 28]);
     mem::forget(cuts);
-    Ok(())
 }
 
 /// 63 bytes `a`, a code point of two bytes, and 63 bytes `b`.
 const ACCENTED: &str = "aaaaaaaaaaaaaaaaaaaaaaaaaaaaaaaaaaaaaaaaaaaaaaaaaaaaaaaaaaaaaaaé\
 bbbbbbbbbbbbbbbbbbbbbbbbbbbbbbbbbbbbbbbbbbbbbbbbbbbbbbbbbbbbbbb";
 
+/// Whether a page is cut once, behind the code point of two bytes.
+fn are_behind_it(cuts: &Cuts) -> bool {
+    cuts.places() == [65].as_slice()
+}
+
+fn is_b(text: &[u8]) -> bool {
+    text == [b'b'; 63].as_slice()
+}
+
 #[test]
 fn cuts_by_size_skip_to_starts(rt: HostRuntime) {
     let page = page_of(&rt, ACCENTED.as_bytes());
     let cuts = cuts_by_size(rt.alloc(), page, 64).expect(&rt, "there is memory");
-    assert!(rt; cuts.places() == [65].as_slice());
     let copy = cuts.copy(rt.alloc()).expect(&rt, "there is memory");
-    assert!(rt; copy.places() == [65].as_slice());
-    assert!(rt; copy.text_length() == 128);
-    assert!(rt; copy.chunks() == 2);
-    assert!(rt; copy.chunk(page, 1).text() == [b'b'; 63].as_slice());
+    let well = are_behind_it(&cuts)
+        && are_behind_it(&copy)
+        && copy.text_length() == 128
+        && copy.chunks() == 2
+        && is_b(copy.chunk(page, 1).text());
     mem::forget(copy);
     mem::forget(cuts);
+    assert!(rt; well);
 }
 
 #[test]
-fn an_empty_page_has_one_chunk(rt: HostRuntime) -> Result<(), Fail> {
+fn an_empty_page_has_one_chunk(rt: HostRuntime) {
     let page = page_of(&rt, b"");
-    let cuts = cuts_by_size(rt.alloc(), page, 64)?;
-    assert!(rt; cuts.chunks() == 1);
-    assert!(rt; cuts.chunk(page, 0).to == 0);
+    let cuts = cuts_by_size(rt.alloc(), page, 64).expect(&rt, "there is memory");
+    let well = cuts.chunks() == 1 && cuts.chunk(page, 0).to == 0;
     mem::forget(cuts);
-    Ok(())
+    assert!(rt; well);
 }
 
 /// A page, places in it, and how many chunks they make or why they make none.
@@ -99,10 +115,14 @@ fn listed(alloc: Global, page: Page<'_>, places: &[u64]) -> Result<u32, CutRefus
     Ok(chunks)
 }
 
+fn lists_so(rt: &impl Abort, alloc: Global, case: &Listed) -> bool {
+    let (text, places, wanted) = *case;
+    listed(alloc, page_of(rt, text.as_bytes()), places) == wanted
+}
+
 fn compare_listed(rt: &impl Abort, alloc: Global, cases: &[Listed]) {
-    for (text, places, wanted) in cases {
-        let page = page_of(rt, text.as_bytes());
-        assert!(rt; listed(alloc, page, places) == *wanted, "{text}");
+    for case in cases {
+        assert!(rt; lists_so(rt, alloc, case), "{}", case.0);
     }
 }
 
@@ -111,35 +131,32 @@ fn listed_places(rt: HostRuntime) {
     compare_listed(&rt, rt.alloc(), LISTED);
 }
 
-fn push_places(places: &mut Vec<u64>, last: u64) -> Result<(), NoMemory> {
+fn push_places(rt: &impl Abort, places: &mut Vec<u64>, last: u64) {
     for place in 1..last {
-        places.push(place)?;
+        places.push(place).expect(rt, "there is memory");
     }
-    Ok(())
 }
 
 /// How many chunks the places from 1 on make in a page, up to that one.
-fn chunks_up_to(alloc: Global, page: Page<'_>, last: u64) -> Result<u32, NoMemory> {
+fn chunks_up_to(rt: &impl Abort, alloc: Global, page: Page<'_>, last: u64) -> u32 {
     let mut places = Vec::new(alloc);
-    let pushed = push_places(&mut places, last);
+    push_places(rt, &mut places, last);
     let chunks = match listed(alloc, page, places.as_slice()) {
         Ok(chunks) => chunks,
         Err(CutRefusal::TooMany) => 0,
         Err(_) => 1,
     };
     mem::forget(places);
-    pushed?;
-    Ok(chunks)
+    chunks
 }
 
 #[test]
-fn too_many_places(rt: HostRuntime) -> Result<(), Fail> {
-    let bytes = vec![in rt.alloc(); b'x'; 5000]?;
+fn too_many_places(rt: HostRuntime) {
+    let bytes = vec![in rt.alloc(); b'x'; 5000].expect(&rt, "there is memory");
     let page = page_of(&rt, bytes.as_slice());
-    let none = chunks_up_to(rt.alloc(), page, 4097);
-    let all = chunks_up_to(rt.alloc(), page, 4096);
+    let none = chunks_up_to(&rt, rt.alloc(), page, 4097);
+    let all = chunks_up_to(&rt, rt.alloc(), page, 4096);
     mem::forget(bytes);
-    assert!(rt; none? == 0);
-    assert!(rt; all? == 4096);
-    Ok(())
+    assert!(rt; none == 0);
+    assert!(rt; all == 4096);
 }

@@ -3,15 +3,15 @@ use crate::carrying::Step::{
     self, Crosses, Does, Fails, Fosters, Handles, Holds, IsHtml, LastTag, Notes, Puts, Reads,
 };
 use crate::carrying::count_of;
+use crate::pages::page_of;
 use hp_control::{Assumptions, Control, Guess, truth};
-use hp_elements::{Act, Known, Mode, NoMemory, Scope, SetName, Test, Which};
+use hp_elements::{Act, Known, Mode, Scope, SetName, Test, Which};
 use hp_predict::Prescan;
-use hp_text::{Chunk, Page, check_page};
+use hp_text::{Chunk, Page};
 use hp_views::View;
 use std::alloc::Global;
 use std::mem;
 use std::process::Abort;
-use std::test::Fail;
 
 const PARAGRAPH: Test = Test::InScope(Scope::Button, Which::Its);
 
@@ -214,9 +214,9 @@ fn end_of<'p>(rt: &impl Abort, page: Page<'p>) -> Chunk<'p> {
 }
 
 /// What is guessed behind that text.
-fn guess(rt: &impl Abort, alloc: Global, before: &'static str) -> Result<Prescan, NoMemory> {
-    let page = check_page(before.as_bytes()).expect(rt, "the page is UTF-8");
-    Ok(Prescan::new(alloc, &end_of(rt, page))?)
+fn guess(rt: &impl Abort, alloc: Global, before: &'static str) -> Prescan {
+    let page = page_of(rt, before);
+    Prescan::new(alloc, &end_of(rt, page)).expect(rt, "there is memory")
 }
 
 /// Whether each answer that was kept is true of the state.
@@ -230,15 +230,11 @@ fn are_true(state: &Control, kept: &Assumptions) -> bool {
 }
 
 /// A view over what is guessed behind that text.
-fn over<'p>(
-    rt: &impl Abort,
-    alloc: Global,
-    before: &'static str,
-) -> Result<View<'p, Guess<Prescan>>, NoMemory> {
-    let guess = guess(rt, alloc, before)?;
-    let (view, answer) = View::guessed(alloc, Guess::new(guess))?;
+fn over<'p>(rt: &impl Abort, alloc: Global, before: &'static str) -> View<'p, Guess<Prescan>> {
+    let guess = Guess::new(guess(rt, alloc, before));
+    let (view, answer) = View::guessed(alloc, guess).expect(rt, "there is memory");
     mem::forget(answer);
-    Ok(view)
+    view
 }
 
 /// Whether so many own elements are open, so many older ones are gone, and what was asked is true.
@@ -249,23 +245,21 @@ fn ends_as(view: &View<'_, Guess<Prescan>>, open: usize, gone: u64) -> bool {
 }
 
 /// Whether each step of the case comes out, and the view ends as it says.
-fn passes(rt: &impl Abort, alloc: Global, case: &Case) -> Result<bool, NoMemory> {
-    let mut view = over(rt, alloc, case.before)?;
+fn passes(rt: &impl Abort, alloc: Global, case: &Case) -> bool {
+    let mut view = over(rt, alloc, case.before);
     let count = count_of(alloc, &mut view, case.steps);
     let ends = ends_as(&view, case.open, case.gone);
     mem::forget(view);
-    Ok(count == case.steps.len() && ends)
+    count == case.steps.len() && ends
 }
 
-fn all_pass(rt: &impl Abort, alloc: Global, cases: &[Case]) -> Result<(), Fail> {
+fn all_pass(rt: &impl Abort, alloc: Global, cases: &[Case]) {
     for case in cases {
-        let passes = passes(rt, alloc, case)?;
-        assert!(rt; passes, "behind {}", case.before);
+        assert!(rt; passes(rt, alloc, case), "behind {}", case.before);
     }
-    Ok(())
 }
 
 #[test]
-fn acts_are_carried_out_over_a_guess(rt: HostRuntime) -> Result<(), Fail> {
-    all_pass(&rt, rt.alloc(), CASES)
+fn acts_are_carried_out_over_a_guess(rt: HostRuntime) {
+    all_pass(&rt, rt.alloc(), CASES);
 }

@@ -8,14 +8,13 @@ mod rest;
 mod table;
 
 use hp_elements::{
-    Act, Chain, CharClass, Doctype, DoctypeParts, Known, Mode, Name, Namespace, NoMemory, Tag,
-    Test, Text, Token, Which,
+    Act, Chain, CharClass, Doctype, DoctypeParts, Known, Mode, Name, Namespace, Tag, Test, Text,
+    Token, Which,
 };
 use names::NAMES;
 use std::alloc::Global;
 use std::mem;
 use std::process::Abort;
-use std::test::Fail;
 
 /// What a way goes through: an act, or a test with its answer.
 #[derive(Clone, Copy)]
@@ -72,14 +71,23 @@ static TABLE_MODES: [Mode; 7] = [
 
 static REST_MODES: [Mode; 3] = [Mode::InSelect, Mode::InSelectInTable, Mode::InTemplate];
 
-fn act_of(part: Part, row: u16, at: u32) -> Option<Act> {
-    let acts = match part {
+fn acts_of(part: Part, row: u16) -> &'static [Act] {
+    match part {
         Part::Page => hp_rules_page::acts_numbered(row),
         Part::Body => hp_rules_body::acts_numbered(row),
         Part::Table => hp_rules_table::acts_numbered(row),
         Part::Rest => hp_rules_rest::acts_numbered(row),
-    };
-    acts.get(at as usize).copied()
+    }
+}
+
+fn act_of(part: Part, row: u16, at: u32) -> Option<Act> {
+    let acts = acts_of(part, row);
+    let place = at as usize;
+    if place < acts.len() {
+        Some(acts[place])
+    } else {
+        None
+    }
 }
 
 /// The row of a token in a mode; where there is none, in foreign content.
@@ -230,15 +238,14 @@ impl Reading {
     }
 
     /// Compares everything; the first two groups without a known name are those of another name's tags.
-    fn compare(&self, rt: &impl Abort, alloc: Global) -> Result<(), NoMemory> {
+    fn compare(&self, rt: &impl Abort, alloc: Global) {
         for (kind, groups) in self.nameless.iter().enumerate() {
-            let token = nameless(alloc, kind)?;
+            let token = nameless(rt, alloc, kind);
             self.compare_nameless(rt, &token, *groups);
             mem::forget(token);
         }
         self.compare_named(rt, true, &NAMES, self.nameless[0]);
         self.compare_named(rt, false, &NAMES, self.nameless[1]);
-        Ok(())
     }
 }
 
@@ -270,32 +277,40 @@ fn characters(class: CharClass) -> Token<'static> {
     }
 }
 
-fn doctype(alloc: Global) -> Result<Token<'static>, NoMemory> {
+fn doctype(rt: &impl Abort, alloc: Global) -> Token<'static> {
     let parts = DoctypeParts {
         name: None,
         public: None,
         system: None,
         force_quirks: false,
     };
-    let doctype = Doctype::new(alloc, parts)?;
-    Ok(Token::Doctype { doctype })
+    let doctype = Doctype::new(alloc, parts).expect(rt, "there is memory");
+    Token::Doctype { doctype }
 }
 
 /// The token without a known name at that place in the order of the reading.
-fn nameless(alloc: Global, kind: usize) -> Result<Token<'static>, NoMemory> {
+fn nameless(rt: &impl Abort, alloc: Global, kind: usize) -> Token<'static> {
     match kind {
-        0 | 1 => Ok(tag(kind == 0, Name::from_text(alloc, "other-name")?)),
-        2 => Ok(characters(CharClass::White)),
-        3 => Ok(characters(CharClass::Nul)),
-        4 => Ok(characters(CharClass::Other)),
-        5 => Ok(Token::Comment { text: Text::new() }),
-        6 => doctype(alloc),
-        _ => Ok(Token::EndOfInput),
+        0 => start(another(rt, alloc)),
+        1 => Token::EndTag {
+            name: another(rt, alloc),
+        },
+        2 => characters(CharClass::White),
+        3 => characters(CharClass::Nul),
+        4 => characters(CharClass::Other),
+        5 => Token::Comment { text: Text::new() },
+        6 => doctype(rt, alloc),
+        _ => Token::EndOfInput,
     }
 }
 
+/// A name that isn't known.
+fn another(rt: &impl Abort, alloc: Global) -> Name {
+    Name::from_text(alloc, "other-name").expect(rt, "there is memory")
+}
+
 #[test]
-fn rows_of_page(rt: HostRuntime) -> Result<(), Fail> {
+fn rows_of_page(rt: HostRuntime) {
     let reading = Reading {
         part: Part::Page,
         modes: &PAGE_MODES,
@@ -304,12 +319,11 @@ fn rows_of_page(rt: HostRuntime) -> Result<(), Fail> {
         steps: &page::STEPS,
         ways: &page::WAYS,
     };
-    reading.compare(&rt, rt.alloc())?;
-    Ok(())
+    reading.compare(&rt, rt.alloc());
 }
 
 #[test]
-fn rows_of_body(rt: HostRuntime) -> Result<(), Fail> {
+fn rows_of_body(rt: HostRuntime) {
     let reading = Reading {
         part: Part::Body,
         modes: &BODY_MODES,
@@ -318,12 +332,11 @@ fn rows_of_body(rt: HostRuntime) -> Result<(), Fail> {
         steps: &body::STEPS,
         ways: &body::WAYS,
     };
-    reading.compare(&rt, rt.alloc())?;
-    Ok(())
+    reading.compare(&rt, rt.alloc());
 }
 
 #[test]
-fn rows_of_table(rt: HostRuntime) -> Result<(), Fail> {
+fn rows_of_table(rt: HostRuntime) {
     let reading = Reading {
         part: Part::Table,
         modes: &TABLE_MODES,
@@ -332,12 +345,11 @@ fn rows_of_table(rt: HostRuntime) -> Result<(), Fail> {
         steps: &table::STEPS,
         ways: &table::WAYS,
     };
-    reading.compare(&rt, rt.alloc())?;
-    Ok(())
+    reading.compare(&rt, rt.alloc());
 }
 
 #[test]
-fn rows_of_rest(rt: HostRuntime) -> Result<(), Fail> {
+fn rows_of_rest(rt: HostRuntime) {
     let reading = Reading {
         part: Part::Rest,
         modes: &REST_MODES,
@@ -346,25 +358,33 @@ fn rows_of_rest(rt: HostRuntime) -> Result<(), Fail> {
         steps: &rest::STEPS,
         ways: &rest::WAYS,
     };
-    reading.compare(&rt, rt.alloc())?;
-    Ok(())
+    reading.compare(&rt, rt.alloc());
+}
+
+fn has_row(part: Part, mode: Mode, token: &Token<'_>) -> bool {
+    row_of(part, Some(mode), token).is_some()
+}
+
+/// Whether a crate but the first has a row of the token.
+fn has_others(mode: Mode, token: &Token<'_>) -> bool {
+    has_row(Part::Body, mode, token)
+        || has_row(Part::Table, mode, token)
+        || has_row(Part::Rest, mode, token)
+}
+
+/// Only the first crate has a row of the token in these modes.
+fn compare_page_modes(rt: &impl Abort, modes: &[Mode], token: &Token<'_>) {
+    for mode in modes {
+        assert!(rt; has_row(Part::Page, *mode, token));
+        assert!(rt; !has_others(*mode, token));
+    }
 }
 
 #[test]
 fn each_crate_answers_for_its_own_modes_alone(rt: HostRuntime) {
     let token = Token::EndOfInput;
-    for mode in &PAGE_MODES {
-        assert!(rt;
-            hp_rules_page::row(*mode, &token).is_some()
-                && hp_rules_body::row(*mode, &token).is_none()
-        );
-        assert!(rt;
-            hp_rules_table::row(*mode, &token).is_none()
-                && hp_rules_rest::row(*mode, &token).is_none()
-        );
-    }
-    assert!(rt;
-        hp_rules_rest::row(Mode::InTemplate, &token).is_some()
-            && hp_rules_page::row(Mode::InTemplate, &token).is_none()
-    );
+    compare_page_modes(&rt, &PAGE_MODES, &token);
+    assert!(rt; has_row(Part::Rest, Mode::InTemplate, &token));
+    assert!(rt; !has_row(Part::Page, Mode::InTemplate, &token));
+    mem::forget(token);
 }
