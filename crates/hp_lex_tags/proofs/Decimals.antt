@@ -1,5 +1,5 @@
--- A decimal reference in the data state: a move for its `&`, its `#` and each digit, and those that read again.
-use Rattle.std.proofs.Common.{◌≡◌, ℕ, ◌+◌, ◌*◌, ◌-◌, ◌<◌, ◌≤◌, List, [], ◌∷◌, ◌++◌, true, false, length, take, drop, suc, zero, refl, ap, ◌∙◌, sym, subst, arith, Some, length-append, length-take-le}
+-- A decimal reference, in the data state and in an attribute's value: a move for its `&`, its `#` and each digit, and those that read again.
+use Rattle.std.proofs.Common.{◌≡◌, ℕ, ◌+◌, ◌*◌, ◌-◌, ◌<◌, ◌≤◌, List, [], ◌∷◌, ◌++◌, true, false, length, take, drop, suc, zero, refl, ap, ◌∙◌, sym, subst, arith, Some, Option, length-append, length-take-le}
 use Rattle.std.specs.Prelude.{◌==◌, nat_lt, slice_index, slice_get, IsUtf8}
 use Rattle.std.specs.List.{list_all}
 use Rattle.std.specs.Str.{chars}
@@ -11,8 +11,13 @@ use borrow.Author.Tests.{lt-ltb}
 use Rattle.hp_names.specs.References.{Reference}
 use Rattle.hp_names.specs.Numeric.{numeric}
 use Rattle.hp_tokens.specs.declared.state.State.TheVariants.{NumericCharacterReference, DecimalCharacterReferenceStart, DecimalCharacterReference, NumericCharacterReferenceEnd}
+use Rattle.hp_tokens.specs.declared.state.Return.{Return}
+use Rattle.hp_tokens.specs.declared.state.Return.TheVariants.{DoubleQuoted, SingleQuoted, Unquoted}
+use Rattle.hp_tokens.specs.declared.building.Building.{Building}
+use Rattle.hp_tokens.specs.declared.building.Part.TheVariants.{Value}
 use Rattle.hp_tokens.specs.declared.machine.Machine.{Machine}
-use Rattle.hp_tokens.specs.States.{enter}
+use Rattle.hp_tokens.specs.States.{enter, return_state, is_in_value}
+use Rattle.hp_tokens.specs.Parts.{put}
 use Rattle.hp_tokens.specs.Rows.{character, with_buffer, with_value}
 use Rattle.hp_tokens.specs.Moves.{Lexing, Move, makes, standing, move}
 use Rattle.hp_tokens.specs.Runs.{Leads, here, onward}
@@ -24,10 +29,12 @@ use Rattle.hp_lex_tags.specs.Letters.{ampersand, number_sign}
 use Rattle.hp_lex_tags.specs.Rows.{has_row, row, capped}
 use Rattle.hp_lex_tags.specs.Tags.{tag_rules}
 use Rattle.hp_lex_tags.specs.Decided.{at_data, behind_reference, IsReference, number_of, is_decimal, IsDecimal}
+use Rattle.hp_lex_tags.specs.Straight.{tagging_at}
 use Rattle.hp_lex_tags.proofs.NamedSteps.{tags_rows}
 use Rattle.hp_lex_tags.proofs.StraightMoves.{consumed_move, reread_move}
 use Rattle.hp_lex_tags.specs.Letters.{is_x}
 use Rattle.hp_lex_tags.proofs.UsualReference.{at_reference, ampersand_move}
+use Rattle.hp_lex_tags.proofs.ValueReferences.{into_reference, referring}
 
 -- a digit is no other letter
 digit_no_cr : (c : ℕ) → is_decimal c ≡ true → (c == 13) ≡ false
@@ -39,67 +46,100 @@ digit_no_x c h = rw (unlike is_decimal 0x78 c refl h, unlike is_decimal 0x58 c r
 digit_width : (c : ℕ) → is_decimal c ≡ true → len_utf8 c ≡ 1
 digit_width c h = grind arith
 
--- behind `&#`; where digits may begin; behind digits of a value; behind the semicolon
+-- of a machine behind `&`: behind `&#`; where digits may begin; behind digits of a value; behind the semicolon
 abbrev pub at_number : Machine → Machine
-at_number m = enter NumericCharacterReference (with_buffer (ampersand ∷ (number_sign ∷ [])) (at_reference m))
+at_number k = enter NumericCharacterReference (with_buffer (ampersand ∷ (number_sign ∷ [])) k)
 
 abbrev pub at_start : Machine → Machine
-at_start m = enter DecimalCharacterReferenceStart (at_number m)
+at_start k = enter DecimalCharacterReferenceStart (at_number k)
 
 abbrev pub at_digits : ℕ → Machine → Machine
-at_digits v m = enter DecimalCharacterReference (with_value v (at_start m))
+at_digits v k = enter DecimalCharacterReference (with_value v (at_start k))
 
 abbrev pub at_end : ℕ → Machine → Machine
-at_end v m = enter NumericCharacterReferenceEnd (at_digits v m)
+at_end v k = enter NumericCharacterReferenceEnd (at_digits v k)
 
--- the moves
-module _ (names : List Reference) (m : Machine) where
+-- the moves from `#` to the semicolon, whatever the reference stands in
+module _ (names : List Reference) (k : Machine) (clear : k.after_cr ≡ false) where
   abbrev pub next : Lexing → Move
   next = move (tag_rules names)
 
-  abbrev pub at : Machine → ℕ → ℕ → List ℕ → Lexing
-  at k p r u = record { machine = k; place = p; rested = r; unread = u }
+  start_move : (p r c : ℕ) (u : List ℕ) → is_decimal c ≡ true → next (standing (at_number k) p r (c ∷ u)) ≡ makes (standing (at_start k) p r (c ∷ u)) []
+  start_move p r c u h = reread_move names (at_number k) (at_start k) p r c u (c ∷ u) clear refl refl (digit_no_cr c h) (rw (digit_no_x c h) refl) refl
 
-  sign_move : (p r : ℕ) (u : List ℕ) → next (standing (at_reference m) p r (35 ∷ u)) ≡ makes (at (at_number m) (p + 1) r u) []
-  sign_move p r u = refl
-
-  start_move : (p r c : ℕ) (u : List ℕ) → is_decimal c ≡ true → next (at (at_number m) p r (c ∷ u)) ≡ makes (at (at_start m) p r (c ∷ u)) []
-  start_move p r c u h = reread_move names (at_number m) (at_start m) p r c u (c ∷ u) refl refl refl (digit_no_cr c h) (rw (digit_no_x c h) refl) refl
-
-  digits_move : (p r c : ℕ) (u : List ℕ) → is_decimal c ≡ true → next (at (at_start m) p r (c ∷ u)) ≡ makes (at (at_digits 0 m) p r (c ∷ u)) []
-  digits_move p r c u h = reread_move names (at_start m) (at_digits 0 m) p r c u (c ∷ u) refl refl refl (digit_no_cr c h) (rw h refl) refl
+  digits_move : (p r c : ℕ) (u : List ℕ) → is_decimal c ≡ true → next (standing (at_start k) p r (c ∷ u)) ≡ makes (standing (at_digits 0 k) p r (c ∷ u)) []
+  digits_move p r c u h = reread_move names (at_start k) (at_digits 0 k) p r c u (c ∷ u) clear refl refl (digit_no_cr c h) (rw h refl) refl
 
   digit_move : (v p r c : ℕ) (u : List ℕ) → is_decimal c ≡ true
-      → next (at (at_digits v m) p r (c ∷ u)) ≡ makes (at (at_digits (capped (v * 10 + digit_value c)) m) (p + 1) r u) []
+      → next (standing (at_digits v k) p r (c ∷ u)) ≡ makes (standing (at_digits (capped (v * 10 + digit_value c)) k) (p + 1) r u) []
   digit_move v p r c u h =
-      consumed_move names (at_digits v m) (at_digits (capped (v * 10 + digit_value c)) m) p (p + 1) r c u (c ∷ u) refl refl refl refl (digit_no_cr c h) (rw h refl) refl (omega (arith, digit_width c h))
+      consumed_move names (at_digits v k) (at_digits (capped (v * 10 + digit_value c)) k) p (p + 1) r c u (c ∷ u) clear clear refl refl (digit_no_cr c h) (rw h refl) refl (omega (arith, digit_width c h))
 
   over_digits : (ds : List ℕ) (v p r : ℕ) (u : List ℕ) → list_all is_decimal ds ≡ true
-      → Leads next (at (at_digits v m) p r (ds ++ u)) [] (at (at_digits (number_of v ds) m) (p + length ds) r u)
-  over_digits [] v p r u h = let P : ℕ → Type 0 = λ q. Leads next (at (at_digits v m) p r u) [] (at (at_digits v m) q r u) in let same : p ≡ p + 0 = omega arith in subst P same here
+      → Leads next (standing (at_digits v k) p r (ds ++ u)) [] (standing (at_digits (number_of v ds) k) (p + length ds) r u)
+  over_digits [] v p r u h = let P : ℕ → Type 0 = λ q. Leads next (standing (at_digits v k) p r u) [] (standing (at_digits v k) q r u) in let same : p ≡ p + 0 = omega arith in subst P same here
   over_digits (d ∷ ds) v p r u h =
       let parts = and_parts (is_decimal d) _ h in
-      let P : ℕ → Type 0 = λ q. Leads next (at (at_digits v m) p r (d ∷ (ds ++ u))) [] (at (at_digits (number_of v (d ∷ ds)) m) q r u) in
+      let P : ℕ → Type 0 = λ q. Leads next (standing (at_digits v k) p r (d ∷ (ds ++ u))) [] (standing (at_digits (number_of v (d ∷ ds)) k) q r u) in
       let same : (p + 1) + length ds ≡ p + length (d ∷ ds) = omega arith in
       subst P same (onward (digit_move v p r d (ds ++ u) parts.0) (over_digits ds (capped (v * 10 + digit_value d)) (p + 1) r u parts.1))
 
-  semicolon_move : (v p r : ℕ) (u : List ℕ) → next (at (at_digits v m) p r (59 ∷ u)) ≡ makes (at (at_end v m) (p + 1) r u) []
-  semicolon_move v p r u = refl
+  semicolon_move : (v p r : ℕ) (u : List ℕ) → next (standing (at_digits v k) p r (59 ∷ u)) ≡ makes (standing (at_end v k) (p + 1) r u) []
+  semicolon_move v p r u = consumed_move names (at_digits v k) (at_end v k) p (p + 1) r 59 u (59 ∷ u) clear clear refl refl refl refl refl refl
 
-  end_move : (v p r c : ℕ) (u : List ℕ) → next (at (at_end v m) p r (c ∷ u)) ≡ makes (standing (behind_reference m) p r (c ∷ u)) (record { began = r; token = character (numeric v) } ∷ [])
-  end_move v p r c u =
-      (by_rows (tag_rules names) has_row row (tags_rows names)).by_row (at (at_end v m) p r (c ∷ u)) c u refl refl refl
-
-  pub decimal_leads : (d : ℕ) (ds : List ℕ) (c : ℕ) (u : List ℕ) (p r : ℕ) → list_all is_decimal (d ∷ ds) ≡ true
-      → Leads next (at (at_number m) p r ((d ∷ ds) ++ (59 ∷ (c ∷ u)))) (record { began = r; token = character (numeric (number_of 0 (d ∷ ds))) } ∷ [])
-      (standing (behind_reference m) (((p + length (d ∷ ds)) + 1)) r (c ∷ u))
-  decimal_leads d ds c u p r h =
+  pub over_decimal : (d : ℕ) (ds u : List ℕ) (p r : ℕ) → list_all is_decimal (d ∷ ds) ≡ true
+      → Leads next (standing (at_number k) p r ((d ∷ ds) ++ (59 ∷ u))) [] (standing (at_end (number_of 0 (d ∷ ds)) k) ((p + length (d ∷ ds)) + 1) r u)
+  over_decimal d ds u p r h =
       let parts = and_parts (is_decimal d) _ h in
-      onward (start_move p r d (ds ++ (59 ∷ (c ∷ u))) parts.0)
-      (onward (digits_move p r d (ds ++ (59 ∷ (c ∷ u))) parts.0)
-      (Leads-join (over_digits (d ∷ ds) 0 p r (59 ∷ (c ∷ u)) h)
-      (onward (semicolon_move (number_of 0 (d ∷ ds)) (p + length (d ∷ ds)) r (c ∷ u))
-      (onward (end_move (number_of 0 (d ∷ ds)) ((p + length (d ∷ ds)) + 1) r c u) here))))
+      onward (start_move p r d (ds ++ (59 ∷ u)) parts.0)
+      (onward (digits_move p r d (ds ++ (59 ∷ u)) parts.0)
+      (Leads-join (over_digits (d ∷ ds) 0 p r (59 ∷ u) h)
+      (onward (semicolon_move (number_of 0 (d ∷ ds)) (p + length (d ∷ ds)) r u) here)))
+
+-- in the data state it is emitted
+module _ (names : List Reference) (m : Machine) where
+  sign_move : (p r : ℕ) (u : List ℕ) → move (tag_rules names) (standing (at_reference m) p r (35 ∷ u)) ≡ makes (standing (at_number (at_reference m)) (p + 1) r u) []
+  sign_move p r u = refl
+
+  end_move : (v p r c : ℕ) (u : List ℕ)
+      → move (tag_rules names) (standing (at_end v (at_reference m)) p r (c ∷ u)) ≡ makes (standing (behind_reference m) p r (c ∷ u)) (record { began = r; token = character (numeric v) } ∷ [])
+  end_move v p r c u =
+      (by_rows (tag_rules names) has_row row (tags_rows names)).by_row (standing (at_end v (at_reference m)) p r (c ∷ u)) c u refl refl refl
+
+  decimal_leads : (d : ℕ) (ds : List ℕ) (c : ℕ) (u : List ℕ) (p r : ℕ) → list_all is_decimal (d ∷ ds) ≡ true
+      → Leads (move (tag_rules names)) (standing (at_data m) p r (38 ∷ (35 ∷ ((d ∷ ds) ++ (59 ∷ (c ∷ u)))))) (record { began = p; token = character (numeric (number_of 0 (d ∷ ds))) } ∷ [])
+      (standing (behind_reference m) ((((p + 1) + 1) + length (d ∷ ds)) + 1) p (c ∷ u))
+  decimal_leads d ds c u p r h =
+      onward (ampersand_move names m p r (35 ∷ ((d ∷ ds) ++ (59 ∷ (c ∷ u)))))
+      (onward (sign_move (p + 1) p ((d ∷ ds) ++ (59 ∷ (c ∷ u))))
+      (Leads-join (over_decimal names (at_reference m) refl d ds (c ∷ u) ((p + 1) + 1) p h)
+      (onward (end_move (number_of 0 (d ∷ ds)) ((((p + 1) + 1) + length (d ∷ ds)) + 1) p c u) here)))
+
+-- in a value it goes behind what was read of it
+module _ (names : List Reference) (last : Option (List ℕ)) (b : Building) where
+  value_sign : (back : Return) (p r : ℕ) (u : List ℕ)
+      → move (tag_rules names) (standing (referring back last b) p r (35 ∷ u)) ≡ makes (standing (at_number (referring back last b)) (p + 1) r u) []
+  value_sign back p r u = consumed_move names (referring back last b) (at_number (referring back last b)) p (p + 1) r 35 u (35 ∷ u) refl refl refl refl refl refl refl refl
+
+  value_end : (back : Return) → is_in_value back ≡ true → (v p r c : ℕ) (u : List ℕ)
+      → move (tag_rules names) (standing (at_end v (referring back last b)) p r (c ∷ u)) ≡ makes (tagging_at last (return_state back) (put Value (numeric v ∷ []) b) p r (c ∷ u)) []
+  value_end DoubleQuoted h v p r c u =
+      (by_rows (tag_rules names) has_row row (tags_rows names)).by_row (standing (at_end v (referring DoubleQuoted last b)) p r (c ∷ u)) c u refl refl refl
+  value_end SingleQuoted h v p r c u =
+      (by_rows (tag_rules names) has_row row (tags_rows names)).by_row (standing (at_end v (referring SingleQuoted last b)) p r (c ∷ u)) c u refl refl refl
+  value_end Unquoted h v p r c u =
+      (by_rows (tag_rules names) has_row row (tags_rows names)).by_row (standing (at_end v (referring Unquoted last b)) p r (c ∷ u)) c u refl refl refl
+  value_end _ h v p r c u = cc
+
+  decimal_in_value : (d : ℕ) (ds : List ℕ) (c : ℕ) (u : List ℕ) → list_all is_decimal (d ∷ ds) ≡ true → (back : Return) → is_in_value back ≡ true → (p r : ℕ)
+      → Leads (move (tag_rules names)) (tagging_at last (return_state back) b p r (38 ∷ (35 ∷ ((d ∷ ds) ++ (59 ∷ (c ∷ u)))))) []
+      (tagging_at last (return_state back) (put Value (numeric (number_of 0 (d ∷ ds)) ∷ []) b) ((((p + 1) + 1) + length (d ∷ ds)) + 1) r (c ∷ u))
+  decimal_in_value d ds c u h back in_value p r =
+      let text : List ℕ = 35 ∷ ((d ∷ ds) ++ (59 ∷ (c ∷ u))) in
+      onward (into_reference names last b back in_value p (p + 1) r text (38 ∷ text) refl refl)
+      (onward (value_sign back (p + 1) r ((d ∷ ds) ++ (59 ∷ (c ∷ u))))
+      (Leads-join (over_decimal names (referring back last b) refl d ds (c ∷ u) ((p + 1) + 1) r h)
+      (onward (value_end back in_value (number_of 0 (d ∷ ds)) ((((p + 1) + 1) + length (d ∷ ds)) + 1) r c u) here)))
 
 -- digits are ASCII
 digit_ascii : (c : ℕ) → is_decimal c ≡ true → c < 128
@@ -114,6 +154,9 @@ digits_ascii (d ∷ ds) more h =
 behind_digits : (ds more : List ℕ) → drop (suc (length ds)) (ds ++ (59 ∷ more)) ≡ more
 behind_digits [] more = refl
 behind_digits (d ∷ ds) more = behind_digits ds more
+
+ends_at : (p n : ℕ) → (((p + 1) + 1) + n) + 1 ≡ p + 1 + suc (suc n)
+ends_at p n = omega arith
 
 -- a decimal reference, its `#` first
 pub decimal_reference : (names : List Reference) (u : List ℕ) (value count : ℕ) → IsDecimal u value count → (numeric value == 0) ≡ false
@@ -133,13 +176,14 @@ decimal_reference names u value count x some =
           let P : List ℕ → ℕ → Type 0 = λ xs q. Leads (move (tag_rules names)) (standing (at_data m) p r (38 ∷ (35 ∷ (ds ++ (59 ∷ (x.next ∷ x.rest))))))
           (record { began = p; token = character (numeric (number_of 0 ds)) } ∷ []) (standing (behind_reference m) q p xs) in
           let Q : ℕ → Type 0 = λ q. P (x.next ∷ x.rest) q in
-          let at_end : ((p + 1) + 1 + length ds) + 1 ≡ p + 1 + (suc (suc (length ds))) = omega arith in
           let O : List ℕ → Type 0 = λ xs. P xs (p + 1 + (suc (suc (length ds)))) in
-          subst O (sym (behind_digits ds (x.next ∷ x.rest)))
-          (subst Q at_end
-          (onward (ampersand_move names m p r (35 ∷ (ds ++ (59 ∷ (x.next ∷ x.rest)))))
-          (onward (sign_move names m (p + 1) p (ds ++ (59 ∷ (x.next ∷ x.rest))))
-          (decimal_leads names m x.d x.ds x.next x.rest ((p + 1) + 1) p x.digits))));
+          subst O (sym (behind_digits ds (x.next ∷ x.rest))) (subst Q (ends_at p (length ds)) (decimal_leads names m x.d x.ds x.next x.rest p r x.digits));
+      in_value = λ back h last b p r.
+          let P : List ℕ → ℕ → Type 0 = λ xs q. Leads (move (tag_rules names)) (tagging_at last (return_state back) b p r (38 ∷ (35 ∷ (ds ++ (59 ∷ (x.next ∷ x.rest)))))) []
+          (tagging_at last (return_state back) (put Value (numeric (number_of 0 ds) ∷ []) b) q r xs) in
+          let Q : ℕ → Type 0 = λ q. P (x.next ∷ x.rest) q in
+          let O : List ℕ → Type 0 = λ xs. P xs (p + 1 + (suc (suc (length ds)))) in
+          subst O (sym (behind_digits ds (x.next ∷ x.rest))) (subst Q (ends_at p (length ds)) (decimal_in_value names last b x.d x.ds x.next x.rest x.digits back h p r));
     } in
     let A : List ℕ → Type 0 = λ text. R (number_of 0 ds) (suc (suc (length ds))) text in
     let B : ℕ → Type 0 = λ v. R v (suc (suc (length ds))) u in

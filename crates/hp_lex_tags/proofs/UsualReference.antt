@@ -103,19 +103,6 @@ pub begins-at : (xs : List ℕ) (c : ℕ) → first xs ≡ Some c → (rest : Li
 begins-at [] c h = cc
 begins-at (x ∷ xs) c h = let same : x ≡ c = cc in (xs, ap (λ (y : ℕ). y ∷ xs) same)
 
--- a named reference
-pub named_reference : (names : List Reference) (u : List ℕ) (f : Found) → IsUsual names u f → IsReference names u f.first f.length
-named_reference names u f usual =
-    let rest = begins-at u usual.c usual.first in
-    let width : sum_by len_utf8 (take f.length u) ≡ f.length = ascii_width f.length u usual.ascii.within usual.ascii.ascii in
-    record {
-      ascii = usual.ascii;
-      some = usual.some;
-      leads = λ m p r.
-          let P : ℕ → Type 0 = λ n. Leads (move (tag_rules names)) (standing (at_data m) p r (38 ∷ u)) (record { began = p; token = character f.first } ∷ []) (standing (behind_reference m) (p + 1 + n) p (drop f.length u)) in
-          subst P width (name_leads names m f usual.c u rest.0 rest.1 usual.letter usual.closed usual.longest usual.alone p r);
-    }
-
 -- the promise of a reference that was read at once
 pub reference_turn : (names : List Reference) (s : LexState) (old mid new : Unread) (c n : ℕ) (r place : ℕ) → s.machine.state ≡ Data
     → s.machine.after_cr ≡ false → s.ahead ≡ [] → place ≡ old.place → first old.text ≡ Some 38 → IsReference names (drop 1 old.text) c n

@@ -40,6 +40,10 @@ tagging last s b = record {
 }
 
 -- a lexer that stands there, and rested last at the start of the tag
+abbrev pub tagging_at : Option (List ℕ) → State → Building → ℕ → ℕ → List ℕ → Lexing
+tagging_at last s b place rested unread = record { machine = tagging last s b; place = place; rested = rested; unread = unread }
+
+-- the same at a place of the page
 abbrev pub within : Option (List ℕ) → ℕ → State → Building → Unread → Lexing
 within last start s b input = record { machine = tagging last s b; place = input.place; rested = start; unread = input.text }
 

@@ -17,7 +17,7 @@ ghost use Rattle.hp_tokens.specs.Plain.{none_of, tag_name_stops, attribute_name_
 ghost use Rattle.hp_tokens.specs.PlainLaws.{none-high};
 
 use crate::attribute_name::AttributeNameBytes;
-use crate::usual_reference::{is_at_ampersand, usual_name};
+use crate::usual_reference::{is_at_ampersand, usual};
 use hp_elements::{Attribute, AttributeSpace, Chain, Name, Namespace, Tag, Text, Token};
 use hp_names::Names;
 use hp_tokens::{
@@ -158,7 +158,7 @@ fn behind_unquoted(input: &mut Cursor<'_>) -> Way
     Way::Left
 }
 
-/// A named reference at the front that is decided whatever follows, which is taken.
+/// A named or a decimal reference at the front that is decided whatever follows, which is taken.
 #[inline(never)]
 fn take_reference(names: &Names, input: &mut Cursor<'_>) -> Option<char>
     ensures some { IfSome result (λ c. ReferenceTaken names.now input.old c input.new) }
@@ -167,10 +167,10 @@ fn take_reference(names: &Names, input: &mut Cursor<'_>) -> Option<char>
     if !is_at_ampersand(input) {
         return None;
     }
-    let found = usual_name(names, input.behind_front())?;
+    let usual = usual(names, input.behind_front())?;
     input.skip_ascii(1);
-    input.skip_ascii(found.length as usize);
-    Some(found.first)
+    input.skip_ascii(usual.length);
+    Some(usual.stands_for)
 }
 
 /// The rest of a value in quotes, while references come next that are decided whatever follows.

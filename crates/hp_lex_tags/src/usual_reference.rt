@@ -1,4 +1,4 @@
-// A named or a decimal reference in the data state, read straight from the page: what the rows do code point by code point, at once.
+// A named or a decimal reference in the data state or in an attribute's value, read straight from the page: what the rows do code point by code point, at once.
 ghost use Rattle.std.specs.Prelude.{◌≡◌, ◌+◌, ◌*◌, ◌-◌, ◌≤◌, ◌<◌, [], ◌∷◌, Some, map, length, true, IfSome, IfNone, IsUtf8};
 ghost use Rattle.std.specs.List.{list_all};
 ghost use Rattle.std.specs.Str.{chars};
@@ -21,7 +21,7 @@ use hp_tokens::{Cursor, LexState, State};
 
 /// The reference name at the front of a text, where it ends with a semicolon, so that it is decided whatever follows, is ASCII and
 /// stands for one code point, which is not U+0000.
-pub(crate) fn usual_name(names: &Names, text: &[u8]) -> Option<Found>
+fn usual_name(names: &Names, text: &[u8]) -> Option<Found>
     requires utf8 { IsUtf8 text.now }
     ensures { IfSome result (λ found. IsUsual names.now (chars text.now) found) }
 {
@@ -67,9 +67,9 @@ fn decimal(text: &[u8]) -> Option<(u32, usize)>
 
 /// A reference that is decided whatever follows: what it stands for, and how many code points it has behind its `&`.
 #[derive(Clone, Copy)]
-struct UsualReference {
-    stands_for: char,
-    length: usize,
+pub(crate) struct UsualReference {
+    pub(crate) stands_for: char,
+    pub(crate) length: usize,
 }
 
 /// The decimal reference at the front of a text, behind its `&#`.
@@ -90,7 +90,7 @@ fn usual_number(names: &Names, text: &[u8]) -> Option<UsualReference>
 }
 
 /// The reference at the front of a text, behind its `&`.
-fn usual(names: &Names, text: &[u8]) -> Option<UsualReference>
+pub(crate) fn usual(names: &Names, text: &[u8]) -> Option<UsualReference>
     requires utf8 { IsUtf8 text.now }
     ensures { IfSome result (λ usual. IsReference names.now (chars text.now) usual.stands_for usual.length) }
 {

@@ -1,7 +1,7 @@
 use Rattle.std.proofs.Common.{ℕ, List, sym, subst}
 use Rattle.std.specs.Str.{chars}
 use Rattle.hp_lex_tags.specs.Decided.{IsReference}
-use Rattle.hp_lex_tags.proofs.UsualReference.{named_reference}
+use Rattle.hp_lex_tags.proofs.ValueReferences.{named_reference}
 use Rattle.hp_lex_tags.proofs.Decimals.{behind_sign}
 use Rattle.hp_lex_tags.proofs.usual_reference.usual.Goals as goal
 
