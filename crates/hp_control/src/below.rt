@@ -1,11 +1,12 @@
 //! The state below a chunk, as far as it is known.
-ghost use Rattle.std.specs.Prelude.{◌≡◌, [], IfOk, Some, None, Ok};
+ghost use Rattle.std.specs.Prelude.{◌≡◌, ◌∷◌, ◌++◌, [], IfOk, Some, None, Ok};
 ghost use Rattle.hp_control.specs.Truth.{answer_of, fact_answer};
 ghost use Rattle.hp_control.specs.Nothing.{nothing};
 ghost use Rattle.hp_control.specs.Plan.{Heard, Runs, asks, gives};
 ghost use Rattle.hp_control.specs.declared.question.Question.{Question};
 ghost use Rattle.hp_control.specs.declared.question.Answer.{Answer};
 
+use crate::items::lose;
 use crate::question::{Answer, Assumptions, EntryKind, FactKind, Kept, Question};
 use hp_elements::{List, Mode, Name, NoMemory, Rest};
 use std::alloc::Global;
@@ -124,15 +125,24 @@ impl<P: Predictor + Drop> Below for Guess<P> {
     ghost heard = { λ guess. record { says = P.says guess.predictor; kept = Some guess.kept } };
 
     fn ask(&mut self, alloc: Global, question: Question) -> Result<Answer, NoMemory> {
-        let answer = self.predictor.say(alloc, &question)?;
-        let kept = answer.copy(alloc)?;
-        self.kept.push(
-            alloc,
-            Kept {
-                question,
-                answer: kept,
-            },
-        )?;
-        Ok(answer)
+        match self.predictor.say(alloc, &question) {
+            Ok(answer) => keep(alloc, &mut self.kept, Kept { question, answer }),
+            Err(failed) => {
+                lose(question);
+                Err(failed)
+            }
+        }
+    }
+}
+
+/// Keeps a pair, and gives its answer.
+fn keep(alloc: Global, pairs: &mut Assumptions, pair: Kept) -> Result<Answer, NoMemory>
+    ensures kept { IfOk result (λ _. pairs.new ≡ pairs.old ++ pair ∷ []) }
+    ensures answer { IfOk result (λ answer. answer ≡ pair.answer) }
+{
+    pairs.push(alloc, pair)?;
+    match pairs.last() {
+        Some(pair) => pair.answer.copy(alloc),
+        None => unreachable!(),
     }
 }

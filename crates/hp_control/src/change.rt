@@ -11,7 +11,7 @@ use hp_tokens::LexState;
 use std::alloc::{AllocError, AllocFailed};
 
 /// What becomes of the form pointer.
-#[derive(Clone, Copy, PartialEq, Eq)]
+#[derive(Clone, Copy)]
 pub enum FormChange {
     Kept,
     Cleared,
@@ -47,7 +47,7 @@ pub struct Change {
 }
 
 /// Why an act isn't carried out.
-#[derive(Clone, Copy, PartialEq, Eq)]
+#[derive(Clone, Copy)]
 pub enum Refusal {
     /// It touches what was there before the chunk.
     Crossed(Crossing),

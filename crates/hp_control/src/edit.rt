@@ -1,6 +1,6 @@
 //! The edits of a document tree. What they do to a tree stands in specs/Tree.antt.
 
-ghost use Rattle.std.specs.Prelude.{◌≡◌, ◌+◌, ◌∷◌, ◌++◌, [], length, IsTrue, ◌↔◌, IfOk, OnOk, OnErr};
+ghost use Rattle.std.specs.Prelude.{◌≡◌, ◌+◌, ◌∷◌, ◌++◌, [], length, IsTrue, ◌↔◌, OnOk, OnErr};
 ghost use Rattle.hp_control.specs.Edits.{room_of, room_of_all};
 
 use crate::items::{begin, lose};
@@ -10,7 +10,7 @@ use std::marker::Model;
 use std::mem;
 
 /// Which element an edit means.
-#[derive(Clone, Copy, PartialEq, Eq, Debug)]
+#[derive(Clone, Copy)]
 pub enum Ref {
     /// The element of this id. The document is 0.
     Fixed(u64),
@@ -21,7 +21,7 @@ pub enum Ref {
 }
 
 /// Where a child goes.
-#[derive(Clone, Copy, PartialEq, Eq, Debug)]
+#[derive(Clone, Copy)]
 pub enum Place {
     /// Last among the children of an element. A template has its contents there.
     Into(Ref),

@@ -70,7 +70,7 @@ pub enum Question {
 }
 
 /// A fact of the older state as a whole.
-#[derive(Clone, Copy, PartialEq, Eq)]
+#[derive(Clone, Copy)]
 pub enum FactKind {
     Quirks,
     /// The name of the last start tag.
@@ -191,7 +191,7 @@ pub struct Kept {
 pub type Assumptions = List<Kept>;
 
 /// How the handling of a token touches what was there before the chunk.
-#[derive(Clone, Copy, PartialEq, Eq)]
+#[derive(Clone, Copy)]
 pub enum Crossing {
     /// It removes an older formatting entry other than by a clearing.
     X1,

@@ -7,8 +7,7 @@ ghost use Rattle.hp_control.specs.Nothing.{nothing};
 use crate::edit::{Child, Edit, Place, Ref};
 
 impl<'p> Edit<'p> {
-    /// Tells each element by its id, where no older state is below: an own element's number is its id there. What is told so
-    /// already isn't written.
+    /// Tells each element by its id, where no older state is below: an own element's number is its id there.
     pub fn tell(&mut self)
         ensures edit { self.new ≡ named_edit nothing self.old }
         ensures fixed { IsFixedEdit self.new }
@@ -18,7 +17,7 @@ impl<'p> Edit<'p> {
         }
         match self {
             Edit::NewElement { .. } => {}
-            Edit::Put { child, .. } => tell_child(child),
+            Edit::Put { child, .. } => child.tell(),
             Edit::Detach { node } => tell_node(node),
             Edit::MoveChildren { from, to } => {
                 tell_node(from);
@@ -29,13 +28,16 @@ impl<'p> Edit<'p> {
     }
 }
 
-fn tell_child(child: &mut Child<'_>)
-    ensures child { child.new ≡ named_child nothing child.old }
-    ensures fixed { IsFixedChild child.new }
-{
-    match child {
-        Child::Element(node) => tell_node(node),
-        Child::Text(_) | Child::Comment(_) | Child::Doctype(_) => {}
+impl<'p> Child<'p> {
+    /// Tells an element by its id, where no older state is below.
+    pub fn tell(&mut self)
+        ensures child { self.new ≡ named_child nothing self.old }
+        ensures fixed { IsFixedChild self.new }
+    {
+        match self {
+            Child::Element(node) => tell_node(node),
+            Child::Text(_) | Child::Comment(_) | Child::Doctype(_) => {}
+        }
     }
 }
 
@@ -56,9 +58,18 @@ fn tell_node(node: &mut Ref)
     ensures node { node.new ≡ named nothing node.old }
     ensures fixed { IsFixed node.new }
 {
-    match *node {
-        Ref::Fixed(_) => {}
-        Ref::Own(number) => *node = Ref::Fixed(number),
-        Ref::Older(_) => *node = Ref::Fixed(0),
+    *node = Ref::Fixed(node.told());
+}
+
+impl Ref {
+    /// The id of the element that it means, where no older state is below: an own element's number is its id there.
+    #[inline]
+    pub fn told(self) -> u64
+        ensures { named nothing self ≡ Ref.Fixed result }
+    {
+        match self {
+            Ref::Fixed(id) | Ref::Own(id) => id,
+            Ref::Older(_) => 0,
+        }
     }
 }
