@@ -5,6 +5,7 @@ use crate::NoMemory;
 use crate::owned::OwnedText;
 use hp_elements::{Attribute, AttributeSpace, Chain, Name};
 use std::alloc::Global;
+use std::mem;
 
 /// A part of the token under construction, to which text is appended.
 #[derive(Clone, Copy)]
@@ -205,33 +206,40 @@ pub(crate) fn finish(
 {
     match attribute {
         None => Ok(()),
-        Some(attribute) => finish_one(alloc, attributes, attribute),
+        Some(attribute) => {
+            let mut attribute = attribute;
+            finish_one(alloc, attributes, &mut attribute)
+        }
     }
 }
 
+/// The same of one that is there. Its value is taken.
 fn finish_one(
     alloc: Global,
     attributes: &mut Chain<Attribute>,
-    attribute: NewAttribute,
+    attribute: &mut NewAttribute,
 ) -> Result<(), NoMemory>
-    ensures { OnOk result (attributes.new ≡ added attributes.old (Some attribute)) }
+    ensures { OnOk result (attributes.new ≡ added attributes.old (Some attribute.old)) }
 {
     if names(attributes, &attribute.name) {
         return Ok(());
     }
-    let attribute = finished_attribute(alloc, attribute)?;
-    attributes.push(alloc, attribute)?;
+    let finished = finished_attribute(alloc, attribute)?;
+    attributes.push(alloc, finished)?;
     Ok(())
 }
 
-/// The attribute that was built.
-fn finished_attribute(alloc: Global, attribute: NewAttribute) -> Result<Attribute, NoMemory>
-    ensures { IfOk result (λ finished. finished ≡ record { space = spaces.Plain; name = attribute.name; value = attribute.value }) }
+/// The attribute that was built. Its value is taken.
+fn finished_attribute(alloc: Global, attribute: &mut NewAttribute) -> Result<Attribute, NoMemory>
+    ensures { IfOk result (λ finished. finished ≡ record { space = spaces.Plain; name = attribute.old.name; value = attribute.old.value }) }
 {
+    let value = mem::replace(&mut attribute.value, OwnedText::new());
+    let value = value.into_text(alloc)?;
+    let name = Name::from_text(alloc, attribute.name.as_str())?;
     Ok(Attribute {
         space: AttributeSpace::Plain,
-        name: Name::from_text(alloc, attribute.name.as_str())?,
-        value: attribute.value.into_text(alloc)?,
+        name,
+        value,
     })
 }
 
