@@ -7,7 +7,7 @@ ghost use Rattle.hp_arena.specs.Nodes.{links_of, SameKinds, IsClosed, IsRelinked
 ghost use Rattle.hp_arena.specs.Ring.{joined, unlinked, inserted, spliced};
 
 /// What a node is. The numbers are places in the tree's other lists.
-#[derive(Clone, Copy, PartialEq, Eq, Debug)]
+#[derive(Clone, Copy)]
 pub enum Kind {
     /// The end of the children of the element of this number.
     End(u32),
@@ -18,7 +18,7 @@ pub enum Kind {
 }
 
 /// A node with the nodes beside it.
-#[derive(Clone, Copy, Debug)]
+#[derive(Clone, Copy)]
 pub struct Node {
     pub prev: u32,
     pub next: u32,

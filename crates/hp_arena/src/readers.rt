@@ -6,7 +6,7 @@ ghost use Rattle.hp_arena.specs.Readers.{is_template};
 use hp_elements::{Chain, Known, Namespace, Tag, Text};
 
 /// Where an item stands: at which place in the list of children of which element, and by what number it is found.
-#[derive(Clone, Copy, PartialEq, Eq, Debug)]
+#[derive(Clone, Copy)]
 pub struct Spot {
     pub parent: u32,
     pub place: u32,
@@ -14,7 +14,7 @@ pub struct Spot {
 }
 
 /// Where a reader stands in a tree.
-#[derive(Clone, Copy, PartialEq, Eq, Debug)]
+#[derive(Clone, Copy)]
 pub enum At {
     Document,
     /// An item in a list of children.

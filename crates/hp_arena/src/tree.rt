@@ -1,7 +1,7 @@
 //! The tree that callers see: its edits and its readers.
 
 ghost use Rattle.std.specs.Prelude.{◌≡◌, ◌+◌, ◌<◌, ◌≤◌, length, map, [], ℕ, IfOk, IfSome, OnOk, OnErr, MatchOption};
-ghost use Rattle.hp_control.specs.Apply.{named, named_child, named_edit};
+ghost use Rattle.hp_control.specs.Apply.{named_child, named_edit};
 ghost use Rattle.hp_control.specs.Nothing.{nothing};
 ghost use Rattle.hp_control.specs.Edits.{room_of, room_of_all};
 ghost use Rattle.hp_control.specs.Tree.{document, applied, applied_all, branch, IsForest};
@@ -81,7 +81,9 @@ impl<'p> Tree<'p> {
         self.arena.apply(edit, apart)
     }
 
-    /// Makes all edits, in order, each told where no older state is below, and leaves none.
+    /// Makes all edits, in order, each told where no older state is below, and leaves none. At an `Err`, which comes only for want
+    /// of memory, also for a tree of more than 2^29 nodes as at `reserve`, the branches and the edits are as before; there may be
+    /// more room than before.
     pub fn grow(&mut self, alloc: Global, edits: &mut Edits<'p>) -> Result<(), AllocError>
         ensures branches { OnOk result (self.new.branches ≡ applied_all self.old.branches (map (named_edit nothing) edits.old)) }
         ensures edits { OnOk result (edits.new ≡ []) }
@@ -119,7 +121,7 @@ impl<'p> Tree<'p> {
                 place: Place::Into(parent),
                 ..
             } => {
-                let parent = told(*parent);
+                let parent = parent.told();
                 self.put_into(edit, parent);
             }
             _ => self.make_seldom(edit),
@@ -151,7 +153,7 @@ impl<'p> Tree<'p> {
     {
         match child {
             Child::Text(text) => self.put_text(text, parent),
-            Child::Element(node) => self.put_element(told(*node), parent),
+            Child::Element(node) => self.put_element(node.told(), parent),
             Child::Comment(_) | Child::Doctype(_) => self.put_seldom(child, parent),
         }
     }
@@ -163,7 +165,8 @@ impl<'p> Tree<'p> {
         ensures branches { self.new.branches ≡ applied self.old.branches (Edit.Put (named_child nothing child.old) (Place.Into (Ref.Fixed parent))) }
         ensures spare { self.old.spare ≤ self.new.spare + 1 }
     {
-        let child = told_child(taken_child(child));
+        child.tell();
+        let child = taken_child(child);
         self.apply(Edit::Put {
             child,
             place: Place::Into(Ref::Fixed(parent)),
@@ -267,28 +270,6 @@ fn taken_edit<'p>(edit: &mut Edit<'p>) -> Edit<'p>
             node: Ref::Fixed(0),
         },
     )
-}
-
-/// The id of an element, where no older state is below.
-fn told(node: Ref) -> u64
-    ensures { named nothing node ≡ Ref.Fixed result }
-{
-    match node {
-        Ref::Fixed(id) | Ref::Own(id) => id,
-        Ref::Older(_) => 0,
-    }
-}
-
-/// The child told so.
-fn told_child(child: Child<'_>) -> Child<'_>
-    ensures { result ≡ named_child nothing child.entry }
-{
-    match child {
-        Child::Element(node) => Child::Element(Ref::Fixed(told(node))),
-        Child::Text(text) => Child::Text(text),
-        Child::Comment(text) => Child::Comment(text),
-        Child::Doctype(doctype) => Child::Doctype(doctype),
-    }
 }
 
 impl<'p> Tree<'p> {
