@@ -1,5 +1,5 @@
 // What the lexer holds between two texts, and its unread code points: those that were read ahead, and then the cursor's.
-ghost use Rattle.std.specs.Prelude.{◌≡◌, ◌≤◌, ◌-◌, ℕ, List, [], ◌∷◌, ◌++◌, IfOk, IfSome, IfNone, None, drop, length};
+ghost use Rattle.std.specs.Prelude.{◌≡◌, ◌≤◌, ℕ, List, [], ◌∷◌, ◌++◌, IfOk, IfSome, IfNone, None, drop, length};
 
 use crate::NoMemory;
 use crate::cursor::Cursor;
@@ -87,15 +87,6 @@ impl LexState {
         requires { held self.now ≤ input.now.place }
         ensures { result ≡ place_of self.now input.now }
     {
-        place_before(input.place(), self.ahead.len_bytes())
+        input.place() - self.ahead.len_bytes()
     }
-}
-
-/// The place so many bytes before another.
-#[inline(always)]
-fn place_before(place: u64, held: u64) -> u64
-    requires { held ≤ place }
-    ensures { result ≡ place - held }
-{
-    place - held
 }

@@ -225,16 +225,8 @@ fn start_token<'p>(
 {
     let self_closing = tag.self_closing;
     let (tag, name) = finished_tag(alloc, tag)?;
-    keep_last(last_tag, name);
-    Ok(Token::Start { self_closing, tag })
-}
-
-/// Keeps a start tag's name as the last one.
-#[inline(always)]
-fn keep_last(last_tag: &mut Option<OwnedText>, name: OwnedText)
-    ensures { last_tag.new ≡ Some name }
-{
     *last_tag = Some(name);
+    Ok(Token::Start { self_closing, tag })
 }
 
 /// The tag that was built, and its name.

@@ -79,7 +79,7 @@ impl OwnedText {
         ensures err { OnErr result (self.new ≡ []) }
     {
         if let Some(known) = name.known() {
-            self.store = named(known);
+            self.store = Store::Named(known);
             return Ok(());
         }
         self.clear();
@@ -211,16 +211,6 @@ impl OwnedText {
     {
         self.as_str() == other.as_str()
     }
-}
-
-ghost use Rattle.hp_tokens.specs.declared.owned.Store.TheVariants as stores;
-
-/// The text of a known name.
-#[inline(always)]
-fn named(name: Known) -> Store
-    ensures { result ≡ stores.Named name }
-{
-    Store::Named(name)
 }
 
 /// The two texts, one behind the other: with room for more, where the first one is not empty.

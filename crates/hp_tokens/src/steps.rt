@@ -45,14 +45,6 @@ fn read_as(c: char) -> char
     if c == '\r' { '\n' } else { c }
 }
 
-/// Whether it is CR.
-#[inline(always)]
-fn is_cr(c: char) -> bool
-    ensures { result ≡ (c == 13) }
-{
-    c == '\r'
-}
-
 /// One code point, by the row of the state. Answers whether something was appended.
 #[inline]
 fn read<T: Table>(
@@ -74,7 +66,7 @@ fn read<T: Table>(
     match T::row(alloc, &mut state.machine, Some(read_as(c)), tokens)? {
         Reads::Consume => {
             let _ = state.take(input);
-            state.machine.after_cr = is_cr(c);
+            state.machine.after_cr = c == '\r';
         }
         Reads::Again => {}
         Reads::End => unreachable!(),

@@ -27,7 +27,7 @@ returns-clause-step g c = λ next rows rested settled. elim c.match-branch-2.bra
   | in-Consume w ↦
       let P : Option ℕ → Type 0 = λ o. IfSome o (Takes (record { machine = c.row.new.machine; ahead = c.args.state.now.ahead }) c.args.input.now w.take.new.self w.take.new.input) in
       let takes = subst P (w.take.ensures.value ∙ c.requires.next) w.take.ensures.takes in
-      rw (w.state-is, w.input-is, w.is_cr-state.ensures)
+      rw (w.state-is, w.input-is)
       (consumed g.T.Table.has_row g.T.Table.row_of next rows c.args.state.now c.args.input.now c.row.new.machine
       (record w.take.new.self { machine = record w.take.new.self.machine { after_cr = c.args.c == 13 } }) w.take.new.input c.args.c rested _ _ _
       c.requires.row (g.met.T.Table.fine c.args.state.now.machine (Some (read_as c.args.c)) c.requires.row) c.requires.no_line_feed settled (flag g c)
