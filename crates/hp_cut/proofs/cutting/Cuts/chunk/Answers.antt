@@ -16,3 +16,6 @@ invariant_of-result c =
       starts_at_code_point = rw c.end_at-from.ensures.place (end-boundary text cuts c.args.number utf8 c.requires.cuts_of_page (omega arith));
       ends_at_code_point = rw c.end_at-to.ensures.place (end-boundary text cuts (c.args.number + 1) utf8 c.requires.cuts_of_page (omega arith));
     }
+
+pub returns-clause-from : goal.returns-clause-from
+returns-clause-from c = c.end_at-from.ensures.place
