@@ -1,6 +1,24 @@
 use Rattle.hp_lex_raw.specs.Raw.{is_here, raw_rules}
-use Rattle.hp_lex_raw.proofs.TextRuns.{text_rows}
+use Rattle.hp_lex_raw.proofs.TextRuns.{text_rows, rcdata_blanks, rcdata_others, rawtext_blanks, rawtext_others, script_blanks, script_others}
 use Rattle.hp_lex_raw.proofs.raw.next_text.Goals as goal
+
+pub next_text-requires-clause-blanks : goal.next_text-requires-clause-blanks
+next_text-requires-clause-blanks c = rcdata_blanks c.args.state.now.machine.state c.in-Rcdata.is
+
+pub next_text-requires-clause-others : goal.next_text-requires-clause-others
+next_text-requires-clause-others c = rcdata_others c.args.state.now.machine.state c.in-Rcdata.is
+
+pub next_text-requires-in-Rawtext-clause-blanks : goal.next_text-requires-in-Rawtext-clause-blanks
+next_text-requires-in-Rawtext-clause-blanks c = rawtext_blanks c.args.state.now.machine.state c.in-Rawtext.is
+
+pub next_text-requires-in-Rawtext-clause-others : goal.next_text-requires-in-Rawtext-clause-others
+next_text-requires-in-Rawtext-clause-others c = rawtext_others c.args.state.now.machine.state c.in-Rawtext.is
+
+pub next_text-requires-in-ScriptData-clause-blanks : goal.next_text-requires-in-ScriptData-clause-blanks
+next_text-requires-in-ScriptData-clause-blanks c = script_blanks c.args.state.now.machine.state c.in-ScriptData.is
+
+pub next_text-requires-in-ScriptData-clause-others : goal.next_text-requires-in-ScriptData-clause-others
+next_text-requires-in-ScriptData-clause-others c = script_others c.args.state.now.machine.state c.in-ScriptData.is
 
 pub returns-in_ok-token-in-Rcdata-clause-turn : goal.returns-in_ok-token-in-Rcdata-clause-turn
 returns-in_ok-token-in-Rcdata-clause-turn c = c.in_ok-token-in-Rcdata.ensures.turn raw_rules is_here text_rows
