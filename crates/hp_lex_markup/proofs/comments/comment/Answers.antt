@@ -15,7 +15,10 @@ entered m n given to e same = e ∙ ap (λ (s : State). enter s m) same
 
 pub returns-in-Some-eq45 : goal.returns-in-Some-eq45
 returns-in-Some-eq45 c =
-    let to = entered c.args.machine.now c.go-in-Some-eq45.new.machine _ CommentEndDash c.go-in-Some-eq45.ensures.to refl in
     let row = on_hyphen c.args.machine.now c.args.symbol c.in-Some-eq45.field-0 c.in-Some-eq45.is (sym c.in-Some-eq45.field-0-is ∙ c.in-Some-eq45.field-0-test) in
     let P : Row → Type 0 = λ r. Follows r c.args.tokens.now c.go-in-Some-eq45.new.machine c.args.tokens.now c.go-in-Some-eq45.result in
-    subst P (sym row) (record { to = to; reads = c.go-in-Some-eq45.ensures.reads; emits = sym (append-nil c.args.tokens.now) })
+    subst P (sym row) (record {
+      to = entered c.args.machine.now c.go-in-Some-eq45.new.machine _ CommentEndDash c.go-in-Some-eq45.ensures.to refl;
+      reads = c.go-in-Some-eq45.ensures.reads;
+      emits = sym (append-nil c.args.tokens.now);
+    })
