@@ -119,7 +119,10 @@ impl<'p> Edits<'p> {
         ensures ok { OnOk result (self.new ≡ self.old ++ edit.entry ∷ []) }
         ensures err { OnErr result (self.new ≡ self.old) }
     {
-        let room = self.room.checked_add(edit.room()).ok_or(AllocError)?;
+        let Some(room) = self.room.checked_add(edit.room()) else {
+            lose(edit);
+            return Err(AllocError);
+        };
         add(alloc, &mut self.items, edit)?;
         self.room = room;
         Ok(())

@@ -11,3 +11,23 @@ returns g c =
     c.index-items-items.is
     ∙ (ap (λ l. get_or l (length l - 1 - c.args.depth) x) c.as_slice-items.ensures
     ∙ (sym (get_or-reverse xs c.args.depth x h) ∙ ap (λ l. get_or l c.args.depth x) c.self.view_is))
+
+pub overflow_sub-result : goal.overflow_sub-result
+overflow_sub-result g c =
+    let n : length c.as_slice-items.result.now ≡ length c.args.self.now = ap length c.as_slice-items.ensures ∙ (sym (length-reverse c.self.inside.items) ∙ ap length c.self.view_is) in
+    omega (arith, c.requires)
+
+pub overflow_sub-result-2 : goal.overflow_sub-result-2
+overflow_sub-result-2 g c =
+    let n : length c.as_slice-items.result.now ≡ length c.args.self.now = ap length c.as_slice-items.ensures ∙ (sym (length-reverse c.self.inside.items) ∙ ap length c.self.view_is) in
+    omega (arith, c.requires)
+
+pub offset_bounds-items-items : goal.offset_bounds-items-items
+offset_bounds-items-items g c =
+    let n : length c.as_slice-items.result.now ≡ length c.args.self.now = ap length c.as_slice-items.ensures ∙ (sym (length-reverse c.self.inside.items) ∙ ap length c.self.view_is) in
+    omega (arith, c.requires)
+
+pub bounds-items-items : goal.bounds-items-items
+bounds-items-items g c =
+    let n : length c.as_slice-items.result.now ≡ length c.args.self.now = ap length c.as_slice-items.ensures ∙ (sym (length-reverse c.self.inside.items) ∙ ap length c.self.view_is) in
+    omega (arith, c.requires)
