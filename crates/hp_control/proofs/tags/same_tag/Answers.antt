@@ -18,13 +18,13 @@ returns-then-are_among c =
     let t = c.args.other.now in
     let two : c.if-same_namespace.value ≡ (same_namespace s.namespace t.namespace && bytes_eq s.name t.name) =
     elim c.if-same_namespace.branch [
-      then-same_namespace w ↦ both (sym c.same_namespace.ensures ∙ w.if-same_namespace.true) w.value-is w.same_name.ensures
-    | else-same_namespace w ↦ neither _ (sym c.same_namespace.ensures ∙ w.if-same_namespace.false) (cc)
+      | then-same_namespace w ↦ both (sym c.same_namespace.ensures ∙ w.if-same_namespace.true) w.value-is w.same_name.ensures
+      | else-same_namespace w ↦ neither _ (sym c.same_namespace.ensures ∙ w.if-same_namespace.false) (cc)
     ] in
     let three : c.if-same_name.value ≡ (same_namespace s.namespace t.namespace && bytes_eq s.name t.name && among s.attributes t.attributes) =
     elim c.if-same_name.branch [
-      then-same_name w ↦ both (sym two ∙ w.if-same_name.true) w.value-is w.are_among.ensures
-    | else-same_name w ↦ neither _ (sym two ∙ w.if-same_name.false) (cc)
+      | then-same_name w ↦ both (sym two ∙ w.if-same_name.true) w.value-is w.are_among.ensures
+      | else-same_name w ↦ neither _ (sym two ∙ w.if-same_name.false) (cc)
     ] in
     both (sym three ∙ c.if-are_among.true) refl c.are_among-then-are_among.ensures
 
@@ -34,12 +34,12 @@ returns-else-are_among c =
     let t = c.args.other.now in
     let two : c.if-same_namespace.value ≡ (same_namespace s.namespace t.namespace && bytes_eq s.name t.name) =
     elim c.if-same_namespace.branch [
-      then-same_namespace w ↦ both (sym c.same_namespace.ensures ∙ w.if-same_namespace.true) w.value-is w.same_name.ensures
-    | else-same_namespace w ↦ neither _ (sym c.same_namespace.ensures ∙ w.if-same_namespace.false) (cc)
+      | then-same_namespace w ↦ both (sym c.same_namespace.ensures ∙ w.if-same_namespace.true) w.value-is w.same_name.ensures
+      | else-same_namespace w ↦ neither _ (sym c.same_namespace.ensures ∙ w.if-same_namespace.false) (cc)
     ] in
     let three : c.if-same_name.value ≡ (same_namespace s.namespace t.namespace && bytes_eq s.name t.name && among s.attributes t.attributes) =
     elim c.if-same_name.branch [
-      then-same_name w ↦ both (sym two ∙ w.if-same_name.true) w.value-is w.are_among.ensures
-    | else-same_name w ↦ neither _ (sym two ∙ w.if-same_name.false) (cc)
+      | then-same_name w ↦ both (sym two ∙ w.if-same_name.true) w.value-is w.are_among.ensures
+      | else-same_name w ↦ neither _ (sym two ∙ w.if-same_name.false) (cc)
     ] in
     neither _ (sym three ∙ c.if-are_among.false) c.if-are_among.false
