@@ -1,4 +1,5 @@
 pub mod Ends
+pub mod AtOnce
 pub mod Carrying
 pub mod Resetting
 pub mod Wholes

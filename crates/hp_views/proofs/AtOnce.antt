@@ -1,0 +1,58 @@
+-- What is given without a question, and what one question gives.
+use Rattle.std.specs.Prelude.{◌≡◌, ◌+◌, ◌==◌, ℕ, Bool, true, if◌then◌else◌, List, [], ◌∷◌, length, Option, Some, None, Ok, refl}
+use Rattle.std.proofs.Common.{subst, sym, ap, ◌∙◌, arith}
+use Rattle.std.proofs.lemmas.List.{append-nil}
+use Rattle.std.proofs.lemmas.Bool.{eqb-true, eq-eqb, le-ltb}
+use Rattle.hp_elements.specs.declared.kinds.Kinds.{Kinds}
+use Rattle.hp_control.specs.declared.element.FormattingEntry.{FormattingEntry}
+use Rattle.hp_control.specs.declared.element.OpenElement.{OpenElement}
+use Rattle.hp_control.specs.declared.question.Crossing.TheVariants.{X3}
+use Rattle.hp_control.specs.declared.question.Kept.{Kept}
+use Rattle.hp_control.specs.Faithful.{Split}
+use Rattle.hp_control.specs.Plan.{Heard, Runs, gives, crosses, kept_with}
+use Rattle.hp_views.specs.declared.walks.Walk.{Walk}
+use Rattle.hp_views.specs.declared.walks.Walk.TheVariants.{Found, PastAll}
+use Rattle.hp_views.specs.FieldPlans.{with_change}
+use Rattle.hp_views.specs.FormPlans.{older_off_at, older_off_plan}
+use Rattle.hp_views.specs.ListPlans.{cut}
+use Rattle.hp_views.specs.StackPlans.{own_popped, pop_plan, through_on, through_plan, seen_on, seen_plan}
+use Rattle.hp_views.specs.Asking.{ask_seen}
+use Rattle.hp_views.specs.Walks.{walk_of}
+
+nothing_kept : (kept : Option (List Kept)) → kept ≡ kept_with kept []
+nothing_kept None = refl
+nothing_kept (Some pairs) = ap Some (sym (append-nil pairs))
+
+pub gives_at_once : {X : Type 0} (h : Heard) (x : X) → Runs h h (gives x) (Ok x)
+gives_at_once h x = record { ends = refl; noted = ap (λ k. record { says = h.says; kept = k }) (nothing_kept h.kept) }
+
+pub gives_same : {X : Type 0} (h : Heard) (x y : X) → x ≡ y → Runs h h (gives x) (Ok y)
+gives_same {X} h x y e = let P : X → Type 0 = λ z. Runs h h (gives x) (Ok z) in subst P e (gives_at_once h x)
+
+-- a list cut down to its last marker
+pub cut_down : (v : Split) (es : List FormattingEntry) (n : ℕ) → es ≡ [] → n ≡ v.change.cuts + 1 → with_change (cut v.change) v ≡ with_change (record v.change { formatting = es; cuts = n }) v
+cut_down v es n e f =
+    ap (λ xs. with_change (record v.change { formatting = xs; cuts = v.change.cuts + 1 }) v) (sym e)
+    ∙ ap (λ (k : ℕ). with_change (record v.change { formatting = es; cuts = k }) v) (sym f)
+
+-- popped up to and with an own element
+pub through_found : (goals stops : Kinds) (v w : Split) (k : ℕ) (h i : Heard) → walk_of goals stops v.change.stack ≡ Found k → w ≡ own_popped (k + 1) v → i ≡ h → Runs h i (through_plan goals stops v) (Ok w)
+through_found goals stops v w k h i found popped same =
+    let P : Walk → Type 0 = λ walk. Runs h h (through_on goals stops v walk) (Ok w) in
+    let Q : Heard → Type 0 = λ x. Runs h x (through_plan goals stops v) (Ok w) in
+    subst Q (sym same) (subst P (sym found) (gives_same h (own_popped (k + 1) v) w (sym popped)))
+
+none_there : (es : List OpenElement) → (length es == 0) ≡ true → es ≡ []
+none_there [] h = refl
+none_there (e ∷ es) h = let z : length (e ∷ es) ≡ 0 = eqb-true (length (e ∷ es)) 0 h in absurd (omega arith)
+
+-- the older current node leaves the stack
+pub older_popped : (depth : ℕ) (v : Split) → (length v.change.stack == 0) ≡ true → depth ≡ v.change.popped → pop_plan v ≡ older_off_plan depth v
+older_popped depth v none same =
+    sym (ap (λ b. if b then gives v else older_off_at depth v v.change.stack) (le-ltb depth v.change.popped (omega (arith, same)))
+    ∙ (ap (older_off_at depth v) (none_there v.change.stack none)
+    ∙ ap (λ b. if b then pop_plan v else crosses X3) (eq-eqb depth v.change.popped same)))
+
+-- what the older state answers, where no own element decides
+pub seen_below : (goals stops : Kinds) (v : Split) (h i : Heard) (seen : Bool) → walk_of goals stops v.change.stack ≡ PastAll → Runs h i (ask_seen v.change.popped goals stops) (Ok seen) → Runs h i (seen_plan goals stops v) (Ok seen)
+seen_below goals stops v h i seen past runs = let P : Walk → Type 0 = λ walk. Runs h i (seen_on v.change.popped goals stops walk) (Ok seen) in subst P (sym past) runs
