@@ -1,7 +1,6 @@
 //! A turn of the adoption agency algorithm that finds a furthest block (13.2.6.4.7).
 ghost use Rattle.std.specs.Prelude.{◌≡◌, ◌+◌, ◌<◌, ◌++◌, ◌∷◌, IfOk, Some, length, take, drop, slice_get};
 ghost use Rattle.hp_control.specs.Adoption.{pass_all, settled};
-ghost use Rattle.hp_control.specs.declared.edit.Edit.TheVariants.{MoveChildren};
 ghost use Rattle.hp_views.specs.View.{sight, Carries};
 ghost use Rattle.hp_adoption.specs.Entries.{ref_of};
 ghost use Rattle.hp_adoption.specs.AdoptPlans.{untangle_at};
@@ -86,16 +85,6 @@ fn settle(
     }
 }
 
-/// The block's children go into the new element.
-fn children_into<'p>(block: Ref, made: Ref) -> Edit<'p>
-    ensures { result ≡ MoveChildren block made }
-{
-    Edit::MoveChildren {
-        from: block,
-        to: made,
-    }
-}
-
 /// The last edits of a turn: the last node goes into its place, the block's children into the new element, and that into the block.
 fn close(
     alloc: Global,
@@ -111,7 +100,13 @@ fn close(
     let child = Child::Element(last);
     edits.push(alloc, Edit::Put { child, place })?;
     edits.push(alloc, Edit::NewElement { tag })?;
-    edits.push(alloc, children_into(block, made))?;
+    edits.push(
+        alloc,
+        Edit::MoveChildren {
+            from: block,
+            to: made,
+        },
+    )?;
     edits.push(
         alloc,
         Edit::Put {

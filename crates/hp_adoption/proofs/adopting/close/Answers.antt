@@ -1,9 +1,5 @@
-use Rattle.std.proofs.Common.{[], ◌∷◌, ◌++◌, ◌∙◌, ap}
-use Rattle.hp_control.specs.declared.edit.Edit.{Edit}
 use Rattle.hp_adoption.proofs.Carrying.{four_pushed}
 use Rattle.hp_adoption.proofs.adopting.close.Goals as goal
 
 pub returns : goal.returns
-returns c =
-    four_pushed c.args.edits.now c.push.new.self c.push-2.new.self c.push-3.new.self c.push-4.new.self _ _ _ _
-    c.in_ok-push.ensures.ok c.in_ok-push-2.ensures.ok (c.in_ok-push-3.ensures.ok ∙ ap (λ (e : Edit). c.push-2.new.self ++ e ∷ []) c.children_into.ensures) c.in_ok-push-4.ensures.ok
+returns c = four_pushed c.args.edits.now c.push.new.self c.push-2.new.self c.push-3.new.self c.push-4.new.self _ _ _ _ c.in_ok-push.ensures.ok c.in_ok-push-2.ensures.ok c.in_ok-push-3.ensures.ok c.in_ok-push-4.ensures.ok
