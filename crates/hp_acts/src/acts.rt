@@ -1,7 +1,6 @@
 //! One act of a row, carried out on a view.
 ghost use Rattle.std.specs.Prelude.{◌≡◌, false, OnOk};
-ghost use Rattle.hp_views.specs.ListPlans.{clear_plan};
-ghost use Rattle.hp_views.specs.View.{Carries, sight};
+ghost use Rattle.hp_views.specs.View.{sight};
 ghost use Rattle.hp_acts.specs.Carrying.{CarriesBy, Carried};
 ghost use Rattle.hp_acts.specs.Plans.{act_plan, close_plan, field_plan};
 ghost use Rattle.hp_acts.specs.Spending.{IsLeftOf, gives_away};
@@ -135,7 +134,7 @@ fn set<'p, B: Below>(alloc: Global, view: &mut View<'p, B>, act: Act) -> Result<
         Act::ToOriginal => view.to_original(alloc),
         Act::Reset => view.reset(alloc),
         Act::Marker => view.add_marker(alloc),
-        Act::ClearToMarker => clear_to_marker(alloc, view),
+        Act::ClearToMarker => view.clear_to_marker(alloc),
         Act::PushTemplateMode(mode) => view.push_template_mode(alloc, mode),
         Act::ReplaceTemplateMode(mode) => view.replace_template_mode(alloc, mode),
         Act::PopTemplateMode => view.pop_template_mode(alloc),
@@ -149,12 +148,4 @@ fn set<'p, B: Below>(alloc: Global, view: &mut View<'p, B>, act: Act) -> Result<
         Act::Flush => flush(alloc, view),
         _ => Ok(()),
     }
-}
-
-/// Forgets the entries down to the last marker, and that marker.
-#[inline(always)]
-fn clear_to_marker<'p, B: Below>(alloc: Global, view: &mut View<'p, B>) -> Result<(), Refusal>
-    ensures { Carries result (sight B.heard view.old) (sight B.heard view.new) clear_plan }
-{
-    view.clear_to_marker(alloc)
 }

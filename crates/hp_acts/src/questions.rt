@@ -7,7 +7,6 @@ ghost use Rattle.hp_acts.specs.Hidden.{is_typed_as};
 ghost use Rattle.hp_control.specs.Foreign.{has_font_attribute};
 ghost use Rattle.hp_elements.specs.Names.{lowered, text_of};
 ghost use Rattle.hp_elements.specs.declared.kinds.Kinds.TheVariants as kinds;
-ghost use Rattle.hp_views.specs.SecondPlans.{own_modes};
 ghost use Rattle.hp_views.specs.View.{sight, Answers};
 ghost use Rattle.hp_foreign.specs.Plans.{names_plan};
 ghost use Rattle.hp_model.specs.Tokens.{has_hidden_type, is_hidden, name_of as spec_name_of, tag_of};
@@ -93,14 +92,6 @@ fn names_open<'p, B: Below>(
     names_foreign(alloc, view, name)
 }
 
-/// Whether a template mode is there, as far as the view's own tell.
-#[inline(always)]
-fn has_modes<'p, B: Below>(view: &View<'p, B>) -> bool
-    ensures { result ≡ own_modes view.now.change.templates }
-{
-    view.has_template_modes()
-}
-
 /// Whether the test holds.
 pub(crate) fn holds<'p, B: Below>(
     alloc: Global,
@@ -117,7 +108,7 @@ pub(crate) fn holds<'p, B: Below>(
         }
         Test::OneInScope(scope, set) => view.in_scope(alloc, scope, Kinds::Set(set)),
         Test::TemplateInStack => view.template_in_stack(alloc),
-        Test::HasTemplateModes => Ok(has_modes(view)),
+        Test::HasTemplateModes => Ok(view.has_template_modes()),
         Test::SecondIsBody => view.second_is_body(alloc),
         Test::FramesetOk => view.is_frameset_ok(alloc),
         Test::IsQuirks => view.is_quirks(alloc),
