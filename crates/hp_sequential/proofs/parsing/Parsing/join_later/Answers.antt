@@ -1,4 +1,4 @@
-use Rattle.std.proofs.Common.{rules, [], ◌++◌, ap, refl, ◌∙◌, sym, append-nil}
+use Rattle.std.proofs.Common.{[], ◌++◌, ap, refl, ◌∙◌, sym, append-nil}
 use Rattle.std.specs.Str.{chars}
 use Rattle.std.proofs.lemmas.Str.{chars-nil}
 use Rattle.hp_lexer.specs.Standing.{is_answered}
@@ -9,7 +9,7 @@ use Rattle.hp_sequential.proofs.parsing.Parsing.join_later.Goals as goal
 pub returns-then-is_last-clause-reads : goal.returns-then-is_last-clause-reads
 returns-then-is_last-clause-reads c = λ page ended. record {
   ended = ended;
-  later = ap chars (c.is_last.ensures.last (search rules)) ∙ chars-nil;
+  later = ap chars (c.is_last.ensures.last c.if-is_last.true) ∙ chars-nil;
   used = c.requires.at_end.used;
 }
 
@@ -17,7 +17,7 @@ pub returns-clause-joined : goal.returns-clause-joined
 returns-clause-joined c = (
   placed-ready c.args.self.now _ (ap is_answered c.requires.at_end.asked) c.requires.at_end.held c.requires.at_end.builder refl (ap (λ (u : Unread). u.place) c.of_str-self.ensures) refl,
   ap (λ (u : Unread). u.text) c.of_str-self.ensures,
-  c.is_last.ensures.more (search rules),
+  c.is_last.ensures.more c.if-is_last.false,
 )
 
 pub returns-clause-on_page : goal.returns-clause-on_page
