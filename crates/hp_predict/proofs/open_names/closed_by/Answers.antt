@@ -1,4 +1,5 @@
 use Rattle.std.proofs.Common.{◌≡◌, suc, ◌+◌, ◌<◌, ℕ, Bool, true, false, List, ◌∷◌, length, drop, get_or, sym, ap, ◌∙◌, arith, add-one, drop-cons}
+use Rattle.std.proofs.lemmas.List.{drop_all}
 use Rattle.std.specs.Prelude.{Some, if◌then◌else◌}
 use Rattle.std.specs.Str.{bytes_eq}
 use Rattle.hp_predict.specs.OpenNames.{Names, below}
@@ -18,3 +19,12 @@ loop-depth-preserved c = c.loop-depth.invariant ∙ other c.args.name.now c.at.r
 
 pub returns-then-same-clause-below : goal.returns-then-same-clause-below
 returns-then-same-clause-below c = c.loop-depth.invariant ∙ found c.args.name.now c.at.result.now c.args.names.now c.loop-depth.depth (omega arith) c.at.ensures (sym c.same.ensures ∙ c.if-same.true)
+
+pub overflow_add-result : goal.overflow_add-result
+overflow_add-result c = omega arith
+
+pub returns-then-same-clause-within : goal.returns-then-same-clause-within
+returns-then-same-clause-within c = omega arith
+
+pub returns-clause-below : goal.returns-clause-below
+returns-clause-below c = c.loop-depth.invariant ∙ ap (below c.args.name.now) (drop_all c.loop-depth.depth c.args.names.now (omega arith))
