@@ -481,8 +481,7 @@ fn start_tag<'p>(name: Name, attributes: Chain<Attribute>, self_closing: bool) -
 fn read_name(alloc: Global, input: &mut Cursor<'_>) -> Result<Name, NoMemory>
     ensures { IfOk result (λ name. NameTaken input.old name input.new) }
 {
-    let name = Name::from_lowered(alloc, input.take_run::<TagNameBytes>())?;
-    Ok(name)
+    Name::from_lowered(alloc, input.take_run::<TagNameBytes>())
 }
 
 /// What follows the name of a start tag, and whether it closes itself; the machine stands behind it. `None` where the rows go on.
