@@ -1,4 +1,4 @@
-use Rattle.std.proofs.Common.{◌≡◌, ◌<◌, ◌+◌, ℕ, length, slice_index_or, sym, ap, ◌∙◌, refl, arith, rules, ◌^◌, Some, false, subst, inl, inr, ◌⊎◌}
+use Rattle.std.proofs.Common.{◌≡◌, ◌<◌, ◌+◌, ℕ, length, slice_index_or, sym, ap, ◌∙◌, refl, arith, ◌^◌, Some, false, subst, inl, inr, ◌⊎◌}
 use Rattle.hp_arena.specs.Nodes.{links_of, node_at, is_end}
 use Rattle.hp_arena.specs.declared.links.Kind.{Kind}
 use Rattle.hp_arena.specs.declared.links.Kind.TheVariants.{Element, Leaf}
@@ -19,7 +19,7 @@ index-requires-2 c =
 pub overflow_add-result : goal.overflow_add-result
 overflow_add-result c =
     let st : Stands c.self.inside c.args.at.parent c.args.at.place c.args.at.node = stands c.self.inside c.self.invariant c.args.self.now c.self.view_is c.args.at c.requires in
-    let fits : c.args.at.place + 1 < 2 ^ 32 = st.fits in search rules
+    let fits : c.args.at.place + 1 < 2 ^ 32 = st.fits in omega arith
 
 inner : (k : Kind) → ((x : ℕ) × (k ≡ Element x)) ⊎ ((x : ℕ) × (k ≡ Leaf x)) → is_end k ≡ false
 inner k h = elim h [ inl e ↦ ap is_end e.1 | inr e ↦ ap is_end e.1 ]
