@@ -1,4 +1,4 @@
-use Rattle.std.proofs.Common.{◌≡◌, ◌≢◌, ◌<◌, ℕ, List, length, slice_index_or, sym, ap, ◌∙◌, subst}
+use Rattle.std.proofs.Common.{◌≡◌, ◌≢◌, ◌<◌, ℕ, List, length, slice_index_or, sym, ap, ◌∙◌, subst, arith}
 use Rattle.std.specs.Vec.{with_items}
 use Rattle.std.proofs.lemmas.List.{get_or_read}
 use Rattle.hp_control.specs.Tree.{detached, put, Element}
@@ -10,7 +10,7 @@ use Rattle.hp_arena.specs.Shape.{IsSound, node_of, no_element, items_in, at_of, 
 use Rattle.hp_arena.specs.declared.links.Node.{Node}
 use Rattle.hp_arena.specs.declared.arena.Element.{Element as ElementOf}
 use Rattle.hp_arena.specs.declared.arena.Arena.TheInside.{Inside}
-use Rattle.hp_arena.proofs.Detaching.{IsTree-detached}
+use Rattle.hp_arena.proofs.Detaching.{IsTree-detached, node-below}
 use Rattle.hp_arena.proofs.Glue.{with_nodes, items_are, IsSound-relinked, branches-relinked, id-below, place-in, tree_in, tree_out}
 use Rattle.hp_arena.proofs.Items.{leaves-plain}
 use Rattle.hp_arena.proofs.Putting.{IsTree-moved, branches-moved}
@@ -70,3 +70,18 @@ returns-clause-branches c =
     (id-below c.self.inside c.args.self.now c.args.id c.self.view_is c.requires.id_in) (place-in c.self.inside c.args.self.now c.args.place c.self.view_is c.requires.there)
     c.unlink.new.nodes c.put_before.new.nodes c.deref_mut-2.result.now c.deref.result.now c.index.result.now c.deref-2.result.now c.node_at-at.result c.index.ensures
     (rw c.deref_mut.ensures.value at c.unlink.ensures) c.deref.ensures.value c.deref-2.ensures.value c.node_at-at.ensures c.deref_mut-2.ensures.value c.put_before.ensures
+
+pub index-requires : goal.index-requires
+index-requires c = omega (arith, id-below c.self.inside c.args.self.now c.args.id c.self.view_is c.requires.id_in, c.self.inside.elements.ok.0)
+
+pub unlink-requires-clause-node_in : goal.unlink-requires-clause-node_in
+unlink-requires-clause-node_in c =
+    let below = id-below c.self.inside c.args.self.now c.args.id c.self.view_is c.requires.id_in in
+    let own : c.index.result.now ≡ slice_index_or c.self.inside.elements.items c.args.id no_element = get_or_read _ _ _ below c.index.ensures no_element in
+    rw (c.deref_mut.ensures.value, own) (node-below c.self.inside.nodes.items c.self.inside.elements.items (length c.self.inside.leaves.items) c.self.invariant.tree c.args.id below)
+
+pub unlink-requires-clause-closed : goal.unlink-requires-clause-closed
+unlink-requires-clause-closed c = rw c.deref_mut.ensures.value c.self.invariant.tree.closed
+
+pub node_at-at-requires-clause-there : goal.node_at-at-requires-clause-there
+node_at-at-requires-clause-there c = rw c.deref-2.ensures.value (place-in c.self.inside c.args.self.now c.args.place c.self.view_is c.requires.there)
