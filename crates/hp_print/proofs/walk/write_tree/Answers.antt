@@ -24,3 +24,6 @@ returns-clause-failed g c = λ _.
     let end : Sight = (g.K.Sink.taken c.finish.new.sink, g.K.Sink.faults c.finish.new.sink) in
     let text = print c.args.tree.now.branches in
     (subst (λ done. Outcome done start end text) c.if-finish.false (written _ _ _ _ _ _ _ c.in-Ok-new.ensures c.print_all.ensures c.finish.ensures)).rose
+
+pub returns-clause-whole : goal.returns-clause-whole
+returns-clause-whole g c = tt
