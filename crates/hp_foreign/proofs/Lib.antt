@@ -1,3 +1,4 @@
 pub mod Alike
 pub mod Changing
 pub mod Inserting
+pub mod OwnNode
