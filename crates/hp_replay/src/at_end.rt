@@ -60,7 +60,8 @@ fn end_view<'p>(alloc: Global, view: &mut View<'p, Nothing>, from: &Control) -> 
 {
     hp_model::at_once();
     hp_pieces::ends_of_text();
-    let tokens = Lexer::from_state(alloc, &from.lex)?.finish(alloc)?;
+    let lex = &from.lex;
+    let tokens = Lexer::from_state(alloc, lex)?.finish(alloc)?;
     collect_last(alloc, view, tokens)?;
     Ok(())
 }
