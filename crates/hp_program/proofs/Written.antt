@@ -1,7 +1,7 @@
 -- What was written of a page.
-use Rattle.std.proofs.Common.{◌≡◌, ℕ, ◌<◌, List, [], length, take, ap, ◌∙◌, sym, subst}
+use Rattle.std.proofs.Common.{◌≡◌, ℕ, List, [], subst}
 use Rattle.std.specs.Prelude.{Option, None, Some, IfSome, Result, Ok, Err}
-use Rattle.std.specs.Result.{IsOk, IsErr, IfErr, OnOk, OnErr}
+use Rattle.std.specs.Result.{IsOk, OnOk}
 use Rattle.std.specs.Str.{chars}
 use Rattle.hp_print.specs.declared.walk.Refusal.{Refusal}
 use Rattle.hp_text.specs.Text.{without_mark}

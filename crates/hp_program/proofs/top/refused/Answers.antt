@@ -1,4 +1,4 @@
-use Rattle.std.proofs.Common.{◌≡◌, refl, sym, ◌∙◌}
+use Rattle.std.proofs.Common.{◌≡◌, refl}
 use Rattle.hp_text.specs.declared.reading.ReadRefusal.{ReadRefusal}
 use Rattle.hp_text.specs.declared.reading.ReadRefusal.TheVariants as refusal
 use Rattle.hp_program.specs.declared.status.Status.TheVariants.{TooLarge, ReadFault, NoMemory}
