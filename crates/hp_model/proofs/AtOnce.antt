@@ -173,7 +173,8 @@ not_skipping c t e =
     ap (λ b. if b && is_line_feed t then handle_rest (record c { skip_lf = false }) (after_first t) else all_turns (record c { skip_lf = false }) t) e
     ∙ ap (λ b. all_turns (record c { skip_lf = b }) t) (sym e)
 
-characters_at_once : (class : CharClass) (x : ℕ) (xs : List ℕ) (c : ControlState) → IsValid c → LeaveSame (handle c (token.Characters class (x ∷ xs))) (handle_at_once c (token.Characters class (x ∷ xs)))
+-- a run at once is its code points, one by one, also where it begins with a line feed
+pub characters_at_once : (class : CharClass) (x : ℕ) (xs : List ℕ) (c : ControlState) → IsValid c → LeaveSame (handle c (token.Characters class (x ∷ xs))) (handle_at_once c (token.Characters class (x ∷ xs)))
 characters_at_once class x [] c v = same_by (joined (handle_piece c (piece class x)) (unchanged (left_by (handle_piece c (piece class x))))) (handle_piece c (piece class x)) (joined_last (handle_piece c (piece class x)))
 characters_at_once class x (y ∷ ys) c v = go (c.skip_lf && (x == 0xA)) (characters_at_once class y ys)
   where
