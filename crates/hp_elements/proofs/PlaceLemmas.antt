@@ -1,24 +1,31 @@
 -- What holds at each place of a table by kinds.
-use Rattle.std.proofs.Common.{◌≡◌, Bool, true, false, sym, ℕ, ◌+◌, ◌<◌, List, length, map, get_or, None, Some, refl, lit<, arith, ◌∙◌, ap}
+use Rattle.std.proofs.Common.{◌≡◌, Bool, true, false, sym, ℕ, ◌+◌, ◌<◌, List, length, map, get_or, take, drop, ◌++◌, None, Some, refl, lit<, arith, ◌∙◌, ap}
 use Rattle.std.specs.List.{list_all}
-use Rattle.std.proofs.lemmas.List.{get_or-map}
+use Rattle.std.proofs.lemmas.List.{get_or-map, get_or_append_left, get_or-append-add}
 use Rattle.std.proofs.lemmas.List.Folds.{list_all_at}
 use Rattle.hp_elements.specs.declared.known.Known.{Known}
 use Rattle.hp_elements.specs.declared.known.Known.TheVariants as k
 use Rattle.hp_elements.specs.declared.token.CharClass.TheVariants.{White, Nul, Other}
 use Rattle.hp_elements.specs.declared.token.Kind.{Kind}
 use Rattle.hp_elements.specs.declared.token.Kind.TheVariants.{Characters, Comment, Doctype, Start, End, EndOfInput}
-use Rattle.hp_elements.specs.Names.{index_of}
+use Rattle.hp_elements.specs.Names.{every, index_of}
 use Rattle.hp_elements.specs.Placing.{every_kind, place_of}
-use Rattle.hp_elements.proofs.EveryName.{index_below}
+use Rattle.hp_elements.proofs.EveryName.{index_below, known_at}
 
 start_at : (name : Known) → get_or every_kind (index_of name) EndOfInput ≡ Start (Some name)
-start_at k.A = refl
-start_at _ = refl
+start_at name =
+    let starts : Known → Kind = λ n. Start (Some n) in
+    let behind : List Kind = drop 240 every_kind in
+    get_or_append_left (map starts every) behind EndOfInput (index_of name) (index_below name)
+    ∙ (get_or-map starts every (index_of name) k.A EndOfInput (index_below name) ∙ ap starts (known_at name))
 
 end_at : (name : Known) → get_or every_kind (241 + index_of name) EndOfInput ≡ End (Some name)
-end_at k.A = refl
-end_at _ = refl
+end_at name =
+    let ends : Known → Kind = λ n. End (Some n) in
+    let behind : List Kind = drop 481 every_kind in
+    get_or-append-add (take 241 every_kind) (map ends every ++ behind) (index_of name) EndOfInput
+    ∙ (get_or_append_left (map ends every) behind EndOfInput (index_of name) (index_below name)
+    ∙ (get_or-map ends every (index_of name) k.A EndOfInput (index_below name) ∙ ap ends (known_at name)))
 
 pub kind_at : (token : Kind) → get_or every_kind (place_of token) EndOfInput ≡ token
 kind_at (Start (Some name)) = start_at name

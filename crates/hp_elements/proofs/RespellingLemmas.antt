@@ -21,10 +21,11 @@ use Rattle.hp_elements.proofs.NameLemmas.{bytes_eq-true, at_its_number, known_ch
 use Rattle.hp_elements.proofs.SetLemmas.{beq-true, is_text, differs, text_known}
 use Rattle.hp_elements.proofs.TextLemmas.{same_bytes}
 
-abbrev agree_at : Respelling → Bool
-agree_at table = each_passes (λ name. beq (not (bit_and (slice_index respellings (index_of name)) (bit_of table) == 0)) (is_among (spellings_of table) (text_of name)))
+-- whether the bit of a table says of each name whether it is among the spellings
+abbrev agree_with : ℕ → List (List ℕ) → Bool
+agree_with bit spellings = each_passes (λ name. beq (not (bit_and (slice_index respellings (index_of name)) bit == 0)) (is_among spellings (text_of name)))
 
-all_agree : (table : Respelling) → agree_at table ≡ true
+all_agree : (table : Respelling) → agree_with (bit_of table) (spellings_of table) ≡ true
 unfolding respellings
 all_agree r.SvgNames = refl
 all_agree r.SvgAttributes = refl

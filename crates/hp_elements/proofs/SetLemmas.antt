@@ -3,6 +3,7 @@ use Prim.Native.Nat.{zero, suc}
 use Rattle.std.proofs.Common.{◌≡◌, ◌<◌, ℕ, List, [], ◌∷◌, ◌||◌, Option, Some, None, sym, ap, ◌∙◌, Bool, true, false, ◌&&◌, length, get_or, slice_index, refl, subst, arith}
 use Rattle.std.proofs.Math.ListN.{set, replicate, length-set}
 use Rattle.std.proofs.Math.Bool.{beq}
+use Rattle.std.proofs.Math.Dec.{ltb}
 use Rattle.std.proofs.lemmas.Bool.{and_parts}
 use Rattle.hp_elements.specs.declared.known.Known.{Known}
 use Rattle.hp_elements.specs.declared.sets.Namespace.{Namespace}
@@ -34,10 +35,15 @@ abbrev marked : Bool → ℕ → List Bool → List Bool
 marked true place column = set column place true
 marked false place column = column
 
--- of each known name, whether a list has it in a namespace
-abbrev column_of : Elements → Namespace → List Bool
+-- the places of a list's names, each with its namespace
+abbrev places_of : Elements → List (Namespace × ℕ)
+places_of [] = []
+places_of (e ∷ es) = (e.0, place_of (known_of e.1)) ∷ places_of es
+
+-- of each known name, whether its place is listed in a namespace
+abbrev column_of : List (Namespace × ℕ) → Namespace → List Bool
 column_of [] namespace = replicate 240 false
-column_of (e ∷ es) namespace = marked (same_namespace namespace e.0) (place_of (known_of e.1)) (column_of es namespace)
+column_of (p ∷ ps) namespace = marked (same_namespace namespace p.0) p.1 (column_of ps namespace)
 
 -- whether a table and a column say the same of each place
 abbrev agree : SetName → List ℕ → List Bool → Bool
@@ -45,21 +51,35 @@ agree set [] [] = true
 agree set (row ∷ rows) (listed ∷ rest) = beq (has_bit row set) (turned set listed) && agree set rows rest
 agree set _ _ = false
 
-abbrev agree_at : SetName → Namespace → Bool
-agree_at set namespace = agree set (masks_of namespace) (column_of (members set) namespace)
+abbrev agree_at : SetName → List (Namespace × ℕ) → Namespace → Bool
+agree_at set places namespace = agree set (masks_of namespace) (column_of places namespace)
 
-abbrev in_all : SetName → Bool
-in_all set = agree_at set Html && (agree_at set MathMl && agree_at set Svg)
+abbrev agree_in_all : SetName → List (Namespace × ℕ) → Bool
+agree_in_all set places = agree_at set places Html && (agree_at set places MathMl && agree_at set places Svg)
 
-all_agree : (set : SetName) → in_all set ≡ true
+-- whether each place is that of a known name
+abbrev all_known : List (Namespace × ℕ) → Bool
+all_known places = list_all (λ p. ltb p.1 240) places
+
+abbrev all_right : SetName → List (Namespace × ℕ) → Bool
+all_right set places = agree_in_all set places && all_known places
+
+-- the names of each list are looked up once
+each_right : (set : SetName) → all_right set (places_of (members set)) ≡ true
 unfolding masks_of known_of
-all_agree s.ForeignEnds = refl
-all_agree _ = refl
+each_right s.ForeignEnds = refl
+each_right _ = refl
 
-at_each : (set : SetName) (namespace : Namespace) → agree_at set namespace ≡ true
-at_each set Html = (and_parts (agree_at set Html) (agree_at set MathMl && agree_at set Svg) (all_agree set)).0
-at_each set MathMl = (and_parts (agree_at set MathMl) (agree_at set Svg) (and_parts (agree_at set Html) (agree_at set MathMl && agree_at set Svg) (all_agree set)).1).0
-at_each set Svg = (and_parts (agree_at set MathMl) (agree_at set Svg) (and_parts (agree_at set Html) (agree_at set MathMl && agree_at set Svg) (all_agree set)).1).1
+in_all : (set : SetName) (places : List (Namespace × ℕ)) → agree_in_all set places ≡ true → (namespace : Namespace) → agree_at set places namespace ≡ true
+in_all set places h Html = (and_parts (agree_at set places Html) (agree_at set places MathMl && agree_at set places Svg) h).0
+in_all set places h MathMl = (and_parts (agree_at set places MathMl) (agree_at set places Svg) (and_parts (agree_at set places Html) (agree_at set places MathMl && agree_at set places Svg) h).1).0
+in_all set places h Svg = (and_parts (agree_at set places MathMl) (agree_at set places Svg) (and_parts (agree_at set places Html) (agree_at set places MathMl && agree_at set places Svg) h).1).1
+
+at_each : (set : SetName) (namespace : Namespace) → agree_at set (places_of (members set)) namespace ≡ true
+at_each set namespace = in_all set (places_of (members set)) (and_parts (agree_in_all set (places_of (members set))) (all_known (places_of (members set))) (each_right set)).0 namespace
+
+lists_known : (set : SetName) → all_known (places_of (members set)) ≡ true
+lists_known set = (and_parts (agree_in_all set (places_of (members set))) (all_known (places_of (members set))) (each_right set)).1
 
 at_place : (set : SetName) (rows : List ℕ) (column : List Bool) (i : ℕ) → agree set rows column ≡ true → i < length column → has_bit (slice_index rows i) set ≡ turned set (get_or column i false)
 at_place set rows [] i h lt = absurd (omega arith)
@@ -71,9 +91,9 @@ length-marked : (same : Bool) (place : ℕ) (column : List Bool) → length (mar
 length-marked true place column = length-set column place true
 length-marked false place column = refl
 
-length-column : (elements : Elements) (namespace : Namespace) → length (column_of elements namespace) ≡ 240
+length-column : (places : List (Namespace × ℕ)) (namespace : Namespace) → length (column_of places namespace) ≡ 240
 length-column [] namespace = length-replicate 240 false
-length-column (e ∷ es) namespace = length-marked (same_namespace namespace e.0) (place_of (known_of e.1)) (column_of es namespace) ∙ length-column es namespace
+length-column (p ∷ ps) namespace = length-marked (same_namespace namespace p.0) p.1 (column_of ps namespace) ∙ length-column ps namespace
 
 pub differs : (text other : List ℕ) → (text ≡ other → ⊥) → bytes_eq text other ≡ false
 differs text other h = go (bytes_eq text other) refl
@@ -105,34 +125,21 @@ one_more true text None k name column len =
     ∙ ap (λ (b : Bool). b || get_or column (index_of name) false) (sym (differs (text_of name) text (not_its name text k)))
 one_more true text (Some other) k name column len = same_text_as name other text (found_text text other k) (bytes_eq (text_of name) text) refl column len
 
-in_column : (elements : Elements) (namespace : Namespace) (name : Known) → get_or (column_of elements namespace) (index_of name) false ≡ is_member elements namespace (text_of name)
+in_column : (elements : Elements) (namespace : Namespace) (name : Known) → get_or (column_of (places_of elements) namespace) (index_of name) false ≡ is_member elements namespace (text_of name)
 in_column [] namespace name = get_or-replicate 240 (index_of name) false false (index_below name)
 in_column (e ∷ es) namespace name =
-    one_more (same_namespace namespace e.0) e.1 (known_of e.1) refl name (column_of es namespace) (length-column es namespace)
+    one_more (same_namespace namespace e.0) e.1 (known_of e.1) refl name (column_of (places_of es) namespace) (length-column (places_of es) namespace)
     ∙ ap (λ (b : Bool). (same_namespace namespace e.0 && bytes_eq (text_of name) e.1) || b) (in_column es namespace name)
 
 pub sets_agree : (set : SetName) (namespace : Namespace) (name : Known) → has_bit (slice_index (masks_of namespace) (index_of name)) set ≡ in_set set namespace (text_of name)
 sets_agree set namespace name =
-    at_place set (masks_of namespace) (column_of (members set) namespace) (index_of name) (at_each set namespace)
-    (subst (λ (n : ℕ). index_of name < n) (sym (length-column (members set) namespace)) (index_below name))
+    at_place set (masks_of namespace) (column_of (places_of (members set)) namespace) (index_of name) (at_each set namespace)
+    (subst (λ (n : ℕ). index_of name < n) (sym (length-column (places_of (members set)) namespace)) (index_below name))
     ∙ ap (turned set) (in_column (members set) namespace name)
 
-abbrev is_found : Option Known → Bool
-is_found None = false
-is_found (Some name) = true
-
--- whether each name of a list is a known one
-abbrev all_known : Elements → Bool
-all_known elements = list_all (λ e. is_found (known_of e.1)) elements
-
-lists_known : (set : SetName) → all_known (members set) ≡ true
-unfolding known_of
-lists_known s.ForeignEnds = refl
-lists_known _ = refl
-
-found_known : (o : Option Known) → is_found o ≡ true → o ≡ None → ⊥
-found_known None h n = true_false (sym h)
-found_known (Some name) h n = some_none name n
+placed_known : (o : Option Known) → ltb (place_of o) 240 ≡ true → o ≡ None → ⊥
+placed_known None h n = true_false (sym h)
+placed_known (Some name) h n = some_none name n
 
 -- whether a text is that of a name
 unfoldable pub is_text : Option Known → List ℕ → Bool
@@ -149,11 +156,11 @@ and_false true = refl
 and_false false = refl
 
 -- a name that is no known one is in no list of known ones
-not_member : (elements : Elements) (namespace : Namespace) (text : List ℕ) → known_of text ≡ None → all_known elements ≡ true → is_member elements namespace text ≡ false
+not_member : (elements : Elements) (namespace : Namespace) (text : List ℕ) → known_of text ≡ None → all_known (places_of elements) ≡ true → is_member elements namespace text ≡ false
 not_member [] namespace text n h = refl
 not_member (e ∷ es) namespace text n h =
-    let parts = and_parts (is_found (known_of e.1)) (all_known es) h in
-    let first : bytes_eq text e.1 ≡ false = differs text e.1 (λ same. found_known (known_of e.1) parts.0 (ap known_of (sym same) ∙ n)) in
+    let parts = and_parts (ltb (place_of (known_of e.1)) 240) (all_known (places_of es)) h in
+    let first : bytes_eq text e.1 ≡ false = differs text e.1 (λ same. placed_known (known_of e.1) parts.0 (ap known_of (sym same) ∙ n)) in
     ap (λ (b : Bool). (same_namespace namespace e.0 && b) || is_member es namespace text) first
     ∙ (ap (λ (b : Bool). b || is_member es namespace text) (and_false (same_namespace namespace e.0)) ∙ not_member es namespace text n parts.1)
 
