@@ -62,6 +62,14 @@ impl Building {
     ghost use Rattle.std.specs.Str.{chars};
     ghost use Rattle.hp_tokens.specs.Parts.{put, attribute_begun, self_closed, quirks_forced};
 
+    /// Begins a token; what was built is dropped.
+    #[inline(always)]
+    pub(crate) fn begin(&mut self, token: Building)
+        ensures { self.new ≡ token }
+    {
+        *self = token;
+    }
+
     /// Appends text to a part; what is built has no such part: nothing.
     #[inline]
     pub fn put(&mut self, alloc: Global, part: Part, text: &str) -> Result<(), NoMemory>

@@ -35,8 +35,8 @@ impl LexState {
     pub fn copy(&self, alloc: Global) -> Result<LexState, NoMemory>
         ensures { IfOk result (λ copy. copy ≡ self.now) }
     {
-        let machine = self.machine.copy(alloc)?;
         let ahead = self.ahead.copy(alloc)?;
+        let machine = self.machine.copy(alloc)?;
         Ok(LexState { machine, ahead })
     }
 

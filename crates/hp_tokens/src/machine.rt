@@ -91,7 +91,7 @@ impl Machine {
     {
         match &self.building {
             Building::Nothing => {}
-            _ => self.building = Building::Nothing,
+            _ => self.building.begin(Building::Nothing),
         }
     }
 
@@ -117,12 +117,12 @@ impl Machine {
     pub fn begin_start_tag(&mut self)
         ensures { self.new ≡ new_start_tag self.old }
     {
-        self.building = Building::StartTag(NewTag {
+        self.building.begin(Building::StartTag(NewTag {
             name: OwnedText::new(),
             attributes: Chain::new(),
             attribute: None,
             self_closing: false,
-        });
+        }));
     }
 
     /// Begins an end tag.
@@ -130,26 +130,26 @@ impl Machine {
     pub fn begin_end_tag(&mut self)
         ensures { self.new ≡ new_end_tag self.old }
     {
-        self.building = Building::EndTag(OwnedText::new());
+        self.building.begin(Building::EndTag(OwnedText::new()));
     }
 
     /// Begins a comment.
     pub fn begin_comment(&mut self)
         ensures { self.new ≡ new_comment self.old }
     {
-        self.building = Building::Comment(OwnedText::new());
+        self.building.begin(Building::Comment(OwnedText::new()));
     }
 
     /// Begins a doctype, which lacks all parts.
     pub fn begin_doctype(&mut self)
         ensures { self.new ≡ new_doctype self.old }
     {
-        self.building = Building::Doctype(NewDoctype {
+        self.building.begin(Building::Doctype(NewDoctype {
             name: None,
             public: None,
             system: None,
             force_quirks: false,
-        });
+        }));
     }
 
     /// Begins an attribute.
@@ -163,8 +163,9 @@ impl Machine {
     pub fn emit_built(&mut self, alloc: Global, tokens: &mut Tokens<'_>) -> Result<(), NoMemory>
         ensures { OnOk result (EmitsBuilt self.old tokens.old self.new tokens.new) }
     {
-        let building = mem::replace(&mut self.building, Building::Nothing);
-        if let Some(token) = built_token(alloc, building, &mut self.last_tag)? {
+        let built = built_token(alloc, &mut self.building, &mut self.last_tag)?;
+        self.build_nothing();
+        if let Some(token) = built {
             tokens.push(alloc, token)?;
         }
         Ok(())
@@ -188,14 +189,14 @@ ghost use Rattle.hp_tokens.specs.Rows.{character};
 ghost use Rattle.std.specs.Prelude.{map, option_to_list, Some};
 ghost use Rattle.hp_elements.specs.declared.token.Token.TheVariants as tokens;
 
-/// The token that was built; the name of a start tag is kept as the last one.
+/// The token that was built, whose texts are taken; the name of a start tag is kept as the last one.
 fn built_token<'p>(
     alloc: Global,
-    building: Building,
+    building: &mut Building,
     last_tag: &mut Option<OwnedText>,
 ) -> Result<Option<Token<'p>>, NoMemory>
-    ensures token { IfOk result (λ token. option_to_list token ≡ built building) }
-    ensures last { OnOk result (last_tag.new ≡ last_tag_after building last_tag.old) }
+    ensures token { IfOk result (λ token. option_to_list token ≡ built building.old) }
+    ensures last { OnOk result (last_tag.new ≡ last_tag_after building.old last_tag.old) }
 {
     Ok(Some(match building {
         Building::Nothing => return Ok(None),
@@ -204,7 +205,7 @@ fn built_token<'p>(
             name: Name::from_text(alloc, name.as_str())?,
         },
         Building::Comment(comment) => {
-            let text = comment.into_text(alloc)?;
+            let text = mem::replace(comment, OwnedText::new()).into_text(alloc)?;
             Token::Comment { text }
         }
         Building::Doctype(doctype) => {
@@ -217,52 +218,55 @@ fn built_token<'p>(
 /// The start tag that was built; its name is kept as the last one.
 fn start_token<'p>(
     alloc: Global,
-    tag: NewTag,
+    built: &mut NewTag,
     last_tag: &mut Option<OwnedText>,
 ) -> Result<Token<'p>, NoMemory>
-    ensures token { IfOk result (λ token. token ≡ tokens.Start tag.self_closing (spec_tag tag)) }
-    ensures last { OnOk result (last_tag.new ≡ Some tag.name) }
+    ensures token { IfOk result (λ token. token ≡ tokens.Start built.old.self_closing (spec_tag built.old)) }
+    ensures last { OnOk result (last_tag.new ≡ Some built.old.name) }
 {
-    let self_closing = tag.self_closing;
-    let (tag, name) = finished_tag(alloc, tag)?;
+    let self_closing = built.self_closing;
+    let tag = finished_tag(alloc, built)?;
+    let name = mem::replace(&mut built.name, OwnedText::new());
     *last_tag = Some(name);
     Ok(Token::Start { self_closing, tag })
 }
 
-/// The tag that was built, and its name.
-fn finished_tag(alloc: Global, tag: NewTag) -> Result<(Tag, OwnedText), NoMemory>
-    ensures { IfOk result (λ both. (both.0 ≡ spec_tag tag) × (both.1 ≡ tag.name)) }
+/// The tag that was built. Its attributes are taken.
+fn finished_tag(alloc: Global, built: &mut NewTag) -> Result<Tag, NoMemory>
+    ensures tag { IfOk result (λ tag. tag ≡ spec_tag built.old) }
+    ensures name { OnOk result (built.new.name ≡ built.old.name) }
 {
-    let mut attributes = tag.attributes;
-    finish(alloc, &mut attributes, tag.attribute)?;
-    let name = Name::from_text(alloc, tag.name.as_str())?;
-    let finished = Tag {
+    finish(alloc, &mut built.attributes, built.attribute.take())?;
+    let name = Name::from_text(alloc, built.name.as_str())?;
+    Ok(Tag {
         namespace: Namespace::Html,
         name,
-        attributes,
-    };
-    Ok((finished, tag.name))
+        attributes: mem::replace(&mut built.attributes, Chain::new()),
+    })
 }
 
 ghost use Rattle.hp_tokens.specs.Parts.{finished_doctype as spec_doctype};
 
-/// The doctype that was built.
-fn finished_doctype<'p>(alloc: Global, doctype: NewDoctype) -> Result<Doctype<'p>, NoMemory>
-    ensures { IfOk result (λ finished. finished ≡ spec_doctype doctype) }
+/// The doctype that was built. Its parts are taken.
+fn finished_doctype<'p>(alloc: Global, doctype: &mut NewDoctype) -> Result<Doctype<'p>, NoMemory>
+    ensures { IfOk result (λ finished. finished ≡ spec_doctype doctype.old) }
 {
     let parts = DoctypeParts {
-        name: finished_part(alloc, doctype.name)?,
-        public: finished_part(alloc, doctype.public)?,
-        system: finished_part(alloc, doctype.system)?,
+        name: finished_part(alloc, &mut doctype.name)?,
+        public: finished_part(alloc, &mut doctype.public)?,
+        system: finished_part(alloc, &mut doctype.system)?,
         force_quirks: doctype.force_quirks,
     };
     Doctype::new(alloc, parts)
 }
 
-fn finished_part<'p>(alloc: Global, part: Option<OwnedText>) -> Result<Option<Text<'p>>, NoMemory>
-    ensures { IfOk result (λ finished. finished ≡ part) }
+fn finished_part<'p>(
+    alloc: Global,
+    part: &mut Option<OwnedText>,
+) -> Result<Option<Text<'p>>, NoMemory>
+    ensures { IfOk result (λ finished. finished ≡ part.old) }
 {
-    match part {
+    match part.take() {
         None => Ok(None),
         Some(part) => Ok(Some(part.into_text(alloc)?)),
     }
