@@ -107,23 +107,12 @@ impl OwnedText {
         ensures ok { OnOk result (self.new ≡ self.old ++ chars more.now) }
         ensures err { OnErr result (self.new ≡ self.old) }
     {
-        match &mut self.store {
-            Store::Long(text) => text.push_str(more),
-            Store::Few(bytes) => {
-                if more.len() <= ROOM - bytes.len() {
-                    bytes.extend(more.as_bytes());
-                    return Ok(());
-                }
-                let text = joined(alloc, bytes.as_slice(), more)?;
-                self.store = Store::Long(text);
-                Ok(())
-            }
-            Store::Named(known) => {
-                let text = joined(alloc, known.text().as_bytes(), more)?;
-                self.store = Store::Long(text);
-                Ok(())
-            }
+        if let Store::Long(text) = &mut self.store {
+            return text.push_str(more);
         }
+        let text = joined(alloc, self.as_str(), more)?;
+        self.store = Store::Long(text);
+        Ok(())
     }
 
     /// Appends a code point. An `Err` changes nothing.
@@ -215,11 +204,9 @@ impl OwnedText {
 
 /// The two texts, one behind the other: with room for more, where the first one is not empty.
 #[inline(never)]
-fn joined(alloc: Global, first: &[u8], second: &str) -> Result<String, NoMemory>
-    requires { IsUtf8 first.now }
+fn joined(alloc: Global, first: &str, second: &str) -> Result<String, NoMemory>
     ensures { IfOk result (λ text. string_bytes text ≡ first.now ++ second.now) }
 {
-    let first = unsafe { std::str::from_utf8_unchecked(first) };
     let mut text = String::with_capacity(alloc, room(first.len(), second.len()))?;
     text.push_str(first)?;
     text.push_str(second)?;
