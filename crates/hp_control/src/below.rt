@@ -30,7 +30,9 @@ impl Below for Nothing {
 
     #[inline(always)]
     fn ask(&mut self, alloc: Global, question: Question) -> Result<Answer, NoMemory> {
-        answer_nothing(alloc, &question)
+        let answer = answer_nothing(alloc, &question);
+        drop(question);
+        answer
     }
 }
 

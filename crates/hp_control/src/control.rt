@@ -1,7 +1,7 @@
 //! The control state: all that the tree builder knows (13.2.4).
 ghost use Rattle.std.specs.Prelude.{◌≡◌, IsTrue, ◌↔◌, IfOk};
 
-use crate::copies::{Lists, copy_lists};
+use crate::copies::copy_lists;
 use crate::element::FormattingEntry;
 use crate::open_elements::OpenElements;
 use crate::sameness::{same_elements, same_entries, same_original, same_templates};
@@ -80,18 +80,13 @@ impl Control {
         let pending = self.pending.copy(alloc)?;
         let lists = copy_lists(alloc, self)?;
         let lex = self.lex.copy(alloc)?;
-        let Lists {
-            templates,
-            stack,
-            formatting,
-        } = lists;
         Ok(Control {
             lex,
             mode: self.mode,
             original: self.original,
-            templates,
-            stack,
-            formatting,
+            templates: lists.templates,
+            stack: lists.stack,
+            formatting: lists.formatting,
             head: self.head,
             form: self.form,
             frameset_ok: self.frameset_ok,

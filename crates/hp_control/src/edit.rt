@@ -3,7 +3,7 @@
 ghost use Rattle.std.specs.Prelude.{◌≡◌, ◌+◌, ◌∷◌, ◌++◌, [], length, IsTrue, ◌↔◌, OnOk, OnErr};
 ghost use Rattle.hp_control.specs.Edits.{room_of, room_of_all};
 
-use crate::items::{begin, lose};
+use crate::items::{add, begin, lose};
 use hp_elements::{Attribute, Chain, Doctype, Tag, Text};
 use std::alloc::{AllocError, Global};
 use std::marker::Model;
@@ -199,27 +199,6 @@ impl<'p> Edits<'p> {
             mem::swap(items, taken);
         }
         self.room = 0;
-    }
-}
-
-/// One more edit. At an `Err` the edits are as before.
-#[inline(always)]
-fn add<'p>(
-    alloc: Global,
-    edits: &mut Option<Vec<Edit<'p>>>,
-    edit: Edit<'p>,
-) -> Result<(), AllocError>
-    ensures ok { OnOk result (held edits.new ≡ held edits.old ++ edit.entry ∷ []) }
-    ensures err { OnErr result (held edits.new ≡ held edits.old) }
-{
-    begin(alloc, edits);
-    match edits {
-        Some(items) => {
-            items.reserve(1)?;
-            items.push_reserved(edit);
-            Ok(())
-        }
-        None => unreachable!(),
     }
 }
 

@@ -76,20 +76,7 @@ impl<T: Drop> Items<T> {
         ensures ok { OnOk result (self.new ≡ self.old ++ item ∷ []) }
         ensures err { OnErr result (self.new ≡ self.old) }
     {
-        begin(alloc, &mut self.items);
-        match &mut self.items {
-            Some(items) => match items.reserve(1) {
-                Ok(()) => {
-                    items.push_reserved(item);
-                    Ok(())
-                }
-                Err(failed) => {
-                    lose(item);
-                    Err(failed)
-                }
-            },
-            None => unreachable!(),
-        }
+        add(alloc, &mut self.items, item)
     }
 
     /// Takes the last item off; `None` where there is none.
@@ -147,6 +134,32 @@ pub(crate) fn begin<T: Drop>(alloc: Global, items: &mut Option<Vec<T>>)
 {
     if items.is_none() {
         *items = Some(Vec::new(alloc));
+    }
+}
+
+/// Appends an item. At an `Err`, which comes only for want of memory, the items are as before and the item is dropped.
+#[inline(always)]
+pub(crate) fn add<T: Drop>(
+    alloc: Global,
+    items: &mut Option<Vec<T>>,
+    item: T,
+) -> Result<(), AllocError>
+    ensures ok { OnOk result (held items.new ≡ held items.old ++ item ∷ []) }
+    ensures err { OnErr result (held items.new ≡ held items.old) }
+{
+    begin(alloc, items);
+    match items {
+        Some(items) => match items.reserve(1) {
+            Ok(()) => {
+                items.push_reserved(item);
+                Ok(())
+            }
+            Err(failed) => {
+                lose(item);
+                Err(failed)
+            }
+        },
+        None => unreachable!(),
     }
 }
 

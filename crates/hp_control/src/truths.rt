@@ -162,14 +162,21 @@ pub(crate) fn top_has_entry(
 }
 
 /// Whether the answer says how the last entry of a name stands.
-fn is_listed(kind: EntryKind, top: bool, answer: &Answer) -> bool
-    ensures { IsTrue result ↔ (Answer.Entry kind top ≡ answer.now) }
+fn is_listed(
+    stack: &OpenElements,
+    depth: usize,
+    list: &Stack<FormattingEntry>,
+    from: usize,
+    name: &Name,
+    answer: &Answer,
+) -> bool
+    ensures { IsTrue result ↔ (listed_answer name.now (drop depth stack.now) (drop from list.now) ≡ answer.now) }
 {
     match answer {
-        Answer::Entry {
-            kind: said,
-            top: said_top,
-        } => *said == kind && *said_top == top,
+        Answer::Entry { kind, top } => {
+            *kind == kind_of(stack, depth, list, from, name)
+                && *top == top_has_entry(stack, depth, list, from)
+        }
         _ => false,
     }
 }
@@ -313,6 +320,8 @@ fn is_last_tag(lex: &LexState, answer: &Answer) -> bool
 pub fn truth(control: &Control, question: &Question, answer: &Answer) -> bool
     ensures { IsTrue result ↔ (answer_of control.now question.now ≡ answer.now) }
 {
+    let stack = &control.stack;
+    let list = &control.formatting;
     match question {
         Question::Entry => is_entry(
             &control.lex,
@@ -321,13 +330,13 @@ pub fn truth(control: &Control, question: &Question, answer: &Answer) -> bool
             control.skip_lf,
             answer,
         ),
-        Question::Elem { depth } => is_element(&control.stack, *depth, answer),
+        Question::Elem { depth } => is_element(stack, *depth, answer),
         Question::Seen {
             depth,
             goals,
             stops,
         } => {
-            let found = reach_from(&control.stack, *depth as usize, goals, stops);
+            let found = reach_from(stack, *depth as usize, goals, stops);
             is_yes_or_no(found.is_some(), answer)
         }
         Question::Reach {
@@ -335,44 +344,38 @@ pub fn truth(control: &Control, question: &Question, answer: &Answer) -> bool
             goals,
             stops,
         } => {
-            let found = reach_from(&control.stack, *depth as usize, goals, stops);
+            let found = reach_from(stack, *depth as usize, goals, stops);
             is_depth(*depth, found, answer)
         }
         Question::RunOf { depth, names } => {
-            let count = run_from(&control.stack, *depth as usize, names);
+            let count = run_from(stack, *depth as usize, names);
             is_count(count as u64, answer)
         }
         Question::HasTemplate { depth } => {
-            is_yes_or_no(has_template(&control.stack, *depth as usize), answer)
+            is_yes_or_no(has_template(stack, *depth as usize), answer)
         }
         Question::ResetFrom { depth } => {
             let mode = reset_from(
                 control.head.is_some(),
                 &control.templates,
-                &control.stack,
+                stack,
                 *depth as usize,
             );
             is_mode(mode, answer)
         }
         Question::Quiet { depth, cuts } => {
-            let from = cleared_from(&control.formatting, *cuts);
-            is_yes_or_no(
-                is_quiet(&control.stack, *depth as usize, &control.formatting, from),
-                answer,
-            )
+            let from = cleared_from(list, *cuts);
+            is_yes_or_no(is_quiet(stack, *depth as usize, list, from), answer)
         }
         Question::Listed { depth, cuts, name } => {
-            let depth = *depth as usize;
-            let from = cleared_from(&control.formatting, *cuts);
-            let kind = kind_of(&control.stack, depth, &control.formatting, from, name);
-            let top = top_has_entry(&control.stack, depth, &control.formatting, from);
-            is_listed(kind, top, answer)
+            let from = cleared_from(list, *cuts);
+            is_listed(stack, *depth as usize, list, from, name, answer)
         }
         Question::Same { cuts, tag } => {
-            let from = cleared_from(&control.formatting, *cuts);
-            is_count(equals_from(&control.formatting, from, tag), answer)
+            let from = cleared_from(list, *cuts);
+            is_count(equals_from(list, from, tag), answer)
         }
-        Question::Pointer { depth } => is_pointer(&control.stack, *depth, control.form, answer),
+        Question::Pointer { depth } => is_pointer(stack, *depth, control.form, answer),
         Question::Fact {
             which: FactKind::Quirks,
         } => is_yes_or_no(control.quirks, answer),
@@ -381,7 +384,7 @@ pub fn truth(control: &Control, question: &Question, answer: &Answer) -> bool
         } => is_last_tag(&control.lex, answer),
         Question::Whole { depth } => {
             is_whole(
-                second_is_body(&control.stack, *depth as usize),
+                second_is_body(stack, *depth as usize),
                 control.frameset_ok,
                 answer,
             )

@@ -10,4 +10,4 @@ use Rattle.hp_control.proofs.below.NothingBelow.ask.Goals as goal
 pub returns : goal.returns
 returns c =
     let h : Heard = record { says = answer_of nothing; kept = None } in
-    IfOk-weaker c.answer_nothing.result (λ (answer : Answer). answer ≡ answer_of nothing c.args.question) (λ (answer : Answer). Runs h h (asks c.args.question gives) (Ok answer)) (λ answer e. record { ends = ap Ok (sym e); noted = refl }) c.answer_nothing.ensures
+    IfOk-weaker c.answer_nothing-answer.result (λ (answer : Answer). answer ≡ answer_of nothing c.args.question) (λ (answer : Answer). Runs h h (asks c.args.question gives) (Ok answer)) (λ answer e. record { ends = ap Ok (sym e); noted = refl }) c.answer_nothing-answer.ensures
