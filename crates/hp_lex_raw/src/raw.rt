@@ -418,18 +418,9 @@ pub fn next_text<'p>(
     ensures held { held state.now ≤ input.new.place }
 {
     match state.machine.state {
-        State::Rcdata => {
-            let token = hp_tokens::next_text::<TextRows, DataText>(state, input, rested)?;
-            Some(token)
-        }
-        State::Rawtext => {
-            let token = hp_tokens::next_text::<TextRows, RawText>(state, input, rested)?;
-            Some(token)
-        }
-        State::ScriptData => {
-            let token = hp_tokens::next_text::<TextRows, RawText>(state, input, rested)?;
-            Some(token)
-        }
+        State::Rcdata => hp_tokens::next_text::<TextRows, DataText>(state, input, rested),
+        State::Rawtext => hp_tokens::next_text::<TextRows, RawText>(state, input, rested),
+        State::ScriptData => hp_tokens::next_text::<TextRows, RawText>(state, input, rested),
         _ => None,
     }
 }
@@ -452,18 +443,9 @@ pub fn next_plain<'p>(
     ensures held { held state.now ≤ input.new.place }
 {
     match state.machine.state {
-        State::Rcdata => {
-            let text = hp_tokens::next_data::<TextRows>(state, input, rested)?;
-            Some(text)
-        }
-        State::Rawtext => {
-            let text = hp_tokens::next_raw::<TextRows>(state, input, rested)?;
-            Some(text)
-        }
-        State::ScriptData => {
-            let text = hp_tokens::next_raw::<TextRows>(state, input, rested)?;
-            Some(text)
-        }
+        State::Rcdata => hp_tokens::next_data::<TextRows>(state, input, rested),
+        State::Rawtext => hp_tokens::next_raw::<TextRows>(state, input, rested),
+        State::ScriptData => hp_tokens::next_raw::<TextRows>(state, input, rested),
         _ => None,
     }
 }

@@ -1,4 +1,5 @@
-use Rattle.std.proofs.Common.{◌≡◌, ℕ, Bool, refl, sym, subst}
+use Rattle.std.proofs.Common.{◌≡◌, ℕ, Bool, refl, ap, sym, subst}
+use Rattle.std.proofs.lemmas.Option.{IfSome_then}
 use Rattle.hp_tokens.specs.declared.state.State.{State}
 use Rattle.hp_tokens.specs.declared.state.State.TheVariants.{Rcdata}
 use Rattle.hp_tokens.specs.Plain.{none_of, data_stops, EmitsPlain}
@@ -30,11 +31,20 @@ next_text-requires-in-ScriptData-clause-blanks c = script_blanks c.args.state.no
 pub next_text-requires-in-ScriptData-clause-others : goal.next_text-requires-in-ScriptData-clause-others
 next_text-requires-in-ScriptData-clause-others c = script_others c.args.state.now.machine.state c.in-ScriptData.is
 
-pub returns-in_ok-token-in-Rcdata-clause-turn : goal.returns-in_ok-token-in-Rcdata-clause-turn
-returns-in_ok-token-in-Rcdata-clause-turn c = c.in_ok-token-in-Rcdata.ensures.turn raw_rules is_here text_rows
+pub returns-in-Rcdata-clause-turn : goal.returns-in-Rcdata-clause-turn
+returns-in-Rcdata-clause-turn c = IfSome_then c.next_text.result c.next_text.ensures.turn (λ token turned. turned raw_rules is_here text_rows)
 
-pub returns-in_ok-token-in-Rawtext-clause-turn : goal.returns-in_ok-token-in-Rawtext-clause-turn
-returns-in_ok-token-in-Rawtext-clause-turn c = c.in_ok-token-in-Rawtext.ensures.turn raw_rules is_here text_rows
+pub returns-in-Rcdata-clause-here : goal.returns-in-Rcdata-clause-here
+returns-in-Rcdata-clause-here c = IfSome_then c.next_text.result c.next_text.ensures.turn (λ token turned. ap is_here c.in-Rcdata.is)
 
-pub returns-in_ok-token-in-ScriptData-clause-turn : goal.returns-in_ok-token-in-ScriptData-clause-turn
-returns-in_ok-token-in-ScriptData-clause-turn c = c.in_ok-token-in-ScriptData.ensures.turn raw_rules is_here text_rows
+pub returns-in-Rawtext-clause-turn : goal.returns-in-Rawtext-clause-turn
+returns-in-Rawtext-clause-turn c = IfSome_then c.next_text-in-Rawtext.result c.next_text-in-Rawtext.ensures.turn (λ token turned. turned raw_rules is_here text_rows)
+
+pub returns-in-Rawtext-clause-here : goal.returns-in-Rawtext-clause-here
+returns-in-Rawtext-clause-here c = IfSome_then c.next_text-in-Rawtext.result c.next_text-in-Rawtext.ensures.turn (λ token turned. ap is_here c.in-Rawtext.is)
+
+pub returns-in-ScriptData-clause-turn : goal.returns-in-ScriptData-clause-turn
+returns-in-ScriptData-clause-turn c = IfSome_then c.next_text-in-ScriptData.result c.next_text-in-ScriptData.ensures.turn (λ token turned. turned raw_rules is_here text_rows)
+
+pub returns-in-ScriptData-clause-here : goal.returns-in-ScriptData-clause-here
+returns-in-ScriptData-clause-here c = IfSome_then c.next_text-in-ScriptData.result c.next_text-in-ScriptData.ensures.turn (λ token turned. ap is_here c.in-ScriptData.is)
