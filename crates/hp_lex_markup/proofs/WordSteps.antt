@@ -26,29 +26,46 @@ use Rattle.hp_lex_markup.specs.Held.{SameStand, PastWord, MovesByRow, pair_next}
 use Rattle.hp_lex_markup.specs.Fine.{here_fine}
 use Rattle.hp_lex_markup.proofs.Spelled.{stays}
 
+never : {A : Type 0} → IsTrue false → A
+never h = cc
+
 chosen : (b : Bool) (x y : Move) → IsTrue b → cond b x y ≡ x
 chosen true x y h = refl
-chosen false x y h = cc
+chosen false x y h = never h
+
+passed : (b : Bool) (x y : Move) → b ≡ false → cond b x y ≡ y
+passed true x y h = never (sym h)
+passed false x y h = refl
+
+-- the moves in a state, by whether it may read a word
+on_either : (s : State) (l : Lexing) (c : ℕ) (cs : List ℕ) → on_state s l c cs ≡ cond (reads_word s) (word_move l c cs) (cond (has_row s) (row_move row l c cs) needs_more)
+on_either MarkupDeclarationOpen l c cs = refl
+on_either AfterDoctypeName l c cs = refl
+on_either _ l c cs = refl
+
+last_either : (s : State) (l : Lexing) (text : List ℕ) → last_state s l text ≡ cond (reads_word s) (word_end l text) (cond (has_row s) (row_end row l text) needs_more)
+last_either MarkupDeclarationOpen l text = refl
+last_either AfterDoctypeName l text = refl
+last_either _ l text = refl
+
+no_word_there : (a b : Bool) → IsTrue (a && not b) → b ≡ false
+no_word_there true true h = never h
+no_word_there true false h = refl
+no_word_there false b h = never h
 
 -- the states that read by their row alone
 pub markup_rows : HasRows markup_rules has_row row
 markup_rows = record {
-  on = λ l c cs is. on_row l.machine.state l c cs is;
-  last = λ l text is. last_row l.machine.state l text is;
+  on = λ l c cs is.
+      on_either l.machine.state l c cs
+      ∙ (passed (reads_word l.machine.state) _ _ (no_word_there (is_here l.machine.state) (reads_word l.machine.state) is) ∙ chosen (has_row l.machine.state) _ _ is);
+  last = λ l text is.
+      last_either l.machine.state l text
+      ∙ (passed (reads_word l.machine.state) _ _ (no_word_there (is_here l.machine.state) (reads_word l.machine.state) is) ∙ chosen (has_row l.machine.state) _ _ is);
 }
-  where
-    on_row : (s : State) (l : Lexing) (c : ℕ) (cs : List ℕ) → IsTrue (has_row s) → on_state s l c cs ≡ row_move row l c cs
-    on_row MarkupDeclarationOpen l c cs is = cc
-    on_row AfterDoctypeName l c cs is = cc
-    on_row s l c cs is = chosen (has_row s) (row_move row l c cs) needs_more is
-
-    last_row : (s : State) (l : Lexing) (text : List ℕ) → IsTrue (has_row s) → last_state s l text ≡ row_end row l text
-    last_row MarkupDeclarationOpen l text is = cc
-    last_row AfterDoctypeName l text is = cc
-    last_row s l text is = chosen (has_row s) (row_end row l text) needs_more is
 
 both_true : (a b : Bool) → IsTrue a → b ≡ false → IsTrue (a && not b)
-both_true true true h k = cc
+both_true true true h k = never (sym k)
 both_true true false h k = refl
 both_true false b h k = h
 
@@ -65,7 +82,7 @@ row_here s h = first_of_both (is_here s) (not (reads_word s)) h
 pub word_here : (s : State) → IsTrue (reads_word s) → IsTrue (is_here s)
 word_here MarkupDeclarationOpen h = refl
 word_here AfterDoctypeName h = refl
-word_here _ h = cc
+word_here _ h = never h
 
 pub word_true : (b : Bool) → b ≡ true → IsTrue b
 word_true b e = e
@@ -80,25 +97,21 @@ pub no_pair_at : (after_cr : Bool) (u : List ℕ) → pair_next after_cr (first 
 no_pair_at after_cr u h c cs e = ap (λ (xs : List ℕ). pair_next after_cr (first xs)) (sym e) ∙ h
 
 -- the move in a state that may read a word
-on_word : (s : State) (l : Lexing) (c : ℕ) (cs : List ℕ) → IsTrue (reads_word s) → on_state s l c cs ≡ word_move l c cs
-on_word MarkupDeclarationOpen l c cs is = refl
-on_word AfterDoctypeName l c cs is = refl
-on_word _ l c cs is = cc
+on_word : (l : Lexing) (c : ℕ) (cs : List ℕ) → IsTrue (reads_word l.machine.state) → on_state l.machine.state l c cs ≡ word_move l c cs
+on_word l c cs is = on_either l.machine.state l c cs ∙ chosen (reads_word l.machine.state) _ _ is
 
-last_word : (s : State) (l : Lexing) (text : List ℕ) → IsTrue (reads_word s) → last_state s l text ≡ word_end l text
-last_word MarkupDeclarationOpen l text is = refl
-last_word AfterDoctypeName l text is = refl
-last_word _ l text is = cc
+last_word : (l : Lexing) (text : List ℕ) → IsTrue (reads_word l.machine.state) → last_state l.machine.state l text ≡ word_end l text
+last_word l text is = last_either l.machine.state l text ∙ chosen (reads_word l.machine.state) _ _ is
 
 word_at : (l : Lexing) (c : ℕ) (cs : List ℕ) → IsTrue (reads_word l.machine.state) → l.unread ≡ c ∷ cs
     → (l.machine.after_cr && c == 10) ≡ false → move markup_rules l ≡ word_move l c cs
 word_at l c cs is text no_lf =
-    ap (λ (u : List ℕ). move_on markup_rules l u) text ∙ (rw no_lf (on_word l.machine.state l c cs is))
+    ap (λ (u : List ℕ). move_on markup_rules l u) text ∙ (passed (l.machine.after_cr && c == 10) _ _ no_lf ∙ on_word l c cs is)
 
 ended_at : (l : Lexing) (c : ℕ) (cs : List ℕ) → IsTrue (reads_word l.machine.state) → l.unread ≡ c ∷ cs
     → (l.machine.after_cr && c == 10) ≡ false → end_move markup_rules l ≡ word_end l (c ∷ cs)
 ended_at l c cs is text no_lf =
-    ap (λ (u : List ℕ). end_move_on markup_rules l u) text ∙ (rw no_lf (last_word l.machine.state l (c ∷ cs) is))
+    ap (λ (u : List ℕ). end_move_on markup_rules l u) text ∙ (passed (l.machine.after_cr && c == 10) _ _ no_lf ∙ last_word l (c ∷ cs) is)
 
 -- where the word is decided
 module _ (old : LexState) (old_input : Unread) (c : ℕ) (cs : List ℕ) (mid : LexState) (input : Unread) (rested : ℕ)
@@ -116,13 +129,13 @@ module _ (old : LexState) (old_input : Unread) (c : ℕ) (cs : List ℕ) (mid : 
       → move markup_rules (lexing mid input rested) ≡ word_read (word mid.machine.state mid.ahead) (lexing mid input rested) c cs
   decided_move closed =
       let s = stays mid.machine.state mid.ahead input.text closed in
-      move_there ∙ (rw s.0 (ap (λ (o : Option Word). word_read o (lexing mid input rested) c cs) s.1))
+      move_there ∙ (passed (is_open mid.machine.state (unread mid input)) _ _ s.0 ∙ ap (λ (o : Option Word). word_read o (lexing mid input rested) c cs) s.1)
 
   pub needs_more_there : input.text ≡ [] → is_open mid.machine.state mid.ahead ≡ true → move markup_rules (lexing mid input rested) ≡ needs_more
   needs_more_there none undecided =
       let all : unread mid input ≡ mid.ahead = ap (λ (xs : List ℕ). mid.ahead ++ xs) none ∙ append-nil mid.ahead in
       let undecided_there : is_open mid.machine.state (unread mid input) ≡ true = ap (λ (xs : List ℕ). is_open mid.machine.state xs) all ∙ undecided in
-      move_there ∙ (rw undecided_there refl)
+      move_there ∙ chosen (is_open mid.machine.state (unread mid input)) _ _ undecided_there
 
 -- a word that was read ahead is read
 count-positive : (w : Word) → 0 < count w
@@ -131,6 +144,11 @@ count-positive Doctype = omega arith
 count-positive Cdata = omega arith
 count-positive Public = omega arith
 count-positive System = omega arith
+
+-- fewer code points are unread, and a rank is below 8
+fewer : (n ahead further old new new_rank old_rank : ℕ) → 0 < n → n ≤ ahead → old ≡ ahead + further → new ≡ old - n → new_rank < 8
+    → 8 * new + new_rank < 8 * old + old_rank
+fewer n ahead further old new new_rank old_rank one fits all shorter below = omega arith
 
 module _ (w : Word) (mid : LexState) (input : Unread) (new : LexState) (rested : ℕ) (within : held mid ≤ input.place)
     (past : PastWord w mid new) where
@@ -154,13 +172,9 @@ module _ (w : Word) (mid : LexState) (input : Unread) (new : LexState) (rested :
   past_smaller : 8 * length (unread new input) + rank new.machine.state (symbol_of (unread new input))
       < 8 * length (unread mid input) + rank mid.machine.state (symbol_of (unread mid input))
   past_smaller =
-      let one : 0 < count w = count-positive w in
-      let fits : count w ≤ length mid.ahead = past.fits in
-      let all : length (unread mid input) ≡ length mid.ahead + length input.text = length-append mid.ahead input.text in
-      let shorter : length (unread new input) ≡ length (unread mid input) - count w =
-      ap length (sym past_text) ∙ length-drop (count w) (unread mid input) in
-      let below = rank-below new.machine.state (symbol_of (unread new input)) in
-      omega (arith, one, fits, all, shorter, below)
+      fewer (count w) (length mid.ahead) (length input.text) (length (unread mid input)) (length (unread new input)) _ _ (count-positive w) past.fits
+      (length-append mid.ahead input.text) (ap length (sym past_text) ∙ length-drop (count w) (unread mid input))
+      (rank-below new.machine.state (symbol_of (unread new input)))
 
   pub past_goes : (next : Lexing → Move) (tokens : List Token) → rested ≡ (lexing mid input rested).rested
       → next (lexing mid input rested) ≡ past_word w (lexing mid input rested)
@@ -168,7 +182,7 @@ module _ (w : Word) (mid : LexState) (input : Unread) (new : LexState) (rested :
   past_goes next tokens settled made =
       goes_by next (lexing mid input rested) (lexing new input rested) tokens tokens [] false
       (made ∙ ap (λ (x : Lexing). makes x []) (stand_same (sym past.machine) past_place (sym settled) past_text))
-      (sym (append-nil tokens)) tt (rw (eq-eqb (length tokens) (length tokens) refl) refl) past_smaller
+      (sym (append-nil tokens)) tt (sym (ap not (eq-eqb (length tokens) (length tokens) refl))) past_smaller
 
 -- the row of the state on a code point
 module _ (next : Lexing → Move) (old : LexState) (input : Unread) (mid : Machine) (new : LexState) (new_input : Unread) (c rested : ℕ)
@@ -222,7 +236,7 @@ module _ (old : LexState) (input : Unread) (mid : Machine) (rested : ℕ) (old_t
       let l : Lexing = lexing old input rested in
       let absent : word old.machine.state (unread old input) ≡ None = ap (λ (u : List ℕ). word old.machine.state u) none ∙ no_word old.machine.state in
       ap (λ (u : List ℕ). end_move_on markup_rules l u) none
-      ∙ (last_word old.machine.state l [] is
+      ∙ (last_word l [] is
       ∙ (ap (λ (o : Option Word). word_read_at_end o l []) absent
       ∙ ap (λ (x : Reads). after_end (row old.machine None) l x) e))
 
