@@ -1,5 +1,7 @@
 -- What is read without the table, and the end of a piece, are steps.
 use Rattle.std.specs.Option.{is_some}
+use Rattle.std.specs.List.{list_all}
+use Rattle.std.specs.Prelude.{IfSome, ◌<◌, length, map}
 use Rattle.std.proofs.Common.{◌≡◌, ℕ, Bool, true, false, ◌-◌, ◌≤◌, ◌^◌, List, [], ◌∷◌, ◌++◌, refl, ap, ◌∙◌, sym, subst, arith, Option, None, Some}
 use Rattle.hp_elements.specs.declared.token.Token.{Token}
 use Rattle.hp_names.specs.References.{Reference}
@@ -8,6 +10,8 @@ use Rattle.hp_tokens.specs.declared.state.State.TheVariants.{Data}
 use Rattle.hp_tokens.specs.declared.rows.Turn.TheVariants as turns
 use Rattle.hp_tokens.specs.Reading.{IsFront, Unread}
 use Rattle.hp_tokens.specs.Moves.{Lexing, Emitted, Rules, needs_more, makes, move_on, move}
+use Rattle.hp_tokens.specs.Plain.{none_of}
+use Rattle.hp_tokens.specs.Rows.{character}
 use Rattle.hp_tokens.specs.Runs.{Leads}
 use Rattle.hp_tokens.specs.Advancing.{held, unread, lexing, Advances, Stops, Turned}
 use Rattle.hp_tokens.proofs.OneByOne.{none_yet}
@@ -17,7 +21,7 @@ use Rattle.hp_lexer.specs.declared.lexer.Asked.TheVariants as asked
 use Rattle.hp_lexer.specs.declared.lexer.Lexer.{Lexer}
 use Rattle.hp_lexer.specs.declared.lexer.Step.TheVariants as steps
 use Rattle.hp_lexer.specs.Table.{table, part_of}
-use Rattle.hp_lexer.specs.Standing.{stands, Reaches, ReachesCut, RestsInData, Stepped, TagStepped}
+use Rattle.hp_lexer.specs.Standing.{stands, Reaches, ReachesCut, RestsInData, Stepped, PlainStepped, TagStepped}
 use Rattle.hp_lexer.proofs.Opening.{at_nothing}
 use Rattle.hp_lexer.proofs.Parts.{IsPart, tags-part, text_in_tags, advances, part_made, part_leads}
 
@@ -38,6 +42,13 @@ module _ (old new : Lexer) (old_input new_input : Unread) (none : old.asked ≡ 
     still,
     (s, both (λ x y. Stops (table old.names) (part_of s) y) t.1),
   )
+
+  pub plain_at_once : (s : State) (text : Option (List ℕ))
+      → IfSome text (λ xs. Turned (table old.names) (part_of s) (lexing old.lex old_input old.rested) [] (lexing new.lex new_input new.rested) (map character xs) new.rested turns.Emitted)
+      → IfSome text (λ xs. list_all (none_of (0 ∷ [])) xs ≡ true) → IfSome text (λ xs. 0 < length xs)
+      → IfSome text (λ xs. PlainStepped old old_input new new_input xs)
+  plain_at_once s None turn no_nul long = tt
+  plain_at_once s (Some text) turn no_nul long = record { stepped = tokens_at_once s (map character text) turn; no_nul = no_nul; long = long }
 
   in_table : (tag : Token) → EmitsLast (tag_rules old.names) (lexing old.lex old_input old.rested) tag (lexing new.lex new_input new.rested) new.rested
       → EmitsLast (table old.names) (lexing old.lex old_input old.rested) tag (lexing new.lex new_input new.rested) new.rested

@@ -8,3 +8,4 @@ pub mod Loads
 mod Placing
 mod PlacedSteps
 pub mod Direct
+pub mod Told

@@ -3,7 +3,7 @@ ghost use Rattle.std.specs.Prelude.{◌≡◌, ◌-◌, ◌≤◌, ◌^◌, ℕ,
 ghost use Rattle.hp_tokens.specs.declared.rows.Turn.TheVariants as turns;
 ghost use Rattle.hp_lexer.specs.Standing.{behind_cdata};
 
-use crate::turns::{make_end_moves, make_moves, next_plain, next_text};
+use crate::turns::{make_all_end_moves, make_moves, next_plain, next_text};
 use hp_elements::{Name, Rest, Text, Token, Tokens};
 use hp_names::Names;
 pub use hp_tokens::NoMemory;
@@ -164,10 +164,7 @@ impl Lexer {
         ensures ahead { self.new.lex.ahead ≡ self.old.lex.ahead }
     {
         match self.asked {
-            Asked::Nothing => {
-                let text = next_plain(&self.lex, input, &self.names, &mut self.rested)?;
-                Some(text)
-            }
+            Asked::Nothing => next_plain(&self.lex, input, &self.names, &mut self.rested),
             _ => None,
         }
     }
@@ -185,13 +182,8 @@ impl Lexer {
     {
         match self.asked {
             Asked::Nothing => {
-                let text = hp_lex_tags::next_reference(
-                    &mut self.lex,
-                    input,
-                    &self.names,
-                    &mut self.rested,
-                )?;
-                Some(text)
+                let lex = &mut self.lex;
+                hp_lex_tags::next_reference(lex, input, &self.names, &mut self.rested)
             }
             _ => None,
         }
@@ -291,8 +283,7 @@ impl Lexer {
         ensures asked { self.new.asked ≡ self.old.asked }
         ensures lex { self.new.lex ≡ self.old.lex }
     {
-        let token = next_text(&self.lex, input, &self.names, &mut self.rested)?;
-        Some(token)
+        next_text(&self.lex, input, &self.names, &mut self.rested)
     }
 
     /// Makes moves until something is emitted, more input is needed or a question is asked.
@@ -363,13 +354,7 @@ impl Lexer {
     {
         let mut state = self.lex;
         let names = self.names;
-        let mut tokens = Tokens::new();
-        'parts: loop {
-            match make_end_moves(alloc, &mut state, &names, &mut tokens)? {
-                Turn::Moved => {}
-                _ => return Ok(tokens),
-            }
-        }
+        make_all_end_moves(alloc, &mut state, &names)
     }
 }
 

@@ -1,6 +1,6 @@
 // One call of the part of the table that the state is in.
 ghost use Rattle.std.specs.Prelude.{◌≡◌, ◌≤◌, ◌^◌, ℕ, [], ◌∷◌, IfOk, IfSome, IfNone, IsTrue, false, if◌then◌else◌, Bool};
-ghost use Rattle.hp_tokens.specs.Advancing.{held, lexing, end_of_text, Turned, EndTurned};
+ghost use Rattle.hp_tokens.specs.Advancing.{held, lexing, end_of_text, Turned, EndTurned, Ends};
 ghost use Rattle.std.specs.Prelude.{◌<◌, true, length, map};
 ghost use Rattle.std.specs.List.{list_all};
 ghost use Rattle.hp_tokens.specs.Plain.{none_of};
@@ -130,14 +130,8 @@ pub(crate) fn next_text<'p>(
     ensures held { held state.now ≤ input.new.place }
 {
     match state.machine.state {
-        State::Data => {
-            let token = hp_lex_tags::next_text(state, input, names, rested)?;
-            Some(token)
-        }
-        _ => {
-            let token = hp_lex_raw::next_text(state, input, rested)?;
-            Some(token)
-        }
+        State::Data => hp_lex_tags::next_text(state, input, names, rested),
+        _ => hp_lex_raw::next_text(state, input, rested),
     }
 }
 
@@ -159,14 +153,8 @@ pub(crate) fn next_plain<'p>(
     ensures held { held state.now ≤ input.new.place }
 {
     match state.machine.state {
-        State::Data => {
-            let text = hp_lex_tags::next_plain(state, input, names, rested)?;
-            Some(text)
-        }
-        _ => {
-            let text = hp_lex_raw::next_plain(state, input, rested)?;
-            Some(text)
-        }
+        State::Data => hp_lex_tags::next_plain(state, input, names, rested),
+        _ => hp_lex_raw::next_plain(state, input, rested),
     }
 }
 
@@ -218,7 +206,7 @@ fn end_in_markup(
 }
 
 /// Makes the moves of the end of input in the part of the table that the state is in, and appends what they emit.
-pub(crate) fn make_end_moves(
+fn make_end_moves(
     alloc: Global,
     state: &mut LexState,
     names: &Names,
@@ -234,4 +222,22 @@ pub(crate) fn make_end_moves(
         return end_in_raw(alloc, state, names, tokens);
     }
     end_in_markup(alloc, state, names, tokens)
+}
+
+/// Makes the moves of the end of input, in one part of the table after the other: the tokens that they emit, `EndOfInput` last.
+pub(crate) fn make_all_end_moves(
+    alloc: Global,
+    state: &mut LexState,
+    names: &Names,
+) -> Result<Tokens<'static>, NoMemory>
+    requires held { held state.old ≤ 2 ^ 32 }
+    ensures { IfOk result (λ tokens. (rested : ℕ) → Ends (table names.now) (lexing state.old end_of_text rested) [] tokens) }
+{
+    let mut tokens = Tokens::new();
+    'parts: loop {
+        match make_end_moves(alloc, state, names, &mut tokens)? {
+            Turn::Moved => {}
+            _ => return Ok(tokens),
+        }
+    }
 }
