@@ -1,6 +1,6 @@
 -- A state of its parts.
 use Rattle.std.proofs.Common.{◌≡◌, ℕ, suc, ◌+◌, ◌-◌, Bool, true, false, List, [], ◌∷◌, ◌++◌, length, drop, sym, ap, subst, ◌∙◌, arith}
-use Rattle.std.specs.Prelude.{Option, None, Some, if◌then◌else◌}
+use Rattle.std.specs.Prelude.{Option, None, Some, Result, Ok, Err, OnOk, if◌then◌else◌}
 use Rattle.hp_elements.specs.declared.known.Known.TheVariants as known
 use Rattle.hp_elements.specs.declared.token.Mode.{Mode}
 use Rattle.hp_elements.specs.declared.token.Mode.TheVariants as mode
@@ -23,7 +23,7 @@ unfolding elements entries template_modes first_form
 none_made pile s f t o = record { stack = s; formatting = f; templates = t; form = o }
 
 -- one more element was made
-pub one_made : (base : Names) (old new : Pile) (id : ℕ) (name : List ℕ) → IsOf base old → id ≡ length old.stack + 1 → new.stack ≡ element id name ∷ old.stack → new.formatting ≡ entry id name ++ old.formatting → new.templates ≡ (if is_name known.Template name then mode.InTemplate ∷ old.templates else old.templates) → new.form ≡ first_of old.form (if is_name known.Form name then Some id else None) → IsOf (name ∷ base) new
+one_made : (base : Names) (old new : Pile) (id : ℕ) (name : List ℕ) → IsOf base old → id ≡ length old.stack + 1 → new.stack ≡ element id name ∷ old.stack → new.formatting ≡ entry id name ++ old.formatting → new.templates ≡ (if is_name known.Template name then mode.InTemplate ∷ old.templates else old.templates) → new.form ≡ first_of old.form (if is_name known.Form name then Some id else None) → IsOf (name ∷ base) new
 unfolding elements entries template_modes first_form
 one_made base old new id name of i s f t o =
     let n : id ≡ suc (length base) = omega (arith, ap length of.stack, elements_length base) in
@@ -33,6 +33,11 @@ one_made base old new id name of i s f t o =
       templates = t ∙ rw of.templates;
       form = o ∙ rw (n, of.form);
     }
+
+-- one more element was put on top
+pub one_put : {E : Type 0} (result : Result (Unit {0}) E) (base : Names) (old new : Pile) (id : ℕ) (name made : List ℕ) → IsOf base old → id ≡ length old.stack + 1 → made ≡ name → OnOk result (new.stack ≡ element id made ∷ old.stack) → new.formatting ≡ entry id name ++ old.formatting → new.templates ≡ (if is_name known.Template name then mode.InTemplate ∷ old.templates else old.templates) → new.form ≡ first_of old.form (if is_name known.Form name then Some id else None) → OnOk result (IsOf (name ∷ base) new)
+one_put (Ok u) base old new id name made of i n s f t o = one_made base old new id name of i (s ∙ ap (λ (x : List ℕ). element id x ∷ old.stack) n) f t o
+one_put (Err e) base old new id name made of i n s f t o = tt
 
 -- the state of the parts that were made
 pub built : (after_cr : Bool) (names : Names) (name : List ℕ) (lex : LexState) (m : Mode) (original : Option Mode) (pile : Pile) (pending : List ℕ) (count : ℕ) → IsOf names pile → name ≡ top names → lex ≡ lex_for after_cr name → m ≡ (if is_text name then mode.Text else reset_mode true pile.templates pile.stack) → original ≡ (if is_text name then Some (reset_mode true pile.templates (drop 1 pile.stack)) else None) → pending ≡ [] → count ≡ length pile.stack → state_of lex m original pile.templates pile.stack pile.formatting (Some (count + 1)) pile.form false false pending false (count + 2) ≡ state_for after_cr names
@@ -52,12 +57,11 @@ pub built_valid : (after_cr : Bool) (names : Names) (s : ControlState) → s ≡
 built_valid after_cr names s e = subst IsValid (sym e) (state_valid after_cr names)
 
 -- the guessed state, from the tags that were read
-pub guess_of : (before text part : List ℕ) (names ends ends' : Names) (cr : Bool) (s : ControlState) → part ≡ drop (length before - 4096) before → names ≡ after (counted_tags part) [] → ends ≡ unmatched (counted_tags text) [] → ends' ≡ ends → cr ≡ ends_in_cr before → s ≡ state_for cr (with_ends names ends' ++ page) → s ≡ guessed before text
-guess_of before text part names ends ends' cr s p n e e' c is =
+pub guess_of : (before text part : List ℕ) (names : Names) (cr : Bool) (s : ControlState) → part ≡ drop (length before - 4096) before → names ≡ after (counted_tags part) [] → cr ≡ ends_in_cr before → s ≡ state_for cr (with_ends names (unmatched (counted_tags text) []) ++ page) → s ≡ guessed before text
+guess_of before text part names cr s p n c is =
     let n' : names ≡ after (counted_tags (last_part before)) [] =
     n ∙ (ap (λ (xs : List ℕ). after (counted_tags xs) []) p ∙ ap (λ (ts : List SeenTag). after ts []) (sym (start_counted (drop (length before - 4096) before)))) in
-    let ends_are : ends' ≡ unmatched (counted_tags text) [] = e' ∙ e in
-    is ∙ rw (c, n', ends_are)
+    is ∙ rw (c, n')
 
 pub same_guess : (before before' text text' : List ℕ) (s : ControlState) → s ≡ guessed before text → before ≡ before' → text ≡ text' → s ≡ guessed before' text'
 same_guess before before' text text' s is b t = is ∙ (ap (λ (xs : List ℕ). guessed xs text) b ∙ ap (guessed before') t)

@@ -46,8 +46,7 @@ fn open_section(alloc: Global, names: &mut Stack<TagName<'_>>) -> Result<(), NoM
     ensures { OnOk result (names.new ≡ with_section names.old) }
 {
     if is_in_table(names) {
-        names.push(alloc, TagName::of_known(Known::Tbody))?;
-        Ok(())
+        names.add(alloc, TagName::of_known(Known::Tbody))
     } else {
         Ok(())
     }
@@ -58,8 +57,7 @@ fn open_row(alloc: Global, names: &mut Stack<TagName<'_>>) -> Result<(), NoMemor
     ensures { OnOk result (names.new ≡ with_row names.old) }
 {
     if is_in_section(names) {
-        names.push(alloc, TagName::of_known(Known::Tr))?;
-        Ok(())
+        names.add(alloc, TagName::of_known(Known::Tr))
     } else {
         Ok(())
     }
@@ -117,8 +115,7 @@ impl<'t> Scan<'t> {
         ensures unmatched { self.new.unmatched ≡ self.old.unmatched }
     {
         open_implied(alloc, &mut self.names, &name)?;
-        self.names.push(alloc, name)?;
-        Ok(())
+        self.names.add(alloc, name)
     }
 
     fn close(&mut self, alloc: Global, name: TagName<'t>) -> Result<(), NoMemory>

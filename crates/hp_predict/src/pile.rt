@@ -1,5 +1,5 @@
 //! The elements of guessed names, piled up from the first one.
-ghost use Rattle.std.specs.Prelude.{◌≡◌, ◌+◌, ◌<◌, ◌≤◌, ◌^◌, Some, None, [], ◌∷◌, ◌++◌, length, drop, OnOk, IfOk, if◌then◌else◌};
+ghost use Rattle.std.specs.Prelude.{◌≡◌, ◌+◌, ◌<◌, ◌≤◌, ◌^◌, Some, None, [], ◌∷◌, ◌++◌, length, drop, OnOk, if◌then◌else◌};
 ghost use Rattle.hp_elements.specs.Names.{text_of};
 ghost use Rattle.hp_elements.specs.declared.known.Known.TheVariants as knowns;
 ghost use Rattle.hp_elements.specs.declared.token.Mode.TheVariants as modes;
@@ -36,11 +36,9 @@ fn put_entry(
             name: name.to_name(alloc)?,
             attributes: Chain::new(),
         };
-        formatting.push(alloc, FormattingEntry::Element { id, tag })?;
-        Ok(())
+        formatting.add(alloc, FormattingEntry::Element { id, tag })
     } else if name.is_in(SetName::Markers) {
-        formatting.push(alloc, FormattingEntry::Marker)?;
-        Ok(())
+        formatting.add(alloc, FormattingEntry::Marker)
     } else {
         Ok(())
     }
@@ -51,8 +49,7 @@ fn put_mode(alloc: Global, templates: &mut Stack<Mode>, name: &TagName<'_>) -> R
     ensures { OnOk result (templates.new ≡ (if is_name knowns.Template name.now then modes.InTemplate ∷ templates.old else templates.old)) }
 {
     if name.is(Known::Template) {
-        templates.push(alloc, Mode::InTemplate)?;
-        Ok(())
+        templates.add(alloc, Mode::InTemplate)
     } else {
         Ok(())
     }
@@ -77,7 +74,7 @@ fn first_form(form: Option<u64>, id: u64, name: &TagName<'_>) -> Option<u64>
 
 impl Pile {
     /// No element.
-    fn new() -> Pile
+    pub fn new() -> Pile
         ensures of { IsOf [] result }
         ensures none { result.stack ≡ [] }
     {
@@ -105,8 +102,7 @@ impl Pile {
             name: name.to_name(alloc)?,
             point: Point::No,
         };
-        self.stack.push(alloc, element)?;
-        Ok(())
+        self.stack.push(alloc, element)
     }
 }
 
@@ -173,7 +169,7 @@ fn put_open(alloc: Global, pile: &mut Pile, names: &Stack<TagName<'_>>) -> Resul
 }
 
 /// Piles up html and body, end tags that aren't found in the names, and the names.
-fn put_all(
+pub fn put_all(
     alloc: Global,
     pile: &mut Pile,
     names: &Stack<TagName<'_>>,
@@ -186,19 +182,4 @@ fn put_all(
     put_page(alloc, pile)?;
     put_ends(alloc, pile, &ends[found_ends(names, ends)..])?;
     put_open(alloc, pile, names)
-}
-
-/// The parts of the state in which the elements of these names are open.
-pub fn piled(
-    alloc: Global,
-    names: &Stack<TagName<'_>>,
-    ends: &[TagName<'_>],
-) -> Result<Pile, NoMemory>
-    requires { length names.now + length ends.now + 4 < 2 ^ 64 }
-    ensures of { IfOk result (IsOf (with_ends names.now ends.now ++ text_of knowns.Body ∷ text_of knowns.Html ∷ [])) }
-    ensures count { IfOk result (λ pile. length pile.stack + 2 < 2 ^ 64) }
-{
-    let mut pile = Pile::new();
-    put_all(alloc, &mut pile, names, ends)?;
-    Ok(pile)
 }

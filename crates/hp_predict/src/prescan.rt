@@ -1,5 +1,5 @@
 //! The predictor that guesses the open elements from the tags before the chunk and in it.
-ghost use Rattle.std.specs.Prelude.{◌≡◌, ◌+◌, ◌-◌, ◌<◌, ◌≤◌, ◌^◌, true, Some, None, ◌∷◌, [], ◌++◌, length, take, drop, slice_range, IfOk, if◌then◌else◌};
+ghost use Rattle.std.specs.Prelude.{◌≡◌, ◌+◌, ◌-◌, ◌*◌, ◌<◌, ◌≤◌, ◌^◌, true, Some, None, ◌∷◌, [], ◌++◌, length, take, drop, slice_range, IfOk, if◌then◌else◌};
 ghost use Rattle.std.specs.Option.{unwrap_or};
 ghost use Rattle.hp_text.specs.Page.{text_of as text_of_page};
 ghost use Rattle.hp_elements.specs.Names.{text_of};
@@ -9,12 +9,14 @@ ghost use Rattle.hp_elements.specs.declared.token.Mode.TheVariants as modes;
 ghost use Rattle.hp_elements.specs.declared.token.Rest.TheVariants as rests;
 ghost use Rattle.hp_control.specs.Truth.{answer_of};
 ghost use Rattle.hp_control.specs.Walks.{reset_mode};
+ghost use Rattle.hp_predict.specs.Tags.{counted_tags};
+ghost use Rattle.hp_predict.specs.OpenNames.{unmatched};
 ghost use Rattle.hp_predict.specs.Guess.{with_ends, guessed, is_text as spec_is_text, lex_for as spec_lex_for, state_for as spec_state_for, ends_in_cr as spec_ends_in_cr};
 ghost use Rattle.hp_predict.specs.Laws.{IsGuess};
 
 use crate::name::{TagName, has_name};
 use crate::open_names::read_tags;
-use crate::pile::piled;
+use crate::pile::{Pile, put_all};
 use hp_control::{Answer, Control, OpenElements, Predictor, Question, Stack, answer, reset_from};
 use hp_elements::{Known, Mode, Name, NoMemory, Rest, Text};
 use hp_text::Chunk;
@@ -126,7 +128,8 @@ fn state_for(
     requires { length names.now + length ends.now + 4 < 2 ^ 64 }
     ensures { IfOk result (λ control. control ≡ spec_state_for after_cr (with_ends names.now ends.now ++ text_of knowns.Body ∷ text_of knowns.Html ∷ [])) }
 {
-    let pile = piled(alloc, names, ends)?;
+    let mut pile = Pile::new();
+    put_all(alloc, &mut pile, names, ends)?;
     let count = pile.stack.len() as u64;
     let top = &pile.stack.at(0).name;
     let lex = lex_for(alloc, after_cr, top)?;
@@ -148,18 +151,26 @@ fn state_for(
     })
 }
 
+/// The state that is guessed for a text before which these names are open.
+fn guess_from(
+    alloc: Global,
+    after_cr: bool,
+    names: &Stack<TagName<'_>>,
+    text: &[u8],
+) -> Result<Control, NoMemory>
+    requires { length names.now ≤ 3 * 4096 }
+    ensures { IfOk result (λ state. state ≡ spec_state_for after_cr (with_ends names.now (unmatched (counted_tags text.now) []) ++ text_of knowns.Body ∷ text_of knowns.Html ∷ [])) }
+{
+    let closed = read_tags(alloc, text)?;
+    state_for(alloc, after_cr, names, closed.unmatched.as_slice())
+}
+
 /// The state that is guessed for a text, from the text before it.
 fn guess(alloc: Global, before: &[u8], text: &[u8]) -> Result<Control, NoMemory>
     ensures { IfOk result (λ state. state ≡ guessed before.now text.now) }
 {
     let open = read_tags(alloc, last_bytes(before))?;
-    let closed = read_tags(alloc, text)?;
-    state_for(
-        alloc,
-        ends_in_cr(before),
-        &open.names,
-        closed.unmatched.as_slice(),
-    )
+    guess_from(alloc, ends_in_cr(before), &open.names, text)
 }
 
 impl Prescan {
