@@ -473,11 +473,18 @@ def write(names, modes, tables):
         print('    %s,' % part)
     print('];')
     print()
-    print('/// Each way: the column of its mode, its group, the places of its steps.')
-    print('pub(super) static WAYS: [(usize, u8, &[usize]); %d] = [' % len(ways))
+    places, entries = [], []
     for column, number, way in ways:
-        print('    (%d, %d, &[%s]),' % (column, number, ', '.join(str(steps.index(part)) for part in way)))
+        entries.append((column, number, len(places), len(places) + len(way)))
+        places += [steps.index(part) for part in way]
+    print('/// Each way: the column of its mode, its group, and from where to where the places of its steps stand in `PLACES`.')
+    print('pub(super) static WAYS: [(usize, u8, usize, usize); %d] = [' % len(entries))
+    for entry in entries:
+        print('    (%d, %d, %d, %d),' % entry)
     print('];')
+    print()
+    print("/// The places in `STEPS` of the ways' steps, way after way.")
+    print('pub(super) static PLACES: [u8; %d] = [%s];' % (len(places), ', '.join(map(str, places))))
 
 
 def write_names(names):

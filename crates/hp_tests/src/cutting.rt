@@ -2,6 +2,7 @@
 ghost use Rattle.hp_cut.specs.Places.{IsOf};
 ghost use Rattle.hp_text.specs.Page.{text_of};
 
+use crate::cases::{Case, compare};
 use crate::reading::page_of;
 use hp_cut::{CutRefusal, Cuts, cuts_at_tags, cuts_by_size, cuts_listed};
 use hp_text::Page;
@@ -115,20 +116,16 @@ fn listed(alloc: Global, page: Page<'_>, places: &[u64]) -> Result<u32, CutRefus
     Ok(chunks)
 }
 
-fn lists_so(rt: &impl Abort, alloc: Global, case: &Listed) -> bool {
-    let (text, places, wanted) = *case;
-    listed(alloc, page_of(rt, text.as_bytes()), places) == wanted
-}
-
-fn compare_listed(rt: &impl Abort, alloc: Global, cases: &[Listed]) {
-    for case in cases {
-        assert!(rt; lists_so(rt, alloc, case), "{}", case.0);
+impl Case for Listed {
+    fn is_so(&self, rt: &impl Abort, alloc: Global) -> bool {
+        let (text, places, wanted) = *self;
+        listed(alloc, page_of(rt, text.as_bytes()), places) == wanted
     }
 }
 
 #[test]
 fn listed_places(rt: HostRuntime) {
-    compare_listed(&rt, rt.alloc(), LISTED);
+    compare(&rt, rt.alloc(), LISTED);
 }
 
 fn push_places(rt: &impl Abort, places: &mut Vec<u64>, last: u64) {

@@ -1,4 +1,5 @@
 //! Calls that take memory, and the sizes of the types that a page is made of. What is owned is kept to the end of a test.
+use crate::cases::{Case, compare};
 use hp_elements::{
     Attribute, AttributeSpace, Chain, CharClass, Doctype, DoctypeParts, Known, List, Name,
     Namespace, Respelling, Rest, Tag, Text, Token,
@@ -7,8 +8,10 @@ use std::alloc::Global;
 use std::mem;
 use std::process::Abort;
 
-/// A text, and whether it is a known name.
-const NAMES: &[(&str, bool)] = &[
+/// A text, whose name is that text, and whether it is a known one.
+type Named = (&'static str, bool);
+
+const NAMES: &[Named] = &[
     ("p", true),
     ("foreignObject", true),
     ("foreignobject", false),
@@ -22,19 +25,16 @@ fn named(rt: &impl Abort, alloc: Global, text: &str) -> Name {
     Name::from_text(alloc, text).expect(rt, "there is memory")
 }
 
-/// Whether a text's name is that, known or not as told, and its copy the same.
-fn names_so(rt: &impl Abort, alloc: Global, text: &str, known: bool) -> bool {
-    let name = named(rt, alloc, text);
-    let copy = name.copy(alloc).expect(rt, "there is memory");
-    let well = name.as_str() == text && name.known().is_some() == known && copy.same(&name);
-    mem::forget(copy);
-    mem::forget(name);
-    well
-}
-
-fn compare_names(rt: &impl Abort, alloc: Global, names: &[(&str, bool)]) {
-    for (text, known) in names {
-        assert!(rt; names_so(rt, alloc, text, *known), "{text}");
+impl Case for Named {
+    /// Its copy is the same.
+    fn is_so(&self, rt: &impl Abort, alloc: Global) -> bool {
+        let (text, known) = *self;
+        let name = named(rt, alloc, text);
+        let copy = name.copy(alloc).expect(rt, "there is memory");
+        let well = name.as_str() == text && name.known().is_some() == known && copy.same(&name);
+        mem::forget(copy);
+        mem::forget(name);
+        well
     }
 }
 
@@ -50,7 +50,7 @@ fn is_table_in_another_case(rt: &impl Abort, alloc: Global, text: &str) -> bool 
 
 #[test]
 fn names_are_their_texts(rt: HostRuntime) {
-    compare_names(&rt, rt.alloc(), NAMES);
+    compare(&rt, rt.alloc(), NAMES);
     assert!(rt; is_table_in_another_case(&rt, rt.alloc(), "TaBLE"));
 }
 
@@ -210,7 +210,9 @@ fn every_known_name_is_found(rt: HostRuntime) {
 }
 
 /// A name, a table, and how the table spells it; nothing where it doesn't.
-const RESPELLED: &[(&str, Respelling, &str)] = &[
+type Respelled = (&'static str, Respelling, &'static str);
+
+const RESPELLED: &[Respelled] = &[
     ("foreignobject", Respelling::SvgNames, "foreignObject"),
     ("viewbox", Respelling::SvgAttributes, "viewBox"),
     (
@@ -227,24 +229,28 @@ const RESPELLED: &[(&str, Respelling, &str)] = &[
     ("", Respelling::SvgNames, ""),
 ];
 
-fn respells_so(
-    rt: &impl Abort,
-    alloc: Global,
-    text: &str,
-    table: Respelling,
-    spelling: &str,
-) -> bool {
-    let name = named(rt, alloc, text);
-    let well = match name.respelling(table) {
-        None => spelling.is_empty(),
-        Some(known) => known.text() == spelling,
-    };
-    mem::forget(name);
-    well
+impl Case for Respelled {
+    fn is_so(&self, rt: &impl Abort, alloc: Global) -> bool {
+        let (text, table, spelling) = *self;
+        let name = named(rt, alloc, text);
+        let well = match name.respelling(table) {
+            None => spelling.is_empty(),
+            Some(known) => known.text() == spelling,
+        };
+        mem::forget(name);
+        well
+    }
+}
+
+#[test]
+fn names_are_respelled(rt: HostRuntime) {
+    compare(&rt, rt.alloc(), RESPELLED);
 }
 
 /// A name, and its namespace and local name in foreign elements; nothing where it has none.
-const FOREIGN: &[(&str, AttributeSpace, &str)] = &[
+type Foreign = (&'static str, AttributeSpace, &'static str);
+
+const FOREIGN: &[Foreign] = &[
     ("xlink:href", AttributeSpace::Xlink, "href"),
     ("xml:space", AttributeSpace::Xml, "space"),
     ("xmlns", AttributeSpace::Xmlns, "xmlns"),
@@ -253,44 +259,30 @@ const FOREIGN: &[(&str, AttributeSpace, &str)] = &[
     ("href", AttributeSpace::Plain, ""),
 ];
 
-fn is_foreign_so(
-    rt: &impl Abort,
-    alloc: Global,
-    text: &str,
-    space: AttributeSpace,
-    local: &str,
-) -> bool {
-    let name = named(rt, alloc, text);
-    let well = match name.foreign_attribute() {
-        None => local.is_empty(),
-        Some(found) => found.space == space && found.local.text() == local,
-    };
-    mem::forget(name);
-    well
-}
-
-fn compare_respellings(rt: &impl Abort, alloc: Global, respelled: &[(&str, Respelling, &str)]) {
-    for (name, table, spelling) in respelled {
-        assert!(rt; respells_so(rt, alloc, name, *table, spelling), "{name}");
-    }
-}
-
-fn compare_foreign(rt: &impl Abort, alloc: Global, foreign: &[(&str, AttributeSpace, &str)]) {
-    for (name, space, local) in foreign {
-        assert!(rt; is_foreign_so(rt, alloc, name, *space, local), "{name}");
+impl Case for Foreign {
+    fn is_so(&self, rt: &impl Abort, alloc: Global) -> bool {
+        let (text, space, local) = *self;
+        let name = named(rt, alloc, text);
+        let well = match name.foreign_attribute() {
+            None => local.is_empty(),
+            Some(found) => found.space == space && found.local.text() == local,
+        };
+        mem::forget(name);
+        well
     }
 }
 
 #[test]
-fn names_are_respelled(rt: HostRuntime) {
-    compare_respellings(&rt, rt.alloc(), RESPELLED);
-    compare_foreign(&rt, rt.alloc(), FOREIGN);
+fn attributes_are_foreign(rt: HostRuntime) {
+    compare(&rt, rt.alloc(), FOREIGN);
 }
 
 type Part = Option<&'static str>;
 
 /// The name and the two identifiers of a doctype, and whether it gives quirks.
-const DOCTYPES: &[(&str, Part, Part, bool)] = &[
+type Quirky = (&'static str, Part, Part, bool);
+
+const DOCTYPES: &[Quirky] = &[
     ("html", None, None, false),
     ("HTML", None, None, false),
     ("htm", None, None, true),
@@ -355,20 +347,37 @@ fn gives_so(doctype: Doctype<'static>, quirks: bool) -> bool {
     so && forced && nameless
 }
 
-fn compare_doctypes(rt: &impl Abort, alloc: Global, doctypes: &[(&'static str, Part, Part, bool)]) {
-    for (name, public, system, quirks) in doctypes {
-        let doctype = doctype(rt, alloc, name, *public, *system);
-        assert!(rt; gives_so(doctype, *quirks), "{name}");
+impl Case for Quirky {
+    fn is_so(&self, rt: &impl Abort, alloc: Global) -> bool {
+        let (name, public, system, quirks) = *self;
+        gives_so(doctype(rt, alloc, name, public, system), quirks)
     }
 }
 
 #[test]
 fn doctypes_give_quirks(rt: HostRuntime) {
-    compare_doctypes(&rt, rt.alloc(), DOCTYPES);
-    assert!(rt; Known::Title.raw_text() == Some(Rest::Rcdata));
-    assert!(rt; Known::Script.raw_text() == Some(Rest::Script));
-    assert!(rt; Known::Noframes.raw_text() == Some(Rest::Rawtext));
-    assert!(rt; Known::Div.raw_text().is_none());
+    compare(&rt, rt.alloc(), DOCTYPES);
+}
+
+/// A name, and the lexer's state for its text.
+type Raw = (Known, Option<Rest>);
+
+const RAW_TEXTS: &[Raw] = &[
+    (Known::Title, Some(Rest::Rcdata)),
+    (Known::Script, Some(Rest::Script)),
+    (Known::Noframes, Some(Rest::Rawtext)),
+    (Known::Div, None),
+];
+
+impl Case for Raw {
+    fn is_so(&self, _: &impl Abort, _: Global) -> bool {
+        self.0.raw_text() == self.1
+    }
+}
+
+#[test]
+fn texts_are_raw(rt: HostRuntime) {
+    compare(&rt, rt.alloc(), RAW_TEXTS);
 }
 
 /// Gives a tag one more attribute.
@@ -434,8 +443,10 @@ fn lists_are_copied(rt: HostRuntime) {
     assert!(rt; well);
 }
 
-/// How many items two lists have.
-const APPENDED: &[(u32, u32)] = &[
+/// How many items two lists have, of which the second is appended to the first.
+type Appended = (u32, u32);
+
+const APPENDED: &[Appended] = &[
     (0, 0),
     (0, 2),
     (1, 0),
@@ -464,26 +475,22 @@ fn counts(list: List<u32>) -> bool {
     well
 }
 
-/// Whether a list of so many numbers is, with so many more appended, a list of all of them.
-fn appends(rt: &impl Abort, alloc: Global, front: u32, back: u32) -> bool {
-    let all = front.wrapping_add(back);
-    let mut list: List<u32> = List::new();
-    let mut more: List<u32> = List::new();
-    push_numbers(rt, alloc, &mut list, 0, front);
-    push_numbers(rt, alloc, &mut more, front, all);
-    list.append(alloc, &mut more).expect(rt, "there is memory");
-    let whole = more.is_empty() && list.len() == all as usize;
-    mem::forget(more);
-    counts(list) && whole
-}
-
-fn compare_appended(rt: &impl Abort, alloc: Global, appended: &[(u32, u32)]) {
-    for (front, back) in appended {
-        assert!(rt; appends(rt, alloc, *front, *back), "{front} {back}");
+impl Case for Appended {
+    fn is_so(&self, rt: &impl Abort, alloc: Global) -> bool {
+        let (front, back) = *self;
+        let all = front.wrapping_add(back);
+        let mut list: List<u32> = List::new();
+        let mut more: List<u32> = List::new();
+        push_numbers(rt, alloc, &mut list, 0, front);
+        push_numbers(rt, alloc, &mut more, front, all);
+        list.append(alloc, &mut more).expect(rt, "there is memory");
+        let whole = more.is_empty() && list.len() == all as usize;
+        mem::forget(more);
+        counts(list) && whole
     }
 }
 
 #[test]
 fn lists_are_appended(rt: HostRuntime) {
-    compare_appended(&rt, rt.alloc(), APPENDED);
+    compare(&rt, rt.alloc(), APPENDED);
 }

@@ -1,5 +1,6 @@
 //! Guesses as an independent model makes them, and what each predictor says.
 
+use crate::cases::{Case, compare};
 use crate::reading::page_of;
 use hp_control::{
     Answer, Control, FactKind, FormattingEntry, OpenElements, Predictor, Question, Stack, truth,
@@ -13,20 +14,21 @@ use std::process::Abort;
 
 /// A page with a mark before the chunk that is guessed for, and the guess: the names of the open elements, the current node
 /// first; the formatting list, its last entry first, with a star for a marker; the number of the form; mode; lexer.
-const GUESSES: &str = "\
-<b><p>^x</b>y| p b body html; b;0;in body;data
-<table><tr><td>^a</td></tr></table>b| td tr tbody table body html; *;0;in cell;data
-<template><td>^a</template>b| td template body html; * *;0;in cell;data
-a\r^b| body html;;0;in body;data after CR
-<table><td>a^<tr><th>b</table></ul></b>| td tr tbody table ul b body html; * b;0;in cell;data
-<DIV><Br><p class=\">\"><li</li><i>^x| i li p div body html; i;0;in body;data
-<form><ul><form><li></form>^x</p></li></ul>y</form>| ul form p li ul form body html;;3;in body;data
-<script>^a<b</script>| script body html;;0;text;script
-<plaintext>^a| plaintext body html;;0;in body;plaintext
-<textarea>^a</textarea></blink></em>| textarea blink em body html; em;0;text;rcdata
-<my-tag><marquee><a href=x><nobr>^</MY></marquee></u>| nobr a marquee my marquee u body html; nobr a * * u;0;in body;data
-<select><template><table><template>^é</template></table>| template table template select body html; * *;0;in template;data
-^</b></i></b>x| b i b body html; b i b;0;in body;data";
+const GUESSES: &[&str] = &[
+    "<b><p>^x</b>y| p b body html; b;0;in body;data",
+    "<table><tr><td>^a</td></tr></table>b| td tr tbody table body html; *;0;in cell;data",
+    "<template><td>^a</template>b| td template body html; * *;0;in cell;data",
+    "a\r^b| body html;;0;in body;data after CR",
+    "<table><td>a^<tr><th>b</table></ul></b>| td tr tbody table ul b body html; * b;0;in cell;data",
+    "<DIV><Br><p class=\">\"><li</li><i>^x| i li p div body html; i;0;in body;data",
+    "<form><ul><form><li></form>^x</p></li></ul>y</form>| ul form p li ul form body html;;3;in body;data",
+    "<script>^a<b</script>| script body html;;0;text;script",
+    "<plaintext>^a| plaintext body html;;0;in body;plaintext",
+    "<textarea>^a</textarea></blink></em>| textarea blink em body html; em;0;text;rcdata",
+    "<my-tag><marquee><a href=x><nobr>^</MY></marquee></u>| nobr a marquee my marquee u body html; nobr a * * u;0;in body;data",
+    "<select><template><table><template>^é</template></table>| template table template select body html; * *;0;in template;data",
+    "^</b></i></b>x| b i b body html; b i b;0;in body;data",
+];
 
 /// The text from that byte on.
 fn rest_of<'p>(rt: &impl Abort, page: Page<'p>, from: usize) -> Chunk<'p> {
@@ -134,19 +136,15 @@ fn guess(rt: &impl Abort, alloc: Global, before: &str, chunk: &str) -> Prescan {
     guessed
 }
 
-/// Whether the guess of a row is the one that stands there. What is owned is kept to the end of the test.
-fn guesses_so(rt: &impl Abort, alloc: Global, row: &str) -> bool {
-    let (page, wanted) = row.split_once('|').expect(rt, "a row has a guess");
-    let (before, chunk) = page.split_once('^').expect(rt, "a row has a mark");
-    let prescan = guess(rt, alloc, before, chunk);
-    let well = is_described(rt, alloc, prescan.state(), wanted);
-    mem::forget(prescan);
-    well
-}
-
-fn compare(rt: &impl Abort, alloc: Global, guesses: &str) {
-    for row in guesses.split('\n') {
-        assert!(rt; guesses_so(rt, alloc, row), "{row}");
+impl Case for &'static str {
+    /// The guess of the row is the one that stands there.
+    fn is_so(&self, rt: &impl Abort, alloc: Global) -> bool {
+        let (page, wanted) = self.split_once('|').expect(rt, "a row has a guess");
+        let (before, chunk) = page.split_once('^').expect(rt, "a row has a mark");
+        let prescan = guess(rt, alloc, before, chunk);
+        let well = is_described(rt, alloc, prescan.state(), wanted);
+        mem::forget(prescan);
+        well
     }
 }
 

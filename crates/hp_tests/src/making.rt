@@ -1,11 +1,14 @@
 //! Pages against an independent maker's.
+use crate::cases::{Case, compare};
 use hp_make::make_page;
 use std::alloc::Global;
 use std::mem;
 use std::process::Abort;
 
 /// A seed, a length, and the page.
-const WORKED: &[(u64, u32, &str)] = &[
+type Worked = (u64, u32, &'static str);
+
+const WORKED: &[Worked] = &[
     (0, 40, "<!DOCTYPE html>text text <!-- note -->xx"),
     (5, 3, "xxx"),
     (7, 0, ""),
@@ -14,26 +17,19 @@ const WORKED: &[(u64, u32, &str)] = &[
     (0, 16, "<!DOCTYPE html>x"),
 ];
 
-/// Whether the page of a seed and a length is that.
-fn makes_so(rt: &impl Abort, alloc: Global, seed: u64, bytes: u32, wanted: &str) -> bool {
-    let page = make_page(alloc, seed, bytes).expect(rt, "there is memory");
-    let well = page.as_slice() == wanted.as_bytes();
-    mem::forget(page);
-    well
-}
-
-fn compare_pages(rt: &impl Abort, alloc: Global, pages: &[(u64, u32, &str)]) {
-    for (seed, bytes, wanted) in pages {
-        assert!(rt;
-            makes_so(rt, alloc, *seed, *bytes, wanted),
-            "{seed} {bytes}"
-        );
+impl Case for Worked {
+    fn is_so(&self, rt: &impl Abort, alloc: Global) -> bool {
+        let (seed, bytes, wanted) = *self;
+        let page = make_page(alloc, seed, bytes).expect(rt, "there is memory");
+        let well = page.as_slice() == wanted.as_bytes();
+        mem::forget(page);
+        well
     }
 }
 
 #[test]
 fn makes_the_worked_pages(rt: HostRuntime) {
-    compare_pages(&rt, rt.alloc(), WORKED);
+    compare(&rt, rt.alloc(), WORKED);
 }
 
 /// FNV-1a over the bytes.

@@ -1,5 +1,6 @@
 //! Trees that edits make, printed.
 
+use crate::cases::{self, compare};
 use crate::growing::{comment, detach, element, foster, keep_room, make, put, put_element};
 use hp_arena::Tree;
 use hp_control::{Child, Edit, Ref};
@@ -171,19 +172,20 @@ fn prints_so(rt: &impl Abort, alloc: Global, tree: &Tree<'_>, front: &str, rest:
     well
 }
 
-/// Whether the tree of these steps is printed so, in two parts. What is owned is kept to the end of the test.
-fn shows(rt: &impl Abort, alloc: Global, case: &Case) -> bool {
-    let (steps, front, rest) = *case;
-    let mut grown = Grown {
-        tree: Tree::start(alloc).expect(rt, "there is memory"),
-        attributes: Chain::new(),
-    };
-    for step in steps {
-        grow(rt, alloc, &mut grown, *step);
+impl cases::Case for Case {
+    fn is_so(&self, rt: &impl Abort, alloc: Global) -> bool {
+        let (steps, front, rest) = *self;
+        let mut grown = Grown {
+            tree: Tree::start(alloc).expect(rt, "there is memory"),
+            attributes: Chain::new(),
+        };
+        for step in steps {
+            grow(rt, alloc, &mut grown, *step);
+        }
+        let shown = prints_so(rt, alloc, &grown.tree, front, rest);
+        mem::forget(grown);
+        shown
     }
-    let shown = prints_so(rt, alloc, &grown.tree, front, rest);
-    mem::forget(grown);
-    shown
 }
 
 /// Steps, and the printed tree in two parts.
@@ -438,12 +440,6 @@ const SHOP_TEXT: &str = "|   <head>
 
 \"
 ";
-
-fn compare(rt: &impl Abort, alloc: Global, cases: &[Case]) {
-    for case in cases {
-        assert!(rt; shows(rt, alloc, case));
-    }
-}
 
 #[test]
 fn trees_are_printed(rt: HostRuntime) {

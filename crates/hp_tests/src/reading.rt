@@ -1,6 +1,7 @@
 //! Worked pages, and devices that fail.
 ghost use Rattle.std.specs.Prelude.{false, refl};
 
+use crate::cases::{Case, compare};
 use hp_text::{
     Chunk, MemorySink, MemorySource, Page, ReadRefusal, SteadySource, StreamSink, StreamSource,
     TellingRead, TellingWrite, check_page, read_page, write_whole,
@@ -13,63 +14,71 @@ pub fn page_of<'p>(rt: &impl Abort, bytes: &'p [u8]) -> Page<'p> {
     check_page(bytes).expect(rt, "the page is UTF-8")
 }
 
-/// How many bytes a page has, and whether so large a page is read.
-const LENGTHS: &[(usize, bool)] = &[
+/// How many bytes `x` a page has, and whether so large a page is read whole, or else refused as too large.
+type Length = (usize, bool);
+
+const LENGTHS: &[Length] = &[
     (0, true),
     (70_000, true),
     (16_777_216, true),
     (16_777_217, false),
 ];
 
-/// Whether a page of so many bytes `x` is read whole, or else refused as too large.
-fn reads_so(rt: &impl Abort, alloc: Global, len: usize, whole: bool) -> bool {
-    let bytes = vec![in alloc; b'x'; len].expect(rt, "there is memory");
-    let mut source = SteadySource::new(bytes.as_slice());
-    let read = read_page(alloc, &mut source);
-    let well = match &read {
-        Ok(page) => whole && page.len() == len,
-        Err(refusal) => !whole && *refusal == ReadRefusal::TooLarge,
-    };
-    mem::forget(bytes);
-    mem::forget(read);
-    well
-}
-
-fn compare_lengths(rt: &impl Abort, alloc: Global, lengths: &[(usize, bool)]) {
-    for (len, whole) in lengths {
-        assert!(rt; reads_so(rt, alloc, *len, *whole), "{len}");
+impl Case for Length {
+    fn is_so(&self, rt: &impl Abort, alloc: Global) -> bool {
+        let (len, whole) = *self;
+        let bytes = vec![in alloc; b'x'; len].expect(rt, "there is memory");
+        let mut source = SteadySource::new(bytes.as_slice());
+        let read = read_page(alloc, &mut source);
+        let well = match &read {
+            Ok(page) => whole && page.len() == len,
+            Err(refusal) => !whole && *refusal == ReadRefusal::TooLarge,
+        };
+        mem::forget(bytes);
+        mem::forget(read);
+        well
     }
 }
 
 #[test]
 fn reads_at_most_the_limit(rt: HostRuntime) {
-    compare_lengths(&rt, rt.alloc(), LENGTHS);
+    compare(&rt, rt.alloc(), LENGTHS);
 }
 
-/// Whether `abc`, a byte a call, is read where so many calls fail, or else refused as a fault.
-fn reads_abc(rt: &impl Abort, alloc: Global, failing: u64, faults: u64) -> bool {
-    let mut source = MemorySource::new(alloc, b"abc", 1, &[failing]).expect(rt, "there is memory");
-    let read = read_page(alloc, &mut source);
-    let well = match &read {
-        Ok(page) => faults == 0 && page.as_slice() == b"abc".as_slice(),
-        Err(refusal) => faults == 1 && *refusal == ReadRefusal::Fault,
-    };
-    let counted = source.faults() == faults;
-    mem::forget(source);
-    mem::forget(read);
-    well && counted
-}
+/// The call that fails as `abc` is read, a byte a call, and how many faults there are: `abc` is read, or else refused as a fault.
+type Failing = (u64, u64);
 
 // Call 3 is the one at the end, and there is no call 4.
-#[test]
-fn a_failing_read_is_a_fault(rt: HostRuntime) {
-    for failing in 0..4 {
-        assert!(rt; reads_abc(&rt, rt.alloc(), failing, 1), "{failing}");
+const FAILING: &[Failing] = &[(0, 1), (1, 1), (2, 1), (3, 1), (4, 0)];
+
+impl Case for Failing {
+    fn is_so(&self, rt: &impl Abort, alloc: Global) -> bool {
+        let (failing, faults) = *self;
+        let mut source = MemorySource::new(alloc, b"abc", 1, &[failing]).expect(
+            rt,
+            "there is memory",
+        );
+        let read = read_page(alloc, &mut source);
+        let well = match &read {
+            Ok(page) => faults == 0 && page.as_slice() == b"abc".as_slice(),
+            Err(refusal) => faults == 1 && *refusal == ReadRefusal::Fault,
+        };
+        let counted = source.faults() == faults;
+        mem::forget(source);
+        mem::forget(read);
+        well && counted
     }
-    assert!(rt; reads_abc(&rt, rt.alloc(), 4, 0));
 }
 
-const PAGES: &[(&str, &str)] = &[
+#[test]
+fn a_failing_read_is_a_fault(rt: HostRuntime) {
+    compare(&rt, rt.alloc(), FAILING);
+}
+
+/// The bytes of a page, and its text.
+type Worked = (&'static str, &'static str);
+
+const PAGES: &[Worked] = &[
     ("", ""),
     ("hello", "hello"),
     ("\u{e9}b", "\u{e9}b"),
@@ -78,8 +87,21 @@ const PAGES: &[(&str, &str)] = &[
     ("a\u{feff}", "a\u{feff}"),
 ];
 
+impl Case for Worked {
+    fn is_so(&self, rt: &impl Abort, _: Global) -> bool {
+        page_of(rt, self.0.as_bytes()).text() == self.1.as_bytes()
+    }
+}
+
+#[test]
+fn utf8_is_a_page(rt: HostRuntime) {
+    compare(&rt, rt.alloc(), PAGES);
+}
+
 /// Bytes that are no page, and how many of them are UTF-8.
-const NO_PAGES: &[(&[u8], u64)] = &[
+type Refused = (&'static [u8], u64);
+
+const NO_PAGES: &[Refused] = &[
     (b"a\xFF", 1),
     (b"a\xC3", 1),
     (b"\xC3\xA9\xFFb", 2),
@@ -89,30 +111,18 @@ const NO_PAGES: &[(&[u8], u64)] = &[
     (b"\xF4\x90\x80\x80", 0),
 ];
 
-fn compare_pages(rt: &impl Abort, pages: &[(&str, &str)]) {
-    for (bytes, text) in pages {
-        assert!(rt; page_of(rt, bytes.as_bytes()).text() == text.as_bytes());
-    }
-}
-
-/// How many bytes are UTF-8, where not all are.
-fn refused_at(bytes: &[u8]) -> Option<u64> {
-    match check_page(bytes) {
-        Ok(_) => None,
-        Err(refusal) => Some(refusal.at),
-    }
-}
-
-fn compare_refusals(rt: &impl Abort, refused: &[(&[u8], u64)]) {
-    for (bytes, at) in refused {
-        assert!(rt; refused_at(bytes) == Some(*at), "{at}");
+impl Case for Refused {
+    fn is_so(&self, _: &impl Abort, _: Global) -> bool {
+        match check_page(self.0) {
+            Ok(_) => false,
+            Err(refusal) => refusal.at == self.1,
+        }
     }
 }
 
 #[test]
 fn only_utf8_is_a_page(rt: HostRuntime) {
-    compare_refusals(&rt, NO_PAGES);
-    compare_pages(&rt, PAGES);
+    compare(&rt, rt.alloc(), NO_PAGES);
 }
 
 #[test]
@@ -139,36 +149,25 @@ const WRITES: &[Write] = &[
     (0, 9, Some(0), ""),
 ];
 
-/// Whether the beginning of a printed tree is so written into a sink with so much room, one of whose calls fails.
-fn writes_so(
-    rt: &impl Abort,
-    alloc: Global,
-    room: usize,
-    failing: u64,
-    fault: Option<u64>,
-    taken: &str,
-) -> bool {
-    let mut sink = MemorySink::new(alloc, room, &[failing]).expect(rt, "there is memory");
-    let found = match write_whole(&mut sink, b"| <html>\n|   <head>\n") {
-        Ok(()) => None,
-        Err(fault) => Some(fault.taken),
-    };
-    let faults = u64::from(fault.is_some());
-    let well = found == fault && sink.faults() == faults && sink.taken() == taken.as_bytes();
-    mem::forget(sink);
-    well
-}
-
-fn compare_writes(rt: &impl Abort, alloc: Global, writes: &[Write]) {
-    for (room, failing, fault, taken) in writes {
-        let well = writes_so(rt, alloc, *room, *failing, *fault, taken);
-        assert!(rt; well, "{room} {failing}");
+impl Case for Write {
+    /// The beginning of a printed tree is written.
+    fn is_so(&self, rt: &impl Abort, alloc: Global) -> bool {
+        let (room, failing, fault, taken) = *self;
+        let mut sink = MemorySink::new(alloc, room, &[failing]).expect(rt, "there is memory");
+        let found = match write_whole(&mut sink, b"| <html>\n|   <head>\n") {
+            Ok(()) => None,
+            Err(fault) => Some(fault.taken),
+        };
+        let faults = u64::from(fault.is_some());
+        let well = found == fault && sink.faults() == faults && sink.taken() == taken.as_bytes();
+        mem::forget(sink);
+        well
     }
 }
 
 #[test]
 fn writes_all_or_a_stated_part(rt: HostRuntime) {
-    compare_writes(&rt, rt.alloc(), WRITES);
+    compare(&rt, rt.alloc(), WRITES);
 }
 
 /// Its first read gives one byte and its second fails.

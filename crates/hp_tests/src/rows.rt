@@ -40,7 +40,8 @@ struct Reading {
     named: &'static [(usize, bool, Known, u8)],
     nameless: &'static [&'static [u8]; 8],
     steps: &'static [Step],
-    ways: &'static [(usize, u8, &'static [usize])],
+    ways: &'static [(usize, u8, usize, usize)],
+    places: &'static [u8],
 }
 
 static PAGE_MODES: [Mode; 11] = [
@@ -149,11 +150,17 @@ fn if_so(well: bool, next: u32) -> Option<u32> {
 }
 
 impl Reading {
-    /// Whether a row goes through exactly the steps at these places.
-    fn goes(&self, row: u16, own: Option<Known>, places: &[usize]) -> bool {
+    /// The step whose place stands there.
+    fn step(&self, at: usize) -> Option<&'static Step> {
+        let place = self.places.get(at)?;
+        self.steps.get(usize::from(*place))
+    }
+
+    /// Whether a row goes through exactly the steps whose places stand from there to there.
+    fn goes(&self, row: u16, own: Option<Known>, from: usize, to: usize) -> bool {
         let mut at: u32 = 0;
-        for place in places {
-            let next = match (self.steps.get(*place), act_of(self.part, row, at)) {
+        for place in from..to {
+            let next = match (self.step(place), act_of(self.part, row, at)) {
                 (Some(step), Some(found)) => behind(found, at, *step, own),
                 _ => None,
             };
@@ -179,10 +186,10 @@ impl Reading {
     /// Whether the row goes each way of the group, and there is one.
     fn goes_all(&self, column: usize, row: u16, own: Option<Known>, group: u8) -> bool {
         let mut some = false;
-        for (mode, number, places) in self.ways {
+        for (mode, number, from, to) in self.ways {
             if *mode == column && *number == group {
                 some = true;
-                if !self.goes(row, own, places) {
+                if !self.goes(row, own, *from, *to) {
                     return false;
                 }
             }
@@ -190,29 +197,29 @@ impl Reading {
         some
     }
 
-    /// The group of a known name's tag, where it isn't that of another name.
-    fn group(&self, column: usize, is_start: bool, known: Known, other: u8) -> u8 {
+    /// The group of a known name's tag, where it isn't that of another name's; else the other's.
+    fn group(&self, column: usize, is_start: bool, own: Option<Known>, other: u8) -> u8 {
         for (mode, word, name, group) in self.named {
-            if *mode == column && *word == is_start && *name == known {
+            if *mode == column && *word == is_start && own == Some(*name) {
                 return *group;
             }
         }
         other
     }
 
-    /// Compares a known name's tag, given the groups of another name's.
-    fn compare_tag(
+    /// Compares a token with its known name, if it has one, given the groups of such a token without one.
+    fn compare_token(
         &self,
         rt: &impl Abort,
         is_start: bool,
-        known: Known,
+        own: Option<Known>,
         token: &Token<'_>,
         others: &[u8],
     ) {
         for (column, other) in others.iter().enumerate() {
-            let group = self.group(column, is_start, known, *other);
+            let group = self.group(column, is_start, own, *other);
             assert!(rt;
-                self.agrees(column, token, Some(known), group),
+                self.agrees(column, token, own, group),
                 "start tag {is_start}, column {column}, group {group}"
             );
         }
@@ -222,18 +229,8 @@ impl Reading {
     fn compare_named(&self, rt: &impl Abort, is_start: bool, names: &[Known], others: &[u8]) {
         for known in names {
             let token = tag(is_start, Name::of_known(*known));
-            self.compare_tag(rt, is_start, *known, &token, others);
+            self.compare_token(rt, is_start, Some(*known), &token, others);
             mem::forget(token);
-        }
-    }
-
-    /// Compares a token without a known name, given its groups.
-    fn compare_nameless(&self, rt: &impl Abort, token: &Token<'_>, groups: &[u8]) {
-        for (column, group) in groups.iter().enumerate() {
-            assert!(rt;
-                self.agrees(column, token, None, *group),
-                "nameless, column {column}, group {group}"
-            );
         }
     }
 
@@ -241,7 +238,7 @@ impl Reading {
     fn compare(&self, rt: &impl Abort, alloc: Global) {
         for (kind, groups) in self.nameless.iter().enumerate() {
             let token = nameless(rt, alloc, kind);
-            self.compare_nameless(rt, &token, *groups);
+            self.compare_token(rt, kind == 0, None, &token, *groups);
             mem::forget(token);
         }
         self.compare_named(rt, true, &NAMES, self.nameless[0]);
@@ -318,6 +315,7 @@ fn rows_of_page(rt: HostRuntime) {
         nameless: &page::NAMELESS,
         steps: &page::STEPS,
         ways: &page::WAYS,
+        places: &page::PLACES,
     };
     reading.compare(&rt, rt.alloc());
 }
@@ -331,6 +329,7 @@ fn rows_of_body(rt: HostRuntime) {
         nameless: &body::NAMELESS,
         steps: &body::STEPS,
         ways: &body::WAYS,
+        places: &body::PLACES,
     };
     reading.compare(&rt, rt.alloc());
 }
@@ -344,6 +343,7 @@ fn rows_of_table(rt: HostRuntime) {
         nameless: &table::NAMELESS,
         steps: &table::STEPS,
         ways: &table::WAYS,
+        places: &table::PLACES,
     };
     reading.compare(&rt, rt.alloc());
 }
@@ -357,6 +357,7 @@ fn rows_of_rest(rt: HostRuntime) {
         nameless: &rest::NAMELESS,
         steps: &rest::STEPS,
         ways: &rest::WAYS,
+        places: &rest::PLACES,
     };
     reading.compare(&rt, rt.alloc());
 }
