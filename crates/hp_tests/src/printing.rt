@@ -221,6 +221,43 @@ const CASES: &[Case] = &[
         PAGE,
         "|     <a>\n|       \"1\"\n|     <a>\n|       \"2\"\n",
     ),
+    // `<p><table>`: with a doctype the table stands beside the paragraph.
+    (
+        &[
+            Step::Page,
+            Step::New(3, HTML, "p"),
+            Step::New(4, HTML, "table"),
+        ],
+        PAGE,
+        "|     <p>\n|       <table>\n",
+    ),
+    // `&#128;&#0;&#xD800;`
+    (
+        &[
+            Step::Page,
+            Step::Text(3, "\u{20AC}"),
+            Step::Text(3, "\u{FFFD}"),
+            Step::Text(3, "\u{FFFD}"),
+        ],
+        PAGE,
+        "|     \"\u{20AC}\u{FFFD}\u{FFFD}\"\n",
+    ),
+    // A text with U+0000 beside an SVG element.
+    (
+        &[
+            Step::Page,
+            Step::Text(3, "a"),
+            Step::Text(3, "b"),
+            Step::New(3, Namespace::Svg, "svg"),
+            Step::Text(4, "c"),
+            Step::Text(4, "\u{FFFD}"),
+        ],
+        PAGE,
+        "|     \"ab\"\n|     <svg svg>\n|       \"c\u{FFFD}\"\n",
+    ),
+];
+
+const MISNESTED: &[Case] = &[
     // `<p><b><b><b><b><p>x`
     (
         &[
@@ -263,16 +300,9 @@ const CASES: &[Case] = &[
         PAGE,
         "|     <b>\n|       \"1\"\n|     <p>\n|       <b>\n|         \"2\"\n|         <!-- c -->\n|       \"3\"\n",
     ),
-    // `<p><table>`: with a doctype the table stands beside the paragraph.
-    (
-        &[
-            Step::Page,
-            Step::New(3, HTML, "p"),
-            Step::New(4, HTML, "table"),
-        ],
-        PAGE,
-        "|     <p>\n|       <table>\n",
-    ),
+];
+
+const OTHERS: &[Case] = &[
     // An identifier that is absent is printed as empty.
     (
         &[
@@ -307,30 +337,9 @@ const CASES: &[Case] = &[
         "| <html>\n|   <head>\n|     <template>\n|       id=\"t\"\n|       content\n|         <td>\n|           \"a\"\n",
         "|         <template>\n|           content\n|             <!-- b -->\n|   <body>\n|     <svg template>\n|       <math mi>\n",
     ),
-    // `&#128;&#0;&#xD800;`
-    (
-        &[
-            Step::Page,
-            Step::Text(3, "\u{20AC}"),
-            Step::Text(3, "\u{FFFD}"),
-            Step::Text(3, "\u{FFFD}"),
-        ],
-        PAGE,
-        "|     \"\u{20AC}\u{FFFD}\u{FFFD}\"\n",
-    ),
-    // A text with U+0000 beside an SVG element.
-    (
-        &[
-            Step::Page,
-            Step::Text(3, "a"),
-            Step::Text(3, "b"),
-            Step::New(3, Namespace::Svg, "svg"),
-            Step::Text(4, "c"),
-            Step::Text(4, "\u{FFFD}"),
-        ],
-        PAGE,
-        "|     \"ab\"\n|     <svg svg>\n|       \"c\u{FFFD}\"\n",
-    ),
+];
+
+const ATTRIBUTES: &[Case] = &[
     // By code points U+FF21 comes before U+1F600; its code unit FF21 comes after D83D. The word of a namespace counts,
     // and those of one name stay as they are.
     (
@@ -351,6 +360,9 @@ const CASES: &[Case] = &[
         "| <svg a>\n|   x=\"b\"\n|   x=\"a\"\n|   xlink href=\"#\"\n|   xlinka=\"\"\n|   xml lang=\"en\"\n|   xmlns xlink=\"\"\n",
         "|   y=\"2\"\"\n|   \u{D7FF}=\"\"\n|   \u{1F600}=\"\"\n|   \u{E000}=\"\"\n|   \u{FF21}=\"\"\n",
     ),
+];
+
+const PAGES: &[Case] = &[
     // A whole page, with the line feeds between its elements.
     (
         SHOP,
@@ -444,6 +456,26 @@ const SHOP_TEXT: &str = "|   <head>
 #[test]
 fn trees_are_printed(rt: HostRuntime) {
     compare(&rt, rt.alloc(), CASES);
+}
+
+#[test]
+fn misnested_trees_are_printed(rt: HostRuntime) {
+    compare(&rt, rt.alloc(), MISNESTED);
+}
+
+#[test]
+fn doctypes_and_contents_are_printed(rt: HostRuntime) {
+    compare(&rt, rt.alloc(), OTHERS);
+}
+
+#[test]
+fn attributes_are_printed_in_order(rt: HostRuntime) {
+    compare(&rt, rt.alloc(), ATTRIBUTES);
+}
+
+#[test]
+fn a_page_is_printed(rt: HostRuntime) {
+    compare(&rt, rt.alloc(), PAGES);
 }
 
 /// What a page is grown by.
