@@ -3,15 +3,17 @@
 //! a comment, a doctype and the end of input.
 mod body;
 mod names;
+mod numbers;
 mod page;
 mod rest;
 mod table;
 
 use hp_elements::{
     Act, Chain, CharClass, Doctype, DoctypeParts, Known, Mode, Name, Namespace, Tag, Test, Text,
-    Token, Which,
+    Token,
 };
 use names::NAMES;
+use numbers::{is_act, is_test};
 use std::alloc::Global;
 use std::mem;
 use std::process::Abort;
@@ -104,41 +106,17 @@ fn row_of(part: Part, mode: Option<Mode>, token: &Token<'_>) -> Option<u16> {
     }
 }
 
-/// The token's own name in the form in which the reading has it.
-fn its(which: Which, own: Option<Known>) -> Which {
-    match which {
-        Which::Named(known) if Some(known) == own => Which::Its,
-        other => other,
-    }
-}
-
-fn own_test(test: Test, own: Option<Known>) -> Test {
-    match test {
-        Test::InScope(scope, which) => Test::InScope(scope, its(which, own)),
-        other => other,
-    }
-}
-
-fn own_act(act: Act, own: Option<Known>) -> Act {
-    match act {
-        Act::Through(which) => Act::Through(its(which, own)),
-        Act::ImpliedExcept(which) => Act::ImpliedExcept(its(which, own)),
-        Act::Adopt(which) => Act::Adopt(its(which, own)),
-        other => other,
-    }
-}
-
 /// The place behind a step of a row, where the row has that step there.
 fn behind(found: Act, at: u32, step: Step, own: Option<Known>) -> Option<u32> {
     let next = at.wrapping_add(1);
     match (step, found) {
-        (Step::Does(act), _) => if_so(own_act(found, own) == act, next),
+        (Step::Does(act), _) => if_so(is_act(found, own, act), next),
         (Step::Asked(wanted, answer), Act::If { test, otherwise }) => if_so(
-            own_test(test, own) == wanted,
+            is_test(test, own, wanted),
             if answer { next } else { u32::from(otherwise) },
         ),
         (Step::Asked(wanted, answer), Act::Unless { test, otherwise }) => if_so(
-            own_test(test, own) == wanted,
+            is_test(test, own, wanted),
             if answer { u32::from(otherwise) } else { next },
         ),
         (Step::Asked(..), _) => None,
@@ -171,7 +149,7 @@ impl Reading {
         }
         match act_of(self.part, row, at) {
             None => true,
-            Some(last) => last == Act::Done,
+            Some(last) => matches!(last, Act::Done),
         }
     }
 
