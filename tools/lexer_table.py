@@ -147,14 +147,22 @@ def main():
     print('// Short texts that %s every state, with the tokens that an independent lexer gives; written by' % does)
     print('// tools/lexer_table.py.')
     print('use hp_elements::Rest;\n')
-    print('/// The state that is begun in, whether there is an adjusted current node outside the HTML namespace, the text, its tokens.')
-    print("pub type Case = (Rest, bool, &'static str, &'static str);\n")
-    print('/// The texts, of no more than 1000 bytes each.')
-    print('pub const CASES: &[Case] = &[')
-    numbers = dict(RESTS)
+    print('/// Texts that are begun in one state, with their tokens.')
+    print('pub struct Texts {\n    pub rest: Rest,')
+    print('    /// Whether there is an adjusted current node outside the HTML namespace.\n    pub foreign: bool,')
+    print('    /// A text of no more than 1000 bytes, a bar and its tokens; behind them a tilde and the next ones.')
+    print("    pub rows: &'static str,\n}\n")
+    print('pub const CASES: &[Texts] = &[')
+    numbers, groups = dict(RESTS), {}
     for rest, foreign, text in cases:
         told = whole(lexer, numbers[rest], foreign, text)
-        print('    (Rest::%s, %s, "%s", "%s"),' % (rest, str(foreign).lower(), spelled(text), spelled(told)))
+        assert not set('|~') & set(text + told), 'a separator stands in %r' % text
+        row = '%s|%s' % (spelled(text), spelled(told))
+        # A backslash at the end of a line takes away the blanks that the next one begins with.
+        groups.setdefault((rest, foreign), []).append('\\x20' + row[1:] if row.startswith(' ') else row)
+    for (rest, foreign), rows in groups.items():
+        print('    Texts {\n        rest: Rest::%s,\n        foreign: %s,' % (rest, str(foreign).lower()))
+        print('        rows: "\\\n%s",\n    },' % '~\\\n'.join(rows))
     print('];')
     print('%d cases' % len(cases), file=sys.stderr)
 

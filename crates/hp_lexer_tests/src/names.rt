@@ -1,8 +1,6 @@
 //! Every name and every replaced value against an independent reader's lists, and what the standard's own examples find.
 use hp_names::{Found, Names, numeric};
-use std::alloc::{AllocError, Global};
 use std::process::Abort;
-use std::test::Fail;
 
 /// Each name with its code point in hexadecimal digits, in the order of bytes; the lists of tools/reference_names.py.
 const NAMES: &str = "\
@@ -45,6 +43,20 @@ const REPLACED: &str = "\
 80 20ac,82 201a,83 192,84 201e,85 2026,86 2020,87 2021,88 2c6,89 2030,8a 160,8b 2039,8c 152,8e 17d,91 2018,92 2019,\
 93 201c,94 201d,95 2022,96 2013,97 2014,98 2dc,99 2122,9a 161,9b 203a,9c 153,9e 17e,9f 178";
 
+/// Values at the ends of what is replaced, with the code points that they stand for.
+const VALUES: &str = "\
+0 fffd,41 41,7f 7f,81 81,8d 8d,9d 9d,a0 a0,d7ff d7ff,d800 fffd,dfff fffd,e000 e000,10ffff 10ffff,110000 fffd,\
+ffffffffffffffff fffd";
+
+/// What the rows of a list say.
+#[derive(Clone, Copy)]
+enum Says {
+    /// A name stands for the code point.
+    Name,
+    /// A value, in hexadecimal digits, stands for the code point.
+    Value,
+}
+
 fn found(name: &str, first: char) -> Option<Found> {
     Some(Found {
         length: name.len() as u64,
@@ -54,68 +66,99 @@ fn found(name: &str, first: char) -> Option<Found> {
     })
 }
 
-/// The two parts of a row, the second as a number.
-fn parts(row: &str) -> Result<(&str, u32), Fail> {
-    let (left, digits) = row.split_once(' ').ok_or("a row without a blank")?;
-    Ok((left, u32::from_str_radix(digits, 16)?))
+/// The two parts of a row, the second as the code point whose digits it has.
+fn parts(row: &str) -> Option<(&str, char)> {
+    let (left, digits) = row.split_once(' ')?;
+    let code = u32::from_str_radix(digits, 16).ok()?;
+    Some((left, char::from_u32(code)?))
 }
 
-/// Whether a name is found, alone and before other bytes.
-fn is_found(alloc: Global, names: &Names, name: &str, first: char) -> Result<bool, AllocError> {
-    let mut text = name.as_bytes().to_vec(alloc)?;
-    let alone = names.longest(&text) == found(name, first);
-    text.extend_from_slice(b"!x")?;
-    Ok(alone && names.longest(&text) == found(name, first))
+/// Whether what a row or a text says is so is shown here.
+fn show(rt: &impl Abort, well: bool, text: &str) {
+    assert!(rt; well, "{text}");
 }
 
-/// Looks for the names of a list, and answers how many there were.
-fn find_all(rt: &impl Abort, alloc: Global, rows: &str) -> Result<u64, Fail> {
+/// Whether a name is found, alone and before the other bytes of its row.
+fn is_found(name: &str, first: char, row: &str) -> bool {
     let names = Names::built_in();
+    let wanted = found(name, first);
+    names.longest(name.as_bytes()) == wanted && names.longest(row.as_bytes()) == wanted
+}
+
+/// Whether a value is replaced so.
+fn is_replaced(digits: &str, by: char) -> bool {
+    match u64::from_str_radix(digits, 16) {
+        Ok(value) => numeric(value) == by,
+        Err(_) => false,
+    }
+}
+
+/// Whether what a row says is so.
+fn is_so(says: Says, row: &str) -> bool {
+    match (parts(row), says) {
+        (Some((name, first)), Says::Name) => is_found(name, first, row),
+        (Some((digits, by)), Says::Value) => is_replaced(digits, by),
+        (None, _) => false,
+    }
+}
+
+/// Shows that each row is so, and answers how many there are.
+fn show_rows(rt: &impl Abort, says: Says, rows: &str) -> u64 {
     let mut count: u64 = 0;
     for row in rows.split(',') {
-        let (name, code) = parts(row)?;
-        let first = char::from_u32(code).ok_or("no code point")?;
-        assert!(rt; is_found(alloc, &names, name, first)?, "{name}");
+        show(rt, is_so(says, row), row);
         count = count.saturating_add(1);
     }
-    Ok(count)
+    count
 }
 
 #[test]
-fn finds_each_name(rt: HostRuntime) -> Result<(), Fail> {
-    assert!(rt; find_all(&rt, rt.alloc(), NAMES)? == 365);
-    Ok(())
+fn finds_each_name(rt: HostRuntime) {
+    assert!(rt; show_rows(&rt, Says::Name, NAMES) == 365);
 }
 
-/// A text, the longest name that it begins with, and what that stands for.
-const LONGEST: &[(&str, &str, char)] = &[
-    ("notin;", "notin;", '\u{2209}'),
-    ("notit;", "not", '\u{ac}'),
-    ("not", "not", '\u{ac}'),
-    ("not;in", "not;", '\u{ac}'),
-    ("ampamp;", "amp", '&'),
-    ("copy=1", "copy", '\u{a9}'),
-    ("sup1x", "sup1", '\u{b9}'),
-    ("thetasym;", "thetasym;", '\u{3d1}'),
+#[test]
+fn replaces_the_numeric_values(rt: HostRuntime) {
+    assert!(rt; show_rows(&rt, Says::Value, REPLACED) == 27);
+    assert!(rt; show_rows(&rt, Says::Value, VALUES) == 14);
+}
+
+/// A text, and the longest name that it begins with, where there is one, with what that stands for.
+const LONGEST: &[(&str, Option<(&str, char)>)] = &[
+    ("notin;", Some(("notin;", '\u{2209}'))),
+    ("notit;", Some(("not", '\u{ac}'))),
+    ("not", Some(("not", '\u{ac}'))),
+    ("not;in", Some(("not;", '\u{ac}'))),
+    ("ampamp;", Some(("amp", '&'))),
+    ("copy=1", Some(("copy", '\u{a9}'))),
+    ("sup1x", Some(("sup1", '\u{b9}'))),
+    ("thetasym;", Some(("thetasym;", '\u{3d1}'))),
+    ("", None),
+    ("b=2", None),
+    ("foo;", None),
+    ("No;", None),
+    ("nosuch", None),
+    ("\u{e9}", None),
 ];
 
-/// Texts that begin with no name.
-const WITHOUT: &[&str] = &["", "b=2", "foo;", "No;", "nosuch", "\u{e9}"];
+/// Whether a text begins with that name, and no longer one.
+fn is_longest(text: &str, name: Option<(&str, char)>) -> bool {
+    let wanted = match name {
+        Some((name, first)) => found(name, first),
+        None => None,
+    };
+    Names::built_in().longest(text.as_bytes()) == wanted
+}
 
-fn compare_longest(rt: &impl Abort, cases: &[(&str, &str, char)], without: &[&str]) {
-    let names = Names::built_in();
-    for (text, name, first) in cases {
-        let longest = names.longest(text.as_bytes());
-        assert!(rt; longest == found(name, *first), "{text}");
-    }
-    for text in without {
-        assert!(rt; names.longest(text.as_bytes()).is_none(), "{text}");
+fn show_longest(rt: &impl Abort, cases: &[(&str, Option<(&str, char)>)]) {
+    for (text, name) in cases {
+        show(rt, is_longest(text, *name), text);
     }
 }
 
 #[test]
 fn finds_the_longest_name(rt: HostRuntime) {
-    compare_longest(&rt, LONGEST, WITHOUT);
+    show_longest(&rt, LONGEST);
 }
 
 /// A text, whether its longest name may still change, and whether more text is needed to tell it.
@@ -132,59 +175,20 @@ const GROWING: &[(&str, bool, bool)] = &[
     ("zzz", false, false),
 ];
 
-fn compare_growing(rt: &impl Abort, cases: &[(&str, bool, bool)]) {
+/// Whether a text's longest name may change, and is open, as that says.
+fn grows_so(text: &str, grows: bool, open: bool) -> bool {
     let names = Names::built_in();
+    let text = text.as_bytes();
+    names.might_grow(text) == grows && names.is_open(text) == open
+}
+
+fn show_growing(rt: &impl Abort, cases: &[(&str, bool, bool)]) {
     for (text, grows, open) in cases {
-        let text = text.as_bytes();
-        assert!(rt; names.might_grow(text) == *grows);
-        assert!(rt; names.is_open(text) == *open);
+        show(rt, grows_so(text, *grows, *open), text);
     }
 }
 
 #[test]
 fn tells_which_texts_may_grow(rt: HostRuntime) {
-    compare_growing(&rt, GROWING);
-}
-
-/// Values and the code points that they stand for, at the ends of what is replaced.
-const VALUES: &[(u64, char)] = &[
-    (0, '\u{fffd}'),
-    (0x41, 'A'),
-    (0x7f, '\u{7f}'),
-    (0x81, '\u{81}'),
-    (0x8d, '\u{8d}'),
-    (0x9d, '\u{9d}'),
-    (0xa0, '\u{a0}'),
-    (0xd7ff, '\u{d7ff}'),
-    (0xd800, '\u{fffd}'),
-    (0xdfff, '\u{fffd}'),
-    (0xe000, '\u{e000}'),
-    (0x10ffff, '\u{10ffff}'),
-    (0x110000, '\u{fffd}'),
-    (u64::MAX, '\u{fffd}'),
-];
-
-/// Compares the values of a list, and answers how many there were.
-fn compare_rows(rt: &impl Abort, rows: &str) -> Result<u64, Fail> {
-    let mut count: u64 = 0;
-    for row in rows.split(',') {
-        let (digits, code) = parts(row)?;
-        let value = u64::from_str_radix(digits, 16)?;
-        assert!(rt; u32::from(numeric(value)) == code, "{digits}");
-        count = count.saturating_add(1);
-    }
-    Ok(count)
-}
-
-fn compare_values(rt: &impl Abort, values: &[(u64, char)]) {
-    for (value, code) in values {
-        assert!(rt; numeric(*value) == *code, "{value:x}");
-    }
-}
-
-#[test]
-fn replaces_the_numeric_values(rt: HostRuntime) -> Result<(), Fail> {
-    assert!(rt; compare_rows(&rt, REPLACED)? == 27);
-    compare_values(&rt, VALUES);
-    Ok(())
+    show_growing(&rt, GROWING);
 }

@@ -1,121 +1,156 @@
-//! Tells tokens as a text, one behind the other.
+//! Tells tokens as a text, one behind the other, and compares it with the text that is wanted.
 use hp_elements::{Doctype, Tag, Text, Token};
-use hp_tokens::NoMemory;
-use std::alloc::Global;
 use std::process::Abort;
+
+/// What becomes of the places where tokens began.
+#[derive(Clone, Copy)]
+pub enum Places {
+    /// They are told.
+    Told,
+    /// They aren't told, and those that are wanted are passed over.
+    PassedOver,
+    /// They aren't told, and none is wanted.
+    Without,
+}
 
 /// Tells runs in brackets, other tokens with the place where they began, where places are told: `<name attribute=value/>@place`,
 /// `</name>@place`, `<!--comment-->@place`, `<!(name) (public) (system) quirks>@place`, and `$` for the end of input.
 #[derive(Drop)]
-pub struct Teller {
-    pub text: String,
+pub struct Teller<'w> {
+    /// What is wanted behind what was told.
+    left: &'w str,
+    /// Whether what was told was wanted.
+    well: bool,
     in_run: bool,
-    /// Whether places are told.
-    places: bool,
+    places: Places,
 }
 
-impl Teller {
-    pub fn new(alloc: Global, places: bool) -> Teller {
+const DIGITS: &[char] = &['0', '1', '2', '3', '4', '5', '6', '7', '8', '9'];
+
+impl<'w> Teller<'w> {
+    pub fn new(wanted: &'w str, places: Places) -> Teller<'w> {
         Teller {
-            text: String::new(alloc),
+            left: wanted,
+            well: true,
             in_run: false,
             places,
         }
     }
 
-    /// Tells texts, one behind the other.
-    pub fn put(&mut self, parts: &[&str]) -> Result<(), NoMemory> {
-        for part in parts {
-            self.text.push_str(part)?;
+    /// Whether what was told is all that was wanted.
+    pub fn is_met(&self) -> bool {
+        self.well && self.left.is_empty()
+    }
+
+    fn put(&mut self, part: &str) {
+        match self.left.strip_prefix(part) {
+            Some(left) => self.left = left,
+            None => self.well = false,
         }
-        Ok(())
     }
 
-    pub fn end_run(&mut self) -> Result<(), NoMemory> {
-        let end = if self.in_run { "]" } else { "" };
-        self.in_run = false;
-        self.text.push_str(end)
+    fn end_run(&mut self) {
+        if self.in_run {
+            self.in_run = false;
+            self.put("]");
+        }
     }
 
-    fn tell_run(&mut self, text: &str) -> Result<(), NoMemory> {
-        let start = if self.in_run { "" } else { "[" };
-        self.in_run = true;
-        self.put(&[start, text])
+    /// Tells a text; one that follows another is of the same run.
+    pub fn tell_run(&mut self, text: &str) {
+        if !self.in_run {
+            self.in_run = true;
+            self.put("[");
+        }
+        self.put(text);
     }
 
-    fn tell_doctype(&mut self, doctype: &Doctype<'_>) -> Result<(), NoMemory> {
+    fn tell_doctype(&mut self, doctype: &Doctype<'_>) {
         let parts = doctype.parts();
-        let name = quoted(&parts.name);
-        let public = quoted(&parts.public);
-        let system = quoted(&parts.system);
-        let end = if parts.force_quirks { " quirks>" } else { ">" };
-        self.put(&[
-            "<!", name.0, name.1, name.2, " ", public.0, public.1, public.2, " ", system.0,
-            system.1, system.2, end,
-        ])
+        self.put("<!");
+        self.tell_part(&parts.name);
+        self.put(" ");
+        self.tell_part(&parts.public);
+        self.put(" ");
+        self.tell_part(&parts.system);
+        self.put(if parts.force_quirks { " quirks>" } else { ">" });
     }
 
-    fn tell_attributes(&mut self, tag: &Tag) -> Result<(), NoMemory> {
-        for attribute in tag.attributes.iter() {
-            self.put(&[" ", attribute.name.as_str(), "=", attribute.value.as_str()])?;
+    /// Tells a part of a doctype in parentheses, or a hyphen where there is none.
+    fn tell_part(&mut self, part: &Option<Text<'_>>) {
+        match part {
+            None => self.put("-"),
+            Some(part) => self.tell_between("(", part.as_str(), ")"),
         }
-        Ok(())
     }
 
-    fn tell_start(&mut self, tag: &Tag, self_closing: bool) -> Result<(), NoMemory> {
-        self.put(&["<", tag.name.as_str()])?;
-        self.tell_attributes(tag)?;
-        self.text.push_str(if self_closing { "/>" } else { ">" })
+    fn tell_between(&mut self, before: &str, text: &str, behind: &str) {
+        self.put(before);
+        self.put(text);
+        self.put(behind);
+    }
+
+    fn tell_start(&mut self, tag: &Tag, self_closing: bool) {
+        self.put("<");
+        self.put(tag.name.as_str());
+        for attribute in tag.attributes.iter() {
+            self.tell_between(" ", attribute.name.as_str(), "=");
+            self.put(attribute.value.as_str());
+        }
+        self.put(if self_closing { "/>" } else { ">" });
     }
 
     /// Tells a token that is no run.
-    fn tell_other(&mut self, token: &Token<'_>) -> Result<(), NoMemory> {
+    fn tell_other(&mut self, token: &Token<'_>) {
+        match token {
+            Token::Characters { .. } => {}
+            Token::Start { self_closing, tag } => self.tell_start(tag, *self_closing),
+            Token::EndTag { name } => self.tell_between("</", name.as_str(), ">"),
+            Token::Comment { text } => self.tell_between("<!--", text.as_str(), "-->"),
+            Token::Doctype { doctype } => self.tell_doctype(doctype),
+            Token::EndOfInput => self.put("$"),
+        }
+    }
+
+    /// Takes off the place that is wanted next.
+    fn take_place(&mut self) -> Option<u64> {
+        let behind = self.left.strip_prefix('@')?;
+        self.left = behind.trim_start_matches(DIGITS);
+        u64::from_str_radix(behind.strip_suffix(self.left)?, 10).ok()
+    }
+
+    fn tell_place(&mut self, began: u64) {
+        match self.places {
+            Places::Told => self.well &= self.take_place() == Some(began),
+            Places::PassedOver => {
+                self.take_place();
+            }
+            Places::Without => {}
+        }
+    }
+
+    pub fn tell(&mut self, token: &Token<'_>, began: u64) {
         match token {
             Token::Characters { text, .. } => self.tell_run(text.as_str()),
-            Token::Start { self_closing, tag } => self.tell_start(tag, *self_closing),
-            Token::EndTag { name } => self.put(&["</", name.as_str(), ">"]),
-            Token::Comment { text } => self.put(&["<!--", text.as_str(), "-->"]),
-            Token::Doctype { doctype } => self.tell_doctype(doctype),
-            Token::EndOfInput => self.text.push_str("$"),
+            _ => {
+                self.end_run();
+                self.tell_other(token);
+                self.tell_place(began);
+            }
         }
     }
 
-    fn tell_place(&mut self, began: u64) -> Result<(), NoMemory> {
-        if self.places {
-            write!(self.text, "@{began}")?;
-        }
-        Ok(())
-    }
-
-    pub fn tell(&mut self, token: &Token<'_>, began: u64) -> Result<(), NoMemory> {
-        if let Token::Characters { text, .. } = token {
-            return self.tell_run(text.as_str());
-        }
-        self.end_run()?;
-        self.tell_other(token)?;
-        self.tell_place(began)
-    }
-
-    pub fn tell_all(&mut self, tokens: &[Token<'_>], began: u64) -> Result<(), NoMemory> {
+    pub fn tell_all(&mut self, tokens: &[Token<'_>], began: u64) {
         for token in tokens {
-            self.tell(token, began)?;
+            self.tell(token, began);
         }
-        Ok(())
     }
 
     /// Tells the tokens of the end of input, without places.
-    pub fn tell_last(&mut self, tokens: &[Token<'_>]) -> Result<(), NoMemory> {
-        self.places = false;
-        self.tell_all(tokens, 0)?;
-        self.end_run()
-    }
-}
-
-/// A part of a doctype in parentheses, or a hyphen where there is none.
-fn quoted<'t>(part: &'t Option<Text<'_>>) -> (&'t str, &'t str, &'t str) {
-    match part {
-        None => ("-", "", ""),
-        Some(part) => ("(", part.as_str(), ")"),
+    pub fn tell_last(&mut self, tokens: &[Token<'_>]) {
+        self.places = Places::Without;
+        self.tell_all(tokens, 0);
+        self.end_run();
     }
 }
 
