@@ -4,7 +4,7 @@ use crate::sets::SetName;
 use crate::token::{Mode, Rest};
 
 /// The name that an act is about.
-#[derive(Clone, Copy, PartialEq, Eq)]
+#[derive(Clone, Copy)]
 pub enum Which {
     /// The token's own name.
     Its,
@@ -12,7 +12,7 @@ pub enum Which {
 }
 
 /// A scope (13.2.4.2), by the elements that end it.
-#[derive(Clone, Copy, PartialEq, Eq)]
+#[derive(Clone, Copy)]
 pub enum Scope {
     Default,
     ListItem,
@@ -22,7 +22,7 @@ pub enum Scope {
 }
 
 /// What a row of the rules asks of the state or of the token.
-#[derive(Clone, Copy, PartialEq, Eq)]
+#[derive(Clone, Copy)]
 pub enum Test {
     /// An HTML element of that name is in that scope.
     InScope(Scope, Which),
@@ -53,7 +53,7 @@ pub enum Test {
 }
 
 /// One thing that a row of the rules does. A row is a list of acts, carried out in order.
-#[derive(Clone, Copy, PartialEq, Eq)]
+#[derive(Clone, Copy)]
 pub enum Act {
     /// Where the test fails, the row goes on at that place.
     If { test: Test, otherwise: u8 },
