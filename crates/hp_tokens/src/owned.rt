@@ -1,5 +1,5 @@
 // Texts that own their code points, which contracts see as lists of code points.
-ghost use Rattle.std.specs.Prelude.{◌≡◌, ◌↔◌, ℕ, List, [], ◌∷◌, ◌++◌, ◌<◌, ◌==◌, OnOk, OnErr, IfOk, IsTrue, string_bytes, IsUtf8, length, MatchOption, sum_by};
+ghost use Rattle.std.specs.Prelude.{◌≡◌, ◌↔◌, ℕ, List, [], ◌∷◌, ◌++◌, ◌<◌, ◌==◌, OnOk, OnErr, IfOk, IsTrue, string_bytes, length, MatchOption, sum_by};
 
 use crate::NoMemory;
 use crate::few::{Few, ROOM};
