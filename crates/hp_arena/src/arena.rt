@@ -70,8 +70,6 @@ impl<'p> Arena<'p> {
         ensures { IfOk result (λ t. t.branches ≡ document) }
     {
         let mut nodes = Vec::with_capacity(alloc, 2 * FIRST)?;
-        let mut elements = Vec::with_capacity(alloc, FIRST)?;
-        let leaves = Vec::with_capacity(alloc, FIRST)?;
         nodes.push(Node {
             prev: 0,
             next: 0,
@@ -82,7 +80,9 @@ impl<'p> Arena<'p> {
             next: 1,
             kind: Kind::End(0),
         })?;
+        let mut elements = Vec::with_capacity(alloc, FIRST)?;
         elements.push(Element { tag: None, node: 0 })?;
+        let leaves = Vec::with_capacity(alloc, FIRST)?;
         Ok(Arena {
             nodes,
             elements,
