@@ -10,7 +10,7 @@ ghost use Rattle.hp_acts.specs.Spending.{row_keeps};
 use hp_elements::{Act, Mode, Token};
 
 /// The crates that have the rules of the modes.
-#[derive(Clone, Copy, PartialEq, Eq)]
+#[derive(Clone, Copy)]
 pub(crate) enum Part {
     Page,
     Body,

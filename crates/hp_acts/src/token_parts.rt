@@ -14,7 +14,7 @@ use std::alloc::Global;
 use std::mem;
 
 /// What becomes of the part of the token that an act puts into the tree or the list.
-#[derive(Clone, Copy, PartialEq, Eq)]
+#[derive(Clone, Copy)]
 pub enum Spending {
     /// It is copied, and the token stays as it is.
     Copies,

@@ -31,7 +31,7 @@ use std::alloc::Global;
 const NESTING: u32 = 4;
 
 /// What the handling of a token asks of the parser.
-#[derive(Clone, Copy, PartialEq, Eq)]
+#[derive(Clone, Copy)]
 pub struct Handled {
     /// The state in which the lexer goes on, where it doesn't stay in its own.
     pub switch: Option<Rest>,

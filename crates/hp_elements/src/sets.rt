@@ -17,7 +17,7 @@ pub enum Namespace {
 }
 
 /// A set of elements, each of a namespace and a name. `members` of `specs/Sets.antt` has each set's elements.
-#[derive(Clone, Copy, PartialEq, Eq)]
+#[derive(Clone, Copy)]
 pub enum SetName {
     /// MathML and SVG elements that end each scope but those of tables and of select.
     ForeignEnds,

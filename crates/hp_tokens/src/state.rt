@@ -89,7 +89,7 @@ pub enum State {
 }
 
 /// Where a character reference goes back to.
-#[derive(Clone, Copy, PartialEq, Eq)]
+#[derive(Clone, Copy)]
 pub enum Return {
     Data,
     Rcdata,
