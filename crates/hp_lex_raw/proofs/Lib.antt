@@ -1,3 +1,4 @@
 pub mod Reading
 pub mod Steady
 pub mod TextRuns
+pub mod Told

@@ -203,8 +203,7 @@ fn read_text<'p, R: TextRun>(
     ensures step { IfOk result (λ step. Steps (move raw_rules) state.old input.old tokens.old state.new input.new tokens.new step) }
     ensures held { IfOk result (λ step. held state.new ≤ input.new.place) }
 {
-    let step = step_in_text::<TextRows, R>(alloc, state, input, tokens)?;
-    Ok(step)
+    step_in_text::<TextRows, R>(alloc, state, input, tokens)
 }
 
 /// CR is read as LF.
@@ -341,8 +340,7 @@ impl Lexes for Raw {
         ensures held { IfOk result (λ step. held state.new ≤ input.new.place) }
         ensures ended { IfOk result (λ step. input.new.text ≡ []) }
     {
-        let step = end_by_row::<Rows>(alloc, state, input, tokens)?;
-        Ok(step)
+        end_by_row::<Rows>(alloc, state, input, tokens)
     }
 }
 
