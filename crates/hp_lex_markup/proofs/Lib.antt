@@ -2,3 +2,4 @@ pub mod Spelled
 pub mod Compared
 pub mod WordSteps
 pub mod Steady
+pub mod Told

@@ -251,8 +251,7 @@ impl Lexes for Markup {
         if reads_word(state.machine.state) {
             return words::step(alloc, state, input, tokens);
         }
-        let step = step_by_rows(alloc, state, input, tokens)?;
-        Ok(step)
+        step_by_rows(alloc, state, input, tokens)
     }
 
     fn end(
@@ -272,8 +271,7 @@ impl Lexes for Markup {
         if reads_word(state.machine.state) {
             return words::end(alloc, state, input, tokens);
         }
-        let step = end_by_row::<Rows>(alloc, state, input, tokens)?;
-        Ok(step)
+        end_by_row::<Rows>(alloc, state, input, tokens)
     }
 }
 
