@@ -9,3 +9,4 @@ pub mod StraightParts
 pub mod StraightTags
 pub mod UsualReference
 pub mod ValueReferences
+pub mod Told

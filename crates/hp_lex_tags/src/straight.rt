@@ -249,8 +249,7 @@ fn read_quoted<R: LongRun>(
         keep(alloc, attributes, name, value)?;
         return Ok(behind_quoted(input));
     }
-    let way = read_behind_run::<R>(alloc, names, attributes, name, value, input, mark, state)?;
-    Ok(way)
+    read_behind_run::<R>(alloc, names, attributes, name, value, input, mark, state)
 }
 
 /// A value in single quotes, behind the first of them.
@@ -265,8 +264,7 @@ fn read_single_quoted(
     ensures { IfOk result (ValueKept names.now states.AttributeValueSingleQuoted name [] attributes.old input.old attributes.new input.new) }
 {
     let state = State::AttributeValueSingleQuoted;
-    let way = read_quoted::<SingleQuotedText>(alloc, names, attributes, name, input, b'\'', state)?;
-    Ok(way)
+    read_quoted::<SingleQuotedText>(alloc, names, attributes, name, input, b'\'', state)
 }
 
 /// A value without quotes.
@@ -309,12 +307,10 @@ fn read_other_value(
     ensures { IfOk result (ValueKept names.now states.BeforeAttributeValue name [] attributes.old input.old attributes.new input.new) }
 {
     if input.take_byte(b'\'') {
-        let single = read_single_quoted(alloc, names, attributes, name, input)?;
-        return Ok(single);
+        return read_single_quoted(alloc, names, attributes, name, input);
     }
     if begins_value(input) {
-        let unquoted = read_unquoted(alloc, names, attributes, name, input)?;
-        return Ok(unquoted);
+        return read_unquoted(alloc, names, attributes, name, input);
     }
     keep(alloc, attributes, name, Text::new())?;
     Ok(Way::Left)
@@ -333,13 +329,9 @@ fn read_value(
 {
     if input.take_byte(b'"') {
         let state = State::AttributeValueDoubleQuoted;
-        let double = read_quoted::<DoubleQuotedText>(
-            alloc, names, attributes, name, input, b'"', state,
-        )?;
-        return Ok(double);
+        return read_quoted::<DoubleQuotedText>(alloc, names, attributes, name, input, b'"', state);
     }
-    let other = read_other_value(alloc, names, attributes, name, input)?;
-    Ok(other)
+    read_other_value(alloc, names, attributes, name, input)
 }
 
 /// Whether the next code point begins the name of an attribute.
@@ -369,8 +361,7 @@ fn read_attribute(
     let _state = state;
     let name = Name::from_lowered(alloc, input.take_long_run::<AttributeNameBytes>())?;
     if input.take_byte(b'=') {
-        let way = read_value(alloc, names, attributes, name, input)?;
-        return Ok(way);
+        return read_value(alloc, names, attributes, name, input);
     }
     keep(alloc, attributes, name, Text::new())?;
     Ok(behind(input, State::AttributeName))
@@ -389,8 +380,7 @@ fn read_on(
     ensures { IfOk result (TagGrows names.now state attributes.old input.old attributes.new input.new) }
 {
     if begins_name(input) {
-        let way = read_attribute(alloc, names, attributes, input, state)?;
-        return Ok(way);
+        return read_attribute(alloc, names, attributes, input, state);
     }
     Ok(close(input, state))
 }
@@ -428,10 +418,7 @@ fn read_rest(
 {
     let way = behind(input, State::TagName);
     match way {
-        Way::At(state) => {
-            let end = read_attributes(alloc, names, attributes, input, state)?;
-            Ok(end)
-        }
+        Way::At(state) => read_attributes(alloc, names, attributes, input, state),
         _ => Ok(way),
     }
 }

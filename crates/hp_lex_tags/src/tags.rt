@@ -267,10 +267,7 @@ pub fn next_text<'p>(
 {
     let _names = names;
     match state.machine.state {
-        State::Data => {
-            let token = hp_tokens::next_text::<Rows, DataText>(state, input, rested)?;
-            Some(token)
-        }
+        State::Data => hp_tokens::next_text::<Rows, DataText>(state, input, rested),
         _ => None,
     }
 }
@@ -295,10 +292,7 @@ pub fn next_plain<'p>(
 {
     let _names = names;
     match state.machine.state {
-        State::Data => {
-            let text = hp_tokens::next_data::<Rows>(state, input, rested)?;
-            Some(text)
-        }
+        State::Data => hp_tokens::next_data::<Rows>(state, input, rested),
         _ => None,
     }
 }

@@ -2,22 +2,23 @@ use Rattle.std.proofs.Common.{[], refl}
 use Rattle.hp_tokens.specs.declared.state.State.TheVariants.{BeforeAttributeValue, AttributeValueSingleQuoted, AttributeValueUnquoted}
 use Rattle.hp_lex_tags.specs.declared.straight.Way.TheVariants.{Left}
 use Rattle.hp_lex_tags.proofs.StraightParts.{single_later, unquoted_later, value_whole, value_on}
+use Rattle.hp_lex_tags.proofs.Told.{IfOk_then}
 use Rattle.hp_lex_tags.proofs.straight.read_other_value.Goals as goal
 
 pub returns-then-take_byte : goal.returns-then-take_byte
 returns-then-take_byte c =
-    value_on c.args.names.now BeforeAttributeValue AttributeValueSingleQuoted c.args.name [] [] c.args.attributes.now c.read_single_quoted.new.attributes c.args.input.now c.take_byte.new.self c.read_single_quoted.new.input c.in_ok-single.single
-    (λ reading to. single_later c.args.names.now reading to c.args.name c.args.input.now c.args.input.now c.take_byte.new.self c.read_single_quoted.new.input c.in_ok-single.single
+    IfOk_then c.read_single_quoted.result c.read_single_quoted.ensures (λ way kept. value_on c.args.names.now BeforeAttributeValue AttributeValueSingleQuoted c.args.name [] [] c.args.attributes.now c.read_single_quoted.new.attributes c.args.input.now c.take_byte.new.self c.read_single_quoted.new.input way
+    (λ reading to. single_later c.args.names.now reading to c.args.name c.args.input.now c.args.input.now c.take_byte.new.self c.read_single_quoted.new.input way
     refl (c.if-take_byte.ensures.taken refl))
-    c.in_ok-single.ensures
+    kept)
 
 pub returns-then-begins_value : goal.returns-then-begins_value
 returns-then-begins_value c =
-    value_on c.args.names.now BeforeAttributeValue AttributeValueUnquoted c.args.name [] [] c.args.attributes.now c.read_unquoted.new.attributes c.args.input.now c.take_byte.new.self c.read_unquoted.new.input c.in_ok-unquoted.unquoted
-    (λ reading to. unquoted_later c.args.names.now reading to c.args.name c.args.input.now c.args.input.now c.take_byte.new.self c.read_unquoted.new.input c.in_ok-unquoted.unquoted
+    IfOk_then c.read_unquoted.result c.read_unquoted.ensures (λ way kept. value_on c.args.names.now BeforeAttributeValue AttributeValueUnquoted c.args.name [] [] c.args.attributes.now c.read_unquoted.new.attributes c.args.input.now c.take_byte.new.self c.read_unquoted.new.input way
+    (λ reading to. unquoted_later c.args.names.now reading to c.args.name c.args.input.now c.args.input.now c.take_byte.new.self c.read_unquoted.new.input way
     refl (c.if-take_byte.ensures.left refl).0 c.requires.other (c.if-take_byte.ensures.left refl).1
     (c.if-begins_value.ensures refl))
-    c.in_ok-unquoted.ensures
+    kept)
 
 pub returns : goal.returns
 returns c =

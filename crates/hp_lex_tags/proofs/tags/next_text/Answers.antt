@@ -1,4 +1,5 @@
-use Rattle.std.proofs.Common.{sym, subst}
+use Rattle.std.proofs.Common.{ap, sym, subst}
+use Rattle.std.proofs.lemmas.Option.{IfSome_then}
 use Rattle.hp_tokens.specs.declared.state.State.{State}
 use Rattle.hp_tokens.specs.Rows.{is_blank}
 use Rattle.hp_tokens.specs.Plain.{EmitsPlain, none_of, data_stops}
@@ -14,5 +15,9 @@ next_text-requires-clause-blanks c = let P : State → Type 0 = λ s. EmitsPlain
 pub next_text-requires-clause-others : goal.next_text-requires-clause-others
 next_text-requires-clause-others c = let P : State → Type 0 = λ s. EmitsPlain row (none_of data_stops) s in subst P (sym c.in-Data.is) data_others
 
-pub returns-in_ok-token-in-Data-clause-turn : goal.returns-in_ok-token-in-Data-clause-turn
-returns-in_ok-token-in-Data-clause-turn c = c.in_ok-token-in-Data.ensures.turn (tag_rules c.args.names.now) is_here (tags_rows c.args.names.now)
+pub returns-in-Data-clause-turn : goal.returns-in-Data-clause-turn
+returns-in-Data-clause-turn c =
+    IfSome_then c.next_text.result c.next_text.ensures.turn (λ token turned. turned (tag_rules c.args.names.now) is_here (tags_rows c.args.names.now))
+
+pub returns-in-Data-clause-here : goal.returns-in-Data-clause-here
+returns-in-Data-clause-here c = IfSome_then c.next_text.result c.next_text.ensures.turn (λ token turned. ap is_here c.in-Data.is)
