@@ -168,10 +168,7 @@ impl<'n> Lexes for Tags<'n> {
     {
         match state.machine.state {
             State::NamedCharacterReference => named::step(alloc, state, input, self.names, tokens),
-            _ => {
-                let step = read(alloc, state, input, tokens)?;
-                Ok(step)
-            }
+            _ => read(alloc, state, input, tokens),
         }
     }
 
@@ -191,10 +188,7 @@ impl<'n> Lexes for Tags<'n> {
     {
         match state.machine.state {
             State::NamedCharacterReference => named::end(alloc, state, input, self.names, tokens),
-            _ => {
-                let step = end_by_row::<Rows>(alloc, state, input, tokens)?;
-                Ok(step)
-            }
+            _ => end_by_row::<Rows>(alloc, state, input, tokens),
         }
     }
 }

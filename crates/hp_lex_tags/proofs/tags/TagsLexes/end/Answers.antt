@@ -1,10 +1,14 @@
 use Rattle.hp_lex_tags.specs.Tags.{tag_rules}
 use Rattle.hp_lex_tags.proofs.NamedSteps.{tags_rows}
+use Rattle.hp_lex_tags.proofs.Told.{IfOk_then}
 use Rattle.hp_lex_tags.proofs.tags.TagsLexes.end.Goals as goal
 
-pub returns-in_ok-step-in_default : goal.returns-in_ok-step-in_default
-returns-in_ok-step-in_default c = record {
-  step = c.in_ok-step-in_default.ensures.step (tag_rules c.args.self.now.names.now) (tags_rows c.args.self.now.names.now);
-  held = c.in_ok-step-in_default.ensures.held;
-  ended = c.in_ok-step-in_default.ensures.ended;
-}
+pub returns-in_default-clause-step : goal.returns-in_default-clause-step
+returns-in_default-clause-step c =
+    IfOk_then c.end_by_row.result c.end_by_row.ensures.step (λ step steps. steps (tag_rules c.args.self.now.names.now) (tags_rows c.args.self.now.names.now))
+
+pub returns-in_default-clause-held : goal.returns-in_default-clause-held
+returns-in_default-clause-held c = c.end_by_row.ensures.held
+
+pub returns-in_default-clause-ended : goal.returns-in_default-clause-ended
+returns-in_default-clause-ended c = c.end_by_row.ensures.ended

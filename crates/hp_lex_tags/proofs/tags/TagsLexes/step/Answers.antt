@@ -1,9 +1,11 @@
 use Rattle.hp_lex_tags.specs.Tags.{tag_rules}
 use Rattle.hp_lex_tags.proofs.NamedSteps.{tags_rows}
+use Rattle.hp_lex_tags.proofs.Told.{IfOk_then}
 use Rattle.hp_lex_tags.proofs.tags.TagsLexes.step.Goals as goal
 
-pub returns-in_ok-step-in_default : goal.returns-in_ok-step-in_default
-returns-in_ok-step-in_default c = record {
-  step = c.in_ok-step-in_default.ensures.step (tag_rules c.args.self.now.names.now) (tags_rows c.args.self.now.names.now);
-  held = c.in_ok-step-in_default.ensures.held;
-}
+pub returns-in_default-clause-step : goal.returns-in_default-clause-step
+returns-in_default-clause-step c =
+    IfOk_then c.read.result c.read.ensures.step (λ step steps. steps (tag_rules c.args.self.now.names.now) (tags_rows c.args.self.now.names.now))
+
+pub returns-in_default-clause-held : goal.returns-in_default-clause-held
+returns-in_default-clause-held c = c.read.ensures.held
