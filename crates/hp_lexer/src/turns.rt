@@ -169,8 +169,7 @@ fn end_in_tags(
     requires held { held state.old ≤ 2 ^ 32 }
     ensures { IfOk result (λ turn. (rested : ℕ) → EndTurned (table names.now) tags.is_here (lexing state.old end_of_text rested) tokens.old state.new tokens.new turn) }
 {
-    let turn = hp_lex_tags::at_end(alloc, state, names, tokens)?;
-    Ok(turn)
+    hp_lex_tags::at_end(alloc, state, names, tokens)
 }
 
 /// The end of input in raw text and script data.
@@ -185,8 +184,7 @@ fn end_in_raw(
     ensures { IfOk result (λ turn. (rested : ℕ) → EndTurned (table names.now) raw.is_here (lexing state.old end_of_text rested) tokens.old state.new tokens.new turn) }
 {
     let _ = names;
-    let turn = hp_lex_raw::at_end(alloc, state, tokens)?;
-    Ok(turn)
+    hp_lex_raw::at_end(alloc, state, tokens)
 }
 
 /// The end of input in markup declarations, comments, doctypes and CDATA sections.
@@ -201,8 +199,7 @@ fn end_in_markup(
     ensures { IfOk result (λ turn. (rested : ℕ) → EndTurned (table names.now) markup_rows.is_here (lexing state.old end_of_text rested) tokens.old state.new tokens.new turn) }
 {
     let _ = names;
-    let turn = hp_lex_markup::at_end(alloc, state, tokens)?;
-    Ok(turn)
+    hp_lex_markup::at_end(alloc, state, tokens)
 }
 
 /// Makes the moves of the end of input in the part of the table that the state is in, and appends what they emit.
