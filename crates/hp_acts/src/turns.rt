@@ -7,7 +7,7 @@ ghost use Rattle.hp_control.specs.Plan.{Plan};
 ghost use Rattle.hp_model.specs.Rows.{is_head_mode};
 ghost use Rattle.hp_views.specs.View.{page_of, sight};
 ghost use Rattle.hp_acts.specs.Carrying.{Comes, Goes, GoesBy, Stays, going, next_present, present_plan, reached, row_plan};
-ghost use Rattle.hp_acts.specs.HandlePlans.{all_turns_plan, handle_plan, handle_rest, without_line_feed};
+ghost use Rattle.hp_acts.specs.HandlePlans.{all_turns_plan, handle_plan, handle_rest, turns_plan, without_line_feed};
 ghost use Rattle.hp_acts.specs.Handling.{GoesLater, Handles, unskipped};
 ghost use Rattle.hp_acts.specs.RowPlans.{Reached, Came, act_then, is_early, turn_plan};
 ghost use Rattle.hp_acts.specs.TableText.{turns_from};
@@ -308,8 +308,21 @@ pub(crate) fn take_turns<'p, B: Below>(
         token,
         handled: NOTHING,
     };
+    repeat(alloc, view, &mut turn, most)
+}
+
+/// Goes on with the turns of a token until no rule asks for it again, at most so often.
+#[inline(always)]
+fn repeat<'p, B: Below>(
+    alloc: Global,
+    view: &mut View<'p, B>,
+    turn: &mut Turn<'p>,
+    most: u128,
+) -> Result<Handled, Refusal>
+    ensures { Handles result (sight B.heard view.old) (sight B.heard view.new) (λ v. turns_plan most turn.old.token (record { split = v; handled = turn.old.handled })) }
+{
     for _ in 0..most {
-        if !take_turn(alloc, view, &mut turn)? {
+        if !take_turn(alloc, view, turn)? {
             return Ok(turn.handled);
         }
     }
