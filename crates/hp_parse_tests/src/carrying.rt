@@ -46,6 +46,36 @@ pub(crate) enum Step {
     EmptiesForm,
 }
 
+/// What an act is carried out for.
+#[derive(Clone, Copy)]
+enum For {
+    /// A start tag of that name.
+    Start(Known),
+    /// A text of one letter.
+    Letter,
+    Comment,
+}
+
+/// How an act comes out.
+#[derive(Clone, Copy, PartialEq, Eq)]
+enum Outcome {
+    /// It is carried out; a test holds.
+    Done,
+    /// A test fails.
+    Failed,
+    Crossed,
+    NoMemory,
+}
+
+/// An act, and how it is to come out.
+#[derive(Clone, Copy)]
+struct Carried {
+    act: Act,
+    what_for: For,
+    fostering: bool,
+    outcome: Outcome,
+}
+
 fn start<'p>(known: Known) -> Token<'p> {
     let tag = Tag {
         namespace: Namespace::Html,
@@ -58,43 +88,83 @@ fn start<'p>(known: Known) -> Token<'p> {
     }
 }
 
-fn letter<'p>() -> Token<'p> {
-    Token::Characters {
-        class: CharClass::Other,
-        text: Text::of_char('a'),
+fn token_for<'p>(what_for: For) -> Token<'p> {
+    match what_for {
+        For::Start(known) => start(known),
+        For::Letter => Token::Characters {
+            class: CharClass::Other,
+            text: Text::of_char('a'),
+        },
+        For::Comment => Token::Comment { text: Text::new() },
     }
 }
 
-fn comment<'p>() -> Token<'p> {
-    Token::Comment { text: Text::new() }
+/// The act of a step for a start tag, and how it is to come out.
+fn for_start(known: Known, act: Act, outcome: Outcome) -> Option<Carried> {
+    Some(Carried {
+        act,
+        what_for: For::Start(known),
+        fostering: false,
+        outcome,
+    })
+}
+
+/// The act of a step for another token, which is to be carried out.
+fn for_other(what_for: For, act: Act) -> Option<Carried> {
+    Some(Carried {
+        act,
+        what_for,
+        fostering: false,
+        outcome: Outcome::Done,
+    })
+}
+
+fn fostered(known: Known, act: Act) -> Option<Carried> {
+    Some(Carried {
+        act,
+        what_for: For::Start(known),
+        fostering: true,
+        outcome: Outcome::Done,
+    })
 }
 
 fn of_test(test: Test) -> Act {
     Act::If { test, otherwise: 0 }
 }
 
-/// Whether the act is carried out, and is no test that fails.
-fn carries<'p, B: Below>(
-    alloc: Global,
-    view: &mut View<'p, B>,
-    act: Act,
-    token: Token<'p>,
-    fostering: bool,
-) -> Option<bool> {
-    let mut token = token;
-    let spending = Spending::Copies;
-    let done = carry(alloc, view, act, &mut token, spending, fostering).ok();
-    mem::forget(token);
-    done
+/// The act of a step, where it has one.
+fn act_of(step: Step) -> Option<Carried> {
+    match step {
+        Step::Does(known, act) => for_start(known, act, Outcome::Done),
+        Step::Fosters(known, act) => fostered(known, act),
+        Step::Holds(known, test) => for_start(known, of_test(test), Outcome::Done),
+        Step::Fails(known, test) => for_start(known, of_test(test), Outcome::Failed),
+        Step::Crosses(known, act) => for_start(known, act, Outcome::Crossed),
+        Step::Puts(act) => for_other(For::Letter, act),
+        Step::Notes(act) => for_other(For::Comment, act),
+        _ => None,
+    }
 }
 
-/// Whether the act crosses.
-fn crosses<'p, B: Below>(alloc: Global, view: &mut View<'p, B>, act: Act, known: Known) -> bool {
-    let mut token = start(known);
-    let spending = Spending::Copies;
-    let done = carry(alloc, view, act, &mut token, spending, false);
+/// Whether the act comes out as it is to.
+fn carries<'p, B: Below>(alloc: Global, view: &mut View<'p, B>, it: Carried) -> bool {
+    let mut token = token_for(it.what_for);
+    let done = carry(
+        alloc,
+        view,
+        it.act,
+        &mut token,
+        Spending::Copies,
+        it.fostering,
+    );
     mem::forget(token);
-    matches!(done, Err(Refusal::Crossed(_)))
+    let outcome = match done {
+        Ok(true) => Outcome::Done,
+        Ok(false) => Outcome::Failed,
+        Err(Refusal::Crossed(_)) => Outcome::Crossed,
+        Err(_) => Outcome::NoMemory,
+    };
+    outcome == it.outcome
 }
 
 fn handles<'p, B: Below>(alloc: Global, view: &mut View<'p, B>, known: Known) -> bool {
@@ -128,24 +198,16 @@ fn empties_form<'p, B: Below>(alloc: Global, view: &mut View<'p, B>) -> bool {
 
 /// Whether the step comes out so.
 fn comes_out<'p, B: Below>(alloc: Global, view: &mut View<'p, B>, step: Step) -> bool {
-    let yes = Some(true);
     match step {
-        Step::Does(known, act) => carries(alloc, view, act, start(known), false) == yes,
-        Step::Fosters(known, act) => carries(alloc, view, act, start(known), true) == yes,
-        Step::Holds(known, test) => {
-            carries(alloc, view, of_test(test), start(known), false) == yes
-        }
-        Step::Fails(known, test) => {
-            carries(alloc, view, of_test(test), start(known), false) == Some(false)
-        }
-        Step::Crosses(known, act) => crosses(alloc, view, act, known),
-        Step::Puts(act) => carries(alloc, view, act, letter(), false) == yes,
-        Step::Notes(act) => carries(alloc, view, act, comment(), false) == yes,
         Step::Handles(known) => handles(alloc, view, known),
         Step::Reads => reads(alloc, view),
         Step::IsHtml => is_html(alloc, view),
         Step::LastTag => tells_last_tag(alloc, view),
         Step::EmptiesForm => empties_form(alloc, view),
+        _ => match act_of(step) {
+            Some(it) => carries(alloc, view, it),
+            None => false,
+        },
     }
 }
 
