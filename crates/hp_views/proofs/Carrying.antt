@@ -7,7 +7,7 @@ use Rattle.hp_control.specs.declared.change.Refusal.TheVariants.{Crossed, NoMemo
 use Rattle.hp_control.specs.Faithful.{Split}
 use Rattle.hp_control.specs.Plan.{Plan, followed_by, Runs}
 use Rattle.hp_control.specs.Running.{runs_then, runs_crosses}
-use Rattle.hp_views.specs.View.{Sight, Carries, Finds}
+use Rattle.hp_views.specs.View.{Sight, Answers, Carries, Finds}
 
 pub carries_then : {X : Type 0} (result : Result (Unit {0}) Refusal) (old mid new : Sight) (plan : Split → Plan X) (next : Split → X → Plan Split) (x : X)
     → Finds old mid plan x → Carries result mid new (λ v. next v x) → Carries result old new (λ v. followed_by (plan v) (next v))
@@ -29,6 +29,12 @@ carries_next (Err NoMemory) old mid new p q run k = tt
 carries_refused : (refusal : Refusal) (old new : Sight) (p q : Split → Plan Split) → Carries (Err refusal) old new p → Carries (Err refusal) old new (λ v. followed_by (p v) q)
 carries_refused (Crossed crossing) old new p q k = runs_crosses q k
 carries_refused NoMemory old new p q k = tt
+
+-- another plan that is the same on this view
+pub answers_as : {X : Type 0} (result : Result X Refusal) (old new : Sight) (p q : Split → Plan X) → p old.split ≡ q old.split → Answers result old new p → Answers result old new q
+answers_as (Ok x) old new p q e f = let P : Plan _ → Type 0 = λ plan. Runs old.heard new.heard plan (Ok x) in record { runs = subst P e f.runs; same = f.same }
+answers_as (Err (Crossed crossing)) old new p q e f = f
+answers_as (Err NoMemory) old new p q e f = tt
 
 -- the first was refused
 pub carries_failed : (result : Result (Unit {0}) Refusal) (refusal : Refusal) (old new : Sight) (p q : Split → Plan Split)

@@ -71,6 +71,27 @@ fn count_in(answer: &Answer) -> u64
     }
 }
 
+/// Whether the answer to the question is yes.
+#[inline(always)]
+fn asked_yes<B: Below>(below: &mut B, alloc: Global, question: Question) -> Result<bool, NoMemory>
+    ensures { Learns result (B.heard below.old) (B.heard below.new) (asks question (λ a. gives (spec_is_yes a))) }
+{
+    let answer = below.ask(alloc, question)?;
+    Ok(is_yes(&answer))
+}
+
+/// The number that is answered to the question.
+#[inline(always)]
+fn asked_count<B: Below>(below: &mut B, alloc: Global, question: Question) -> Result<u64, NoMemory>
+    ensures learns { Learns result (B.heard below.old) (B.heard below.new) (asks question (λ a. gives (spec_count_in a))) }
+    ensures short { IfOk result (λ count. count < 2 ^ 60) }
+{
+    let answer = below.ask(alloc, question)?;
+    Ok(count_in(&answer))
+}
+
+ghost use Rattle.hp_control.specs.Plan.{asks, gives};
+
 /// Whether a goal stands above each stop, from this depth downward.
 #[inline(never)]
 pub fn older_seen<B: Below>(
@@ -87,8 +108,7 @@ pub fn older_seen<B: Below>(
         goals,
         stops,
     };
-    let answer = below.ask(alloc, question)?;
-    Ok(is_yes(&answer))
+    asked_yes(below, alloc, question)
 }
 
 /// How many elements stand above it, from this depth downward.
@@ -123,8 +143,7 @@ pub fn older_run<B: Below>(
     ensures learns { Learns result (B.heard below.old) (B.heard below.new) (ask_run depth names) }
     ensures short { IfOk result (λ count. count < 2 ^ 60) }
 {
-    let answer = below.ask(alloc, Question::RunOf { depth, names })?;
-    Ok(count_in(&answer))
+    asked_count(below, alloc, Question::RunOf { depth, names })
 }
 
 /// Whether an HTML `template` stands at this depth or below.
@@ -132,8 +151,7 @@ pub fn older_run<B: Below>(
 pub fn older_template<B: Below>(below: &mut B, alloc: Global, depth: u64) -> Result<bool, NoMemory>
     ensures { Learns result (B.heard below.old) (B.heard below.new) (ask_template depth) }
 {
-    let answer = below.ask(alloc, Question::HasTemplate { depth })?;
-    Ok(is_yes(&answer))
+    asked_yes(below, alloc, Question::HasTemplate { depth })
 }
 
 /// The mode to which the insertion mode is reset, seen from this depth.
@@ -157,8 +175,7 @@ pub fn older_quiet<B: Below>(
 ) -> Result<bool, NoMemory>
     ensures { Learns result (B.heard below.old) (B.heard below.new) (ask_quiet depth cuts) }
 {
-    let answer = below.ask(alloc, Question::Quiet { depth, cuts })?;
-    Ok(is_yes(&answer))
+    asked_yes(below, alloc, Question::Quiet { depth, cuts })
 }
 
 /// How the last entry of that name stands.
@@ -192,8 +209,7 @@ pub fn older_same<B: Below>(
     ensures learns { Learns result (B.heard below.old) (B.heard below.new) (ask_same cuts tag) }
     ensures short { IfOk result (λ count. count < 2 ^ 60) }
 {
-    let answer = below.ask(alloc, Question::Same { cuts, tag })?;
-    Ok(count_in(&answer))
+    asked_count(below, alloc, Question::Same { cuts, tag })
 }
 
 /// Where the form pointer points.
@@ -224,8 +240,7 @@ pub fn older_quirks<B: Below>(below: &mut B, alloc: Global) -> Result<bool, NoMe
     let question = Question::Fact {
         which: FactKind::Quirks,
     };
-    let answer = below.ask(alloc, question)?;
-    Ok(is_yes(&answer))
+    asked_yes(below, alloc, question)
 }
 
 /// The name of the last start tag.

@@ -11,7 +11,6 @@ ghost use Rattle.hp_elements.specs.declared.act.Scope.TheVariants as scope;
 ghost use Rattle.hp_elements.specs.declared.known.Known.TheVariants as known;
 ghost use Rattle.hp_views.specs.ClosingPlans.{close_plan, is_item_plan, close_term_plan, either, leaves_it, through_form_plan};
 
-use crate::asking::older_seen;
 use crate::view::View;
 use crate::walks::{Walk, paragraph_walk};
 use hp_control::{Below, Refusal};
@@ -92,10 +91,8 @@ impl<'p, B: Below> View<'p, B> {
             Walk::Found(_) => Ok(true),
             Walk::Stopped => Ok(false),
             Walk::PastAll => {
-                let depth = self.change.popped;
-                let paragraph = Kinds::Html(Name::of_known(Known::P));
                 let ends = Kinds::Set(SetName::ButtonScopeEnds);
-                Ok(older_seen(&mut self.below, alloc, depth, paragraph, ends)?)
+                self.seen_below(alloc, Kinds::Html(Name::of_known(Known::P)), ends)
             }
         }
     }

@@ -66,8 +66,12 @@ impl<'p, B: Below> View<'p, B> {
         requires { depth < 2 ^ 60 }
         ensures { Carries result (sight B.heard self.old) (sight B.heard self.new) (leave_older_plan depth) }
     {
-        let ends = Kinds::Set(SetName::DefaultScopeEnds);
-        match element_walk(&self.change.stack, &Kinds::Nothing, &ends) {
+        let walk = element_walk(
+            &self.change.stack,
+            &Kinds::Nothing,
+            &Kinds::Set(SetName::DefaultScopeEnds),
+        );
+        match walk {
             Walk::PastAll => {
                 self.implied(alloc)?;
                 self.take_older_off(alloc, depth)

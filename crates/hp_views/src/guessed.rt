@@ -12,6 +12,7 @@ use hp_control::{
 use hp_elements::{Mode, NoMemory, Rest, Text};
 use hp_tokens::LexState;
 use std::alloc::Global;
+use std::mem;
 
 /// Nothing is changed yet, in this state of the lexer and this mode.
 fn begun(lex: LexState, mode: Mode, original: Option<Mode>, skip_lf: bool) -> Change
@@ -72,52 +73,6 @@ fn is_table_text(mode: Mode) -> bool
 
 ghost use Rattle.hp_control.specs.Outcome.{is_table_text};
 
-/// What was kept of a guess.
-fn kept_of<P: Drop>(guess: Guess<P>) -> Assumptions
-    ensures { result ≡ guess.kept }
-{
-    let Guess { kept, .. } = guess;
-    kept
-}
-
-/// The change at its end.
-fn end_of(change: Change, lex: LexState, last_tag_set: bool) -> Change
-    ensures { result ≡ ended lex last_tag_set change }
-{
-    let Change {
-        popped,
-        cuts,
-        stack,
-        formatting,
-        lex: _,
-        last_tag_set: _,
-        mode,
-        original,
-        templates,
-        form,
-        frameset_off,
-        pending,
-        skip_lf,
-        made,
-    } = change;
-    Change {
-        popped,
-        cuts,
-        stack,
-        formatting,
-        lex,
-        last_tag_set,
-        mode,
-        original,
-        templates,
-        form,
-        frameset_off,
-        pending,
-        skip_lf,
-        made,
-    }
-}
-
 impl<'p, P: Predictor + Drop> View<'p, Guess<P>> {
     /// Asks what is told at the chunk's start, and answers the view that begins there, and what was told. Where that isn't that
     /// the lexer is at rest, the view can only be ended.
@@ -127,12 +82,11 @@ impl<'p, P: Predictor + Drop> View<'p, Guess<P>> {
         let mut below = guess;
         let answer = below.ask(alloc, Question::Entry)?;
         let change = begun_by(&answer);
-        let older_text = is_table_text(change.mode);
         let view = View {
             below,
+            older_text: is_table_text(change.mode),
             change,
             edits: Edits::new(),
-            older_text,
             page: None,
         };
         Ok((view, answer))
@@ -147,11 +101,12 @@ impl<'p, P: Predictor + Drop> View<'p, Guess<P>> {
     {
         let View {
             below,
-            change,
+            mut change,
             edits,
             ..
         } = self;
-        let change = end_of(change, lex, last_tag_set);
-        (change, kept_of(below), edits)
+        drop(mem::replace(&mut change.lex, lex));
+        change.last_tag_set = last_tag_set;
+        (change, below.kept, edits)
     }
 }

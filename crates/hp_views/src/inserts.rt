@@ -6,7 +6,7 @@ ghost use Rattle.hp_control.specs.Plan.{gives};
 ghost use Rattle.hp_views.specs.Steps.{add_body_step, add_first_step, detach_step, insert_document_step, insert_step, put_document_step, put_first_step, put_step};
 ghost use Rattle.hp_views.specs.View.{sight, Carries, Meets};
 ghost use Rattle.hp_control.specs.declared.edit.Place.TheVariants.{Into};
-ghost use Rattle.hp_views.specs.PlacePlans.{put_at, insert_at, insert_plan, current_ref, add_to_on};
+ghost use Rattle.hp_views.specs.PlacePlans.{with_edit, insert_at, insert_plan, current_ref, add_to_on};
 
 use crate::place::{first_id, second_id};
 use crate::view::View;
@@ -76,11 +76,12 @@ fn push_other(
 }
 
 impl<'p, B: Below> View<'p, B> {
-    /// A child at a place.
-    fn put_at(&mut self, alloc: Global, child: Child<'p>, place: Place) -> Result<(), Refusal>
-        ensures { Carries result (sight B.heard self.old) (sight B.heard self.new) (λ v. gives (put_at child.entry v place)) }
+    /// One more edit.
+    #[inline(always)]
+    fn push_edit(&mut self, alloc: Global, edit: Edit<'p>) -> Result<(), Refusal>
+        ensures { Carries result (sight B.heard self.old) (sight B.heard self.new) (λ v. gives (with_edit edit.entry v)) }
     {
-        self.edits.push(alloc, Edit::Put { child, place })?;
+        self.edits.push(alloc, edit)?;
         Ok(())
     }
 
@@ -90,23 +91,23 @@ impl<'p, B: Below> View<'p, B> {
         ensures { Meets result (sight B.heard self.old) (sight B.heard self.new) (put_step fostering child.entry) }
     {
         let place = self.place(alloc, fostering)?;
-        self.edits.push(alloc, Edit::Put { child, place })?;
-        Ok(())
+        self.push_edit(alloc, Edit::Put { child, place })
     }
 
     /// A child of the document.
     pub fn put_into_document(&mut self, alloc: Global, child: Child<'p>) -> Result<(), Refusal>
         ensures { Meets result (sight B.heard self.old) (sight B.heard self.new) (put_document_step child.entry) }
     {
-        self.put_at(alloc, child, Place::Into(Ref::Fixed(0)))
+        let place = Place::Into(Ref::Fixed(0));
+        self.push_edit(alloc, Edit::Put { child, place })
     }
 
     /// A child of the first element.
     pub fn put_into_first(&mut self, alloc: Global, child: Child<'p>) -> Result<(), Refusal>
         ensures { Meets result (sight B.heard self.old) (sight B.heard self.new) (put_first_step child.entry) }
     {
-        let first = self.first_ref();
-        self.put_at(alloc, child, Place::Into(first))
+        let place = Place::Into(self.first_ref());
+        self.push_edit(alloc, Edit::Put { child, place })
     }
 
     /// Makes an element for the tag, puts it into a place and pushes it.
@@ -219,9 +220,7 @@ impl<'p, B: Below> View<'p, B> {
             return Err(Refusal::Crossed(Crossing::X5));
         }
         let node = Ref::Fixed(id);
-        self.edits
-            .push(alloc, Edit::AddMissing { node, attributes })?;
-        Ok(())
+        self.push_edit(alloc, Edit::AddMissing { node, attributes })
     }
 
     /// Takes the body out of the tree.
@@ -232,8 +231,7 @@ impl<'p, B: Below> View<'p, B> {
             return Err(Refusal::Crossed(Crossing::X5));
         }
         let node = Ref::Fixed(second_id(&self.change.stack));
-        self.edits.push(alloc, Edit::Detach { node })?;
-        Ok(())
+        self.push_edit(alloc, Edit::Detach { node })
     }
 }
 

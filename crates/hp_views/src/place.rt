@@ -86,7 +86,8 @@ impl<'p, B: Below> View<'p, B> {
     fn own_table(&self) -> Place
         ensures { result ≡ own_table (split_of self.now) (walk_of spec_table of_kind.Nothing self.now.change.stack) }
     {
-        match element_walk(&self.change.stack, &a_table(), &Kinds::Nothing) {
+        let walk = element_walk(&self.change.stack, &a_table(), &Kinds::Nothing);
+        match walk {
             Walk::Found(depth) => self.at_table(depth),
             _ => Place::Into(self.first_ref()),
         }
@@ -113,7 +114,8 @@ impl<'p, B: Below> View<'p, B> {
     fn foster_place(&mut self, alloc: Global) -> Result<Place, Refusal>
         ensures { Answers result (sight B.heard self.old) (sight B.heard self.new) foster_plan }
     {
-        match element_walk(&self.change.stack, &a_template(), &a_table()) {
+        let walk = element_walk(&self.change.stack, &a_template(), &a_table());
+        match walk {
             Walk::Found(depth) => Ok(Place::Into(self.ref_at(depth))),
             Walk::Stopped => Ok(self.own_table()),
             Walk::PastAll => self.foster_below(alloc),

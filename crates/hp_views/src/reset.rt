@@ -6,7 +6,7 @@ ghost use Rattle.hp_views.specs.Steps.{reset_step};
 ghost use Rattle.hp_views.specs.View.{sight, split_of, Carries, Answers, Meets};
 ghost use Rattle.hp_views.specs.ResetPlans.{decides, mode_or_nothing as spec_mode_or_nothing, table_plan, is_first as spec_is_first};
 
-use crate::asking::{older_reset, older_seen};
+use crate::asking::older_reset;
 use crate::place::{a_table, a_template};
 use crate::view::View;
 use crate::walks::{Walk, element_walk_from};
@@ -161,15 +161,11 @@ impl<'p, B: Below> View<'p, B> {
         requires { from ≤ length self.old.change.stack }
         ensures { Answers result (sight B.heard self.old) (sight B.heard self.new) (λ v. table_plan v (drop from self.old.change.stack)) }
     {
-        let table = a_table();
-        let template = a_template();
-        match element_walk_from(&self.change.stack, from, &table, &template) {
+        let walk = element_walk_from(&self.change.stack, from, &a_table(), &a_template());
+        match walk {
             Walk::Found(_) => Ok(true),
             Walk::Stopped => Ok(false),
-            Walk::PastAll => {
-                let depth = self.change.popped;
-                Ok(older_seen(&mut self.below, alloc, depth, table, template)?)
-            }
+            Walk::PastAll => self.seen_below(alloc, a_table(), a_template()),
         }
     }
 

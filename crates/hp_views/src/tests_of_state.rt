@@ -7,6 +7,7 @@ use crate::asking::{
     Pointed, older_body, older_foreign, older_frameset, older_last_tag, older_pointer,
     older_quirks, older_seen, older_template, older_there,
 };
+use crate::place::a_template;
 use crate::view::View;
 use crate::walks::{Walk, element_walk};
 use hp_control::{Below, FormChange, OpenElements, Refusal, is_html, is_named, is_within};
@@ -60,11 +61,22 @@ impl<'p, B: Below> View<'p, B> {
         match element_walk(&self.change.stack, &goals, &stops) {
             Walk::Found(_) => Ok(true),
             Walk::Stopped => Ok(false),
-            Walk::PastAll => {
-                let depth = self.change.popped;
-                Ok(older_seen(&mut self.below, alloc, depth, goals, stops)?)
-            }
+            Walk::PastAll => self.seen_below(alloc, goals, stops),
         }
+    }
+
+    /// The same of what is left of the older stack.
+    #[inline(never)]
+    pub(crate) fn seen_below(
+        &mut self,
+        alloc: Global,
+        goals: Kinds,
+        stops: Kinds,
+    ) -> Result<bool, Refusal>
+        ensures { Answers result (sight B.heard self.old) (sight B.heard self.new) (λ v. ask_seen v.change.popped goals stops) }
+    {
+        let depth = self.change.popped;
+        Ok(older_seen(&mut self.below, alloc, depth, goals, stops)?)
     }
 
     /// Whether an element of these kinds is in that scope (13.2.4.2).
@@ -81,19 +93,10 @@ impl<'p, B: Below> View<'p, B> {
         ensures { Answers result (sight B.heard self.old) (sight B.heard self.new) (current_is_plan goals) }
     {
         if self.change.stack.is_empty() {
-            self.older_current_is(alloc, goals)
+            self.seen_below(alloc, goals, Kinds::All)
         } else {
             Ok(is_within(&goals, self.change.stack.at(0)))
         }
-    }
-
-    /// Whether the top of what is left of the older stack is of these kinds.
-    #[inline(never)]
-    fn older_current_is(&mut self, alloc: Global, goals: Kinds) -> Result<bool, Refusal>
-        ensures { Answers result (sight B.heard self.old) (sight B.heard self.new) (λ v. ask_seen v.change.popped goals kinds.All) }
-    {
-        let depth = self.change.popped;
-        Ok(older_seen(&mut self.below, alloc, depth, goals, Kinds::All)?)
     }
 
     /// Whether the element next below the current node is of these kinds.
@@ -102,10 +105,7 @@ impl<'p, B: Below> View<'p, B> {
     {
         match self.change.stack.len() {
             0 => self.older_below_is(alloc, goals),
-            1 => {
-                let depth = self.change.popped;
-                Ok(older_seen(&mut self.below, alloc, depth, goals, Kinds::All)?)
-            }
+            1 => self.seen_below(alloc, goals, Kinds::All),
             _ => Ok(is_within(&goals, self.change.stack.at(1))),
         }
     }
@@ -196,8 +196,8 @@ impl<'p, B: Below> View<'p, B> {
     pub fn template_in_stack(&mut self, alloc: Global) -> Result<bool, Refusal>
         ensures { Answers result (sight B.heard self.old) (sight B.heard self.new) template_plan }
     {
-        let template = Kinds::Html(Name::of_known(Known::Template));
-        match element_walk(&self.change.stack, &template, &Kinds::Nothing) {
+        let walk = element_walk(&self.change.stack, &a_template(), &Kinds::Nothing);
+        match walk {
             Walk::Found(_) => Ok(true),
             _ => {
                 let depth = self.change.popped;

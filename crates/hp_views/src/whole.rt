@@ -101,42 +101,26 @@ impl<'p> View<'p, Nothing> {
         ensures edits { result.1 ≡ self.entry.edits }
     {
         let View {
-            below: _,
             change,
             edits,
-            older_text: _,
             page,
+            ..
         } = self;
-        let Change {
-            popped: _,
-            cuts: _,
-            stack,
-            formatting,
-            lex: _,
-            last_tag_set: _,
-            mode,
-            original,
-            templates,
-            form,
-            frameset_off,
-            pending,
-            skip_lf,
-            made,
-        } = change;
+        drop(change.lex);
         let control = Control {
             lex,
-            mode,
-            original,
-            templates,
-            stack,
-            formatting,
+            mode: change.mode,
+            original: change.original,
+            templates: change.templates,
+            stack: change.stack,
+            formatting: change.formatting,
             head: head_of(page),
-            form: form_left(form),
-            frameset_ok: !frameset_off,
+            form: form_left(change.form),
+            frameset_ok: !change.frameset_off,
             quirks: quirks_of(page),
-            pending,
-            skip_lf,
-            next: made,
+            pending: change.pending,
+            skip_lf: change.skip_lf,
+            next: change.made,
         };
         (control, edits)
     }
