@@ -73,6 +73,14 @@ fn is_table_text(mode: Mode) -> bool
 
 ghost use Rattle.hp_control.specs.Outcome.{is_table_text};
 
+/// Ends a change with this state of the lexer.
+pub(crate) fn end_with(change: &mut Change, lex: LexState, last_tag_set: bool)
+    ensures { change.new ≡ ended lex last_tag_set change.old }
+{
+    let _ = mem::replace(&mut change.lex, lex);
+    change.last_tag_set = last_tag_set;
+}
+
 impl<'p, P: Predictor + Drop> View<'p, Guess<P>> {
     /// Asks what is told at the chunk's start, and answers the view that begins there, and what was told. Where that isn't that
     /// the lexer is at rest, the view can only be ended.
@@ -105,8 +113,7 @@ impl<'p, P: Predictor + Drop> View<'p, Guess<P>> {
             edits,
             ..
         } = self;
-        drop(mem::replace(&mut change.lex, lex));
-        change.last_tag_set = last_tag_set;
+        end_with(&mut change, lex, last_tag_set);
         (change, below.kept, edits)
     }
 }

@@ -6,6 +6,7 @@ ghost use Rattle.hp_control.specs.Nothing.{nothing};
 ghost use Rattle.hp_views.specs.Begins.{form_of as spec_form_of, form_left as spec_form_left, head_of as spec_head_of, quirks_of as spec_quirks_of, whole_of, with_lexer};
 ghost use Rattle.hp_views.specs.View.{page_of, split_of};
 
+use crate::guessed::end_with;
 use crate::view::{PageFacts, View};
 use hp_control::{Change, Control, Edits, FormChange, Nothing};
 use hp_tokens::LexState;
@@ -101,14 +102,14 @@ impl<'p> View<'p, Nothing> {
         ensures edits { result.1 ≡ self.entry.edits }
     {
         let View {
-            change,
+            mut change,
             edits,
             page,
             ..
         } = self;
-        drop(change.lex);
+        end_with(&mut change, lex, true);
         let control = Control {
-            lex,
+            lex: change.lex,
             mode: change.mode,
             original: change.original,
             templates: change.templates,
