@@ -15,8 +15,7 @@ use Rattle.hp_views.specs.declared.walks.Walk.TheVariants.{Found, PastAll}
 use Rattle.hp_views.specs.FieldPlans.{with_change}
 use Rattle.hp_views.specs.FormPlans.{older_off_at, older_off_plan}
 use Rattle.hp_views.specs.ListPlans.{cut}
-use Rattle.hp_views.specs.StackPlans.{own_popped, pop_plan, through_on, through_plan, seen_on, seen_plan}
-use Rattle.hp_views.specs.Asking.{ask_seen}
+use Rattle.hp_views.specs.StackPlans.{own_popped, pop_plan, through_on, through_plan}
 use Rattle.hp_views.specs.Walks.{walk_of}
 
 nothing_kept : (kept : Option (List Kept)) → kept ≡ kept_with kept []
@@ -52,7 +51,3 @@ older_popped depth v none same =
     sym (ap (λ b. if b then gives v else older_off_at depth v v.change.stack) (le-ltb depth v.change.popped (omega (arith, same)))
     ∙ (ap (older_off_at depth v) (none_there v.change.stack none)
     ∙ ap (λ b. if b then pop_plan v else crosses X3) (eq-eqb depth v.change.popped same)))
-
--- what the older state answers, where no own element decides
-pub seen_below : (goals stops : Kinds) (v : Split) (h i : Heard) (seen : Bool) → walk_of goals stops v.change.stack ≡ PastAll → Runs h i (ask_seen v.change.popped goals stops) (Ok seen) → Runs h i (seen_plan goals stops v) (Ok seen)
-seen_below goals stops v h i seen past runs = let P : Walk → Type 0 = λ walk. Runs h i (seen_on v.change.popped goals stops walk) (Ok seen) in subst P (sym past) runs
