@@ -1,5 +1,5 @@
 -- What is given without a question, and what one question gives.
-use Rattle.std.specs.Prelude.{◌≡◌, ◌+◌, ◌==◌, ℕ, Bool, true, if◌then◌else◌, List, [], ◌∷◌, length, Option, Some, None, Ok, refl}
+use Rattle.std.specs.Prelude.{◌≡◌, ◌+◌, ◌==◌, ℕ, true, if◌then◌else◌, List, [], ◌∷◌, length, Option, Some, None, Ok, refl}
 use Rattle.std.proofs.Common.{subst, sym, ap, ◌∙◌, arith}
 use Rattle.std.proofs.lemmas.List.{append-nil}
 use Rattle.std.proofs.lemmas.Bool.{eqb-true, eq-eqb, le-ltb}
@@ -11,7 +11,7 @@ use Rattle.hp_control.specs.declared.question.Kept.{Kept}
 use Rattle.hp_control.specs.Faithful.{Split}
 use Rattle.hp_control.specs.Plan.{Heard, Runs, gives, crosses, kept_with}
 use Rattle.hp_views.specs.declared.walks.Walk.{Walk}
-use Rattle.hp_views.specs.declared.walks.Walk.TheVariants.{Found, PastAll}
+use Rattle.hp_views.specs.declared.walks.Walk.TheVariants.{Found}
 use Rattle.hp_views.specs.FieldPlans.{with_change}
 use Rattle.hp_views.specs.FormPlans.{older_off_at, older_off_plan}
 use Rattle.hp_views.specs.ListPlans.{cut}

@@ -1,5 +1,5 @@
 -- The walk that resets the insertion mode, one own element further.
-use Rattle.std.specs.Prelude.{ℕ, zero, suc, ◌+◌, ◌<◌, ◌≡◌, List, [], ◌∷◌, length, drop, Result, Ok, Err, refl}
+use Rattle.std.specs.Prelude.{ℕ, zero, suc, ◌+◌, ◌<◌, ◌≡◌, List, [], ◌∷◌, length, drop, Result, Ok, Err}
 use Rattle.std.proofs.Common.{arith, ap, sym, subst, ◌∙◌}
 use Rattle.hp_control.specs.declared.change.Refusal.{Refusal}
 use Rattle.hp_control.specs.declared.change.Refusal.TheVariants.{Crossed, NoMemory}

@@ -1,7 +1,7 @@
-use Rattle.std.specs.Prelude.{◌≡◌, ◌+◌, ◌<◌, length, drop}
-use Rattle.std.proofs.Common.{arith, ap, sym, subst, ◌∙◌}
+use Rattle.std.specs.Prelude.{◌+◌, ◌<◌, length, drop}
+use Rattle.std.proofs.Common.{arith, ap, sym, ◌∙◌}
 use Rattle.hp_views.specs.ResetPlans.{reset_plan, select_plan}
-use Rattle.hp_views.specs.View.{sight, split_of, Carries}
+use Rattle.hp_views.specs.View.{sight, split_of}
 use Rattle.hp_views.proofs.Resetting.{reset_passes, reset_selects, carries_on}
 use Rattle.hp_views.proofs.view.View.reset.Goals as goal
 
