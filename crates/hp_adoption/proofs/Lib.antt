@@ -10,3 +10,4 @@ pub mod Carrying
 pub mod LastEntry
 pub mod FewEqual
 pub mod Standing
+pub mod Climbing

@@ -25,3 +25,4 @@ pub mod AdoptMeans
 pub mod LastEntry
 pub mod FewEntries
 pub mod Still
+pub mod Starting

@@ -1,10 +1,11 @@
 //! A turn of the adoption agency algorithm that finds a furthest block (13.2.6.4.7).
 ghost use Rattle.std.specs.Prelude.{◌≡◌, ◌+◌, ◌<◌, ◌++◌, ◌∷◌, IfOk, Some, length, take, drop, slice_get};
-ghost use Rattle.hp_control.specs.Adoption.{pass_all, settled};
+ghost use Rattle.hp_control.specs.Acts.{element_for as spec_element_for};
+ghost use Rattle.hp_control.specs.Adoption.{settled};
 ghost use Rattle.hp_views.specs.View.{sight, Carries};
 ghost use Rattle.hp_adoption.specs.Entries.{ref_of};
 ghost use Rattle.hp_adoption.specs.AdoptPlans.{untangle_at};
-ghost use Rattle.hp_adoption.specs.Turning.{adopted_parts, closed_parts, closing, from_block, with_parts};
+ghost use Rattle.hp_adoption.specs.Turning.{adopted_parts, closed_parts, closing, with_parts};
 
 use crate::climb::{Climb, own_ref};
 use crate::elements::element_for;
@@ -88,17 +89,18 @@ fn settle(
 /// The last edits of a turn: the last node goes into its place, the block's children into the new element, and that into the block.
 fn close(
     alloc: Global,
-    edits: &mut List<Edit<'_>>,
+    edits: &mut Edits<'_>,
     last: Ref,
     place: Place,
     block: Ref,
     made: Ref,
-    tag: Tag,
+    tag: &Tag,
 ) -> Result<(), NoMemory>
-    ensures { IfOk result (λ _. edits.new ≡ edits.old ++ closing last place block made tag) }
+    ensures { IfOk result (λ _. edits.new ≡ edits.old ++ closing last place block made tag.now) }
 {
     let child = Child::Element(last);
     edits.push(alloc, Edit::Put { child, place })?;
+    let tag = tag.copy(alloc)?;
     edits.push(alloc, Edit::NewElement { tag })?;
     edits.push(
         alloc,
@@ -113,56 +115,22 @@ fn close(
             child: Child::Element(made),
             place: Place::Into(block),
         },
-    )?;
-    Ok(())
+    )
 }
 
-/// Puts edits after others.
-fn note<'p>(alloc: Global, edits: &mut Edits<'p>, more: List<Edit<'p>>) -> Result<(), NoMemory>
-    ensures { IfOk result (λ _. edits.new ≡ edits.old ++ more.entry) }
-{
-    for edit in more {
-        edits.push(alloc, edit)?;
-    }
-    Ok(())
-}
-
-/// Goes from the block past the nodes between it and the formatting element. The list is spent.
-fn climbed<'p>(
-    alloc: Global,
-    list: &mut Stack<FormattingEntry>,
-    next: u64,
-    is_page: bool,
-    block: OpenElement,
-    between: &[OpenElement],
-) -> Result<Climb<'p>, NoMemory>
-    ensures { IfOk result (λ climb. climb ≡ pass_all (ref_of is_page) block.id 0 between.now (from_block block list.old next)) }
-{
-    let block_id = block.id;
-    let mut climb = Climb {
-        formatting: mem::replace(list, Stack::new()),
-        next,
-        kept: List::of_one(block),
-        last: block_id,
-        bookmark: None,
-        edits: List::new(),
-    };
-    climb.pass_all(alloc, is_page, block_id, between)?;
-    Ok(climb)
-}
-
-/// Puts the new element on what was kept of the block and the nodes, and what stood above the block on that.
+/// Puts the new element of the tag on what was kept of the block and the nodes, and what stood above the block on that.
 fn restack(
     alloc: Global,
     stack: &mut OpenElements,
     kept: List<OpenElement>,
-    element: OpenElement,
+    id: u64,
+    tag: &Tag,
     above: List<OpenElement>,
 ) -> Result<(), NoMemory>
-    ensures { IfOk result (λ _. stack.new ≡ (above ++ element ∷ kept) ++ stack.old) }
+    ensures { IfOk result (λ _. stack.new ≡ (above ++ spec_element_for id tag.now ∷ kept) ++ stack.old) }
 {
     stack.pile(alloc, kept)?;
-    stack.push(alloc, element)?;
+    stack.push(alloc, element_for(alloc, id, tag)?)?;
     stack.pile(alloc, above)
 }
 
@@ -177,47 +145,48 @@ struct Formatted {
 }
 
 /// The last steps of a turn, from what the climb has made: the stack without its part above the formatting element gets that part
-/// anew, of which `above` is what stood above the block; the edits are put after others.
-fn put_together<'p>(
+/// anew, of which `above` is what stood above the block. The last edits follow the climb's own.
+fn put_together(
     alloc: Global,
     change: &mut Change,
-    edits: &mut Edits<'p>,
+    climb: &mut Climb<'_>,
     element: Formatted,
     block: u64,
     above: List<OpenElement>,
-    climb: Climb<'p>,
 ) -> Result<(), NoMemory>
-    ensures change { IfOk result (λ _. change.new ≡ with_parts (closed_parts (ref_of element.is_page) element.place element.id element.tag above block climb.entry) change.old) }
-    ensures edits { IfOk result (λ _. edits.new ≡ edits.old ++ (closed_parts (ref_of element.is_page) element.place element.id element.tag above block climb.entry).edits) }
+    ensures change { IfOk result (λ _. change.new ≡ with_parts (closed_parts (ref_of element.is_page) element.place element.id element.tag above block climb.old) change.old) }
+    ensures edits { IfOk result (λ _. climb.new.edits ≡ (closed_parts (ref_of element.is_page) element.place element.id element.tag above block climb.old).edits) }
 {
-    let Formatted {
-        id: gone,
-        tag,
-        place,
-        is_page,
-    } = element;
-    let Climb {
-        mut formatting,
-        next: id,
-        kept,
+    let id = climb.next;
+    let kept = mem::replace(&mut climb.kept, List::new());
+    restack(alloc, &mut change.stack, kept, id, &element.tag, above)?;
+    let last = own_ref(element.is_page, climb.last);
+    let block = own_ref(element.is_page, block);
+    let made = own_ref(element.is_page, id);
+    close(
+        alloc,
+        &mut climb.edits,
         last,
-        bookmark,
-        edits: mut made,
-    } = climb;
+        element.place,
+        block,
+        made,
+        &element.tag,
+    )?;
+    let tag = element.tag;
+    let entry = FormattingEntry::Element { id, tag };
+    settle(
+        alloc,
+        &mut climb.formatting,
+        climb.bookmark,
+        element.id,
+        entry,
+    )?;
+    mem::swap(&mut change.formatting, &mut climb.formatting);
     let Some(next) = id.checked_add(1) else {
         return Err(NoMemory);
     };
-    let anew = element_for(alloc, id, &tag)?;
-    let last = own_ref(is_page, last);
-    let block = own_ref(is_page, block);
-    let own = own_ref(is_page, id);
-    close(alloc, &mut made, last, place, block, own, tag.copy(alloc)?)?;
-    let entry = FormattingEntry::Element { id, tag };
-    settle(alloc, &mut formatting, bookmark, gone, entry)?;
-    restack(alloc, &mut change.stack, kept, anew, above)?;
-    change.formatting = formatting;
     change.made = next;
-    note(alloc, edits, made)
+    Ok(())
 }
 
 /// The same from the parts of the stack: the climb, and then the last steps.
@@ -231,16 +200,15 @@ fn rebuild<'p>(
     ensures change { IfOk result (λ _. change.new ≡ with_parts (adopted_parts (ref_of element.is_page) element.place element.id element.tag over.above over.block over.between change.old.formatting change.old.made) change.old) }
     ensures edits { IfOk result (λ _. edits.new ≡ edits.old ++ (adopted_parts (ref_of element.is_page) element.place element.id element.tag over.above over.block over.between change.old.formatting change.old.made).edits) }
 {
-    let Over {
-        above,
-        block,
-        between,
-    } = over;
-    let block_id = block.id;
-    let list = &mut change.formatting;
+    let block = over.block.id;
     let is_page = element.is_page;
-    let climb = climbed(alloc, list, change.made, is_page, block, between.as_slice())?;
-    put_together(alloc, change, edits, element, block_id, above, climb)
+    let list = mem::replace(&mut change.formatting, Stack::new());
+    let before = mem::replace(edits, Edits::new());
+    let mut climb = Climb::at_block(over.block, list, change.made, before);
+    climb.pass_all(alloc, is_page, block, over.between.as_slice())?;
+    let done = put_together(alloc, change, &mut climb, element, block, over.above);
+    mem::swap(edits, &mut climb.edits);
+    done
 }
 
 /// A turn with a furthest block.

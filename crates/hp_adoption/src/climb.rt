@@ -1,12 +1,14 @@
 //! The way from the furthest block up to the formatting element (13.2.6.4.7, the inner loop).
-ghost use Rattle.std.specs.Prelude.{◌≡◌, ◌++◌, IfOk};
+ghost use Rattle.std.specs.Prelude.{◌≡◌, [], ◌∷◌, ◌++◌, IfOk};
+ghost use Rattle.hp_control.specs.Acts.{element_for as spec_element_for};
 ghost use Rattle.hp_control.specs.Adoption.{pass_listed, pass_all, renewed, find_id};
 ghost use Rattle.hp_adoption.specs.Entries.{ref_of, tag_of};
+ghost use Rattle.hp_adoption.specs.Starting.{block_after};
 ghost use Rattle.hp_adoption.specs.Turning.{renewing, marked as spec_marked};
 
 use crate::elements::element_for;
 use crate::entries::{strike, supplant};
-use hp_control::{Child, Edit, FormattingEntry, OpenElement, Place, Ref, Stack};
+use hp_control::{Child, Edit, Edits, FormattingEntry, OpenElement, Place, Ref, Stack};
 use hp_elements::{List, NoMemory, Tag};
 use std::alloc::Global;
 use std::marker::Model;
@@ -37,7 +39,8 @@ pub struct Climb<'p> {
     pub last: u64,
     /// The element of the entry that the bookmark is after; `None` where it is at the formatting element's place.
     pub bookmark: Option<u64>,
-    pub edits: List<Edit<'p>>,
+    /// The edits made so far, those before the turn too.
+    pub edits: Edits<'p>,
 }
 
 impl<'p> Model for Climb<'p> {
@@ -49,6 +52,25 @@ impl<'p> Model for Climb<'p> {
 }
 
 impl<'p> Climb<'p> {
+    /// At the block, before any node.
+    pub fn at_block(
+        block: OpenElement,
+        formatting: Stack<FormattingEntry>,
+        next: u64,
+        edits: Edits<'p>,
+    ) -> Climb<'p>
+        ensures { result ≡ block_after edits.entry block formatting next }
+    {
+        Climb {
+            formatting,
+            next,
+            last: block.id,
+            kept: List::of_one(block),
+            bookmark: None,
+            edits,
+        }
+    }
+
     /// A new element of the tag takes the place of the node, and the last node goes into it.
     fn renew(
         &mut self,
@@ -61,18 +83,20 @@ impl<'p> Climb<'p> {
         ensures { IfOk result (λ _. self.new ≡ renewed (ref_of is_page) block node tag self.old) }
     {
         let id = self.next;
+        keep_renewed(alloc, &mut self.kept, id, &tag)?;
+        let last = own_ref(is_page, self.last);
+        let made = own_ref(is_page, id);
+        note_renewed(alloc, &mut self.edits, last, made, &tag)?;
+        supplant(
+            &mut self.formatting,
+            node,
+            FormattingEntry::Element { id, tag },
+        );
+        self.bookmark = marked(self.last, block, id, self.bookmark);
+        self.last = id;
         let Some(next) = id.checked_add(1) else {
             return Err(NoMemory);
         };
-        let element = element_for(alloc, id, &tag)?;
-        self.kept.push(alloc, element)?;
-        let last = own_ref(is_page, self.last);
-        let made = own_ref(is_page, id);
-        note_renewed(alloc, &mut self.edits, last, made, tag.copy(alloc)?)?;
-        let entry = FormattingEntry::Element { id, tag };
-        supplant(&mut self.formatting, node, entry);
-        self.bookmark = marked(self.last, block, id, self.bookmark);
-        self.last = id;
         self.next = next;
         Ok(())
     }
@@ -116,16 +140,30 @@ impl<'p> Climb<'p> {
     }
 }
 
+/// Puts the element that is made for the tag behind what is kept.
+fn keep_renewed(
+    alloc: Global,
+    kept: &mut List<OpenElement>,
+    id: u64,
+    tag: &Tag,
+) -> Result<(), NoMemory>
+    ensures { IfOk result (λ _. kept.new ≡ kept.old ++ spec_element_for id tag.now ∷ []) }
+{
+    kept.push(alloc, element_for(alloc, id, tag)?)?;
+    Ok(())
+}
+
 /// The edits of a node that is made anew.
 fn note_renewed(
     alloc: Global,
-    edits: &mut List<Edit<'_>>,
+    edits: &mut Edits<'_>,
     last: Ref,
     made: Ref,
-    tag: Tag,
+    tag: &Tag,
 ) -> Result<(), NoMemory>
-    ensures { IfOk result (λ _. edits.new ≡ edits.old ++ renewing last made tag) }
+    ensures { IfOk result (λ _. edits.new ≡ edits.old ++ renewing last made tag.now) }
 {
+    let tag = tag.copy(alloc)?;
     edits.push(alloc, Edit::NewElement { tag })?;
     edits.push(
         alloc,
@@ -133,8 +171,7 @@ fn note_renewed(
             child: Child::Element(last),
             place: Place::Into(made),
         },
-    )?;
-    Ok(())
+    )
 }
 
 /// The entry that the bookmark is after, once a node after the last one is made anew.
