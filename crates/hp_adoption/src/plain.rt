@@ -112,7 +112,7 @@ pub fn adopt<'p, B: Below>(
         close_last(view);
         return Ok(());
     }
-    adopt_any(alloc, view, fostering, name)
+    adopt_any(alloc, view, fostering, &name)
 }
 
 /// The same wherever the formatting element stands.
@@ -121,13 +121,13 @@ fn adopt_any<'p, B: Below>(
     alloc: Global,
     view: &mut View<'p, B>,
     fostering: bool,
-    name: Name,
+    name: &Name,
 ) -> Result<(), Refusal>
-    ensures { Carries result (sight B.heard view.old) (sight B.heard view.new) (adopt_plan fostering name) }
+    ensures { Carries result (sight B.heard view.old) (sight B.heard view.new) (adopt_plan fostering name.now) }
 {
-    if is_plain(alloc, view, &name)? {
+    if is_plain(alloc, view, name)? {
         view.pop(alloc)
     } else {
-        turns(alloc, view, fostering, &name)
+        turns(alloc, view, fostering, name)
     }
 }
