@@ -55,7 +55,7 @@ pub enum Rest {
 }
 
 /// The class of a code point: white space, U+0000, or another one.
-#[derive(Clone, Copy)]
+#[derive(Clone, Copy, PartialEq, Eq)]
 pub enum CharClass {
     White,
     Nul,
@@ -79,7 +79,7 @@ impl CharClass {
 }
 
 /// What the rules look at in a token. `None` is a name that is no known one.
-#[derive(Clone, Copy)]
+#[derive(Clone, Copy, PartialEq, Eq)]
 pub enum Kind {
     Characters(CharClass),
     Comment,
