@@ -1,13 +1,12 @@
 -- The walk to a p element in button scope, by what the stack knows.
-use Rattle.std.proofs.Common.{◌≡◌, Bool, true, false, List, [], ◌∷◌, if◌then◌else◌}
+use Rattle.std.proofs.Common.{◌≡◌, true, false, List, [], ◌∷◌, if◌then◌else◌}
 use Rattle.hp_elements.specs.Names.{text_of}
 use Rattle.hp_elements.specs.declared.kinds.Kinds.{Kinds}
 use Rattle.hp_elements.specs.declared.kinds.Kinds.TheVariants as kinds
 use Rattle.hp_elements.specs.declared.known.Known.TheVariants as known
 use Rattle.hp_elements.specs.declared.sets.SetName.TheVariants as sets
 use Rattle.hp_control.specs.declared.element.OpenElement.{OpenElement}
-use Rattle.hp_control.specs.declared.open_elements.WalkEnd.{WalkEnd}
-use Rattle.hp_control.specs.declared.open_elements.WalkEnd.TheVariants.{Goal, Stop, BelowAll}
+use Rattle.hp_control.specs.declared.open_elements.WalkEnd.TheVariants.{Goal, Stop}
 use Rattle.hp_control.specs.Ends.{end_of, paragraph_end}
 use Rattle.hp_control.specs.KindTests.{within}
 use Rattle.hp_views.specs.declared.walks.Walk.{Walk}

@@ -1,5 +1,5 @@
 -- A view that begins stands for the state that it begins from.
-use Rattle.std.specs.Prelude.{◌≡◌, ℕ, zero, suc, ◌+◌, ◌<◌, ◌^◌, ◌==◌, Bool, true, false, not, ◌&&◌, List, [], ◌∷◌, ◌++◌, Option, Some, None, map, drop, length, refl}
+use Rattle.std.specs.Prelude.{◌≡◌, ℕ, zero, suc, ◌+◌, ◌<◌, Bool, true, false, not, ◌&&◌, List, [], ◌∷◌, ◌++◌, Option, Some, None, map, drop, length, refl}
 use Rattle.std.specs.Str.{bytes_eq}
 use Rattle.std.proofs.Common.{sym, subst, ap, ◌∙◌, arith}
 use Rattle.std.proofs.lemmas.List.{append-nil}
@@ -21,15 +21,14 @@ use Rattle.hp_control.specs.declared.element.FormattingEntry.TheVariants.{Marker
 use Rattle.hp_control.specs.declared.question.Answer.{Answer}
 use Rattle.hp_control.specs.declared.question.Answer.TheVariants as answer
 use Rattle.hp_control.specs.declared.question.Question.TheVariants as ask
-use Rattle.hp_control.specs.States.{ControlState, AreIds, LexFits, IsValid, Fits, is_rooted, may_be_ahead}
+use Rattle.hp_control.specs.States.{ControlState, AreIds, LexFits, IsValid, is_rooted, may_be_ahead}
 use Rattle.hp_control.specs.Nothing.{nothing}
 use Rattle.hp_control.specs.Walks.{cleared, cleared_by}
 use Rattle.hp_control.specs.Truth.{answer_of, rest_of, entry_answer}
 use Rattle.hp_control.specs.Apply.{applied, shifted, shifted_entry, form_after, lex_after, IsOlder}
-use Rattle.hp_control.specs.Faithful.{Page, Split, with_page, state_over, IsOpen, StandsOn}
+use Rattle.hp_control.specs.Faithful.{Page, Split, with_page, state_over, StandsOn}
 use Rattle.hp_control.specs.Viewing.{state_of}
-use Rattle.hp_views.specs.Begins.{form_of, form_left, head_of, quirks_of, whole_of, with_lexer, begun, begins}
-use Rattle.hp_views.specs.PopLaws.{none_left}
+use Rattle.hp_views.specs.Begins.{form_of, form_left, head_of, quirks_of, whole_of, with_lexer, begins}
 use Rattle.hp_views.specs.Quiet.{drop_none}
 
 -- without an older state numbers are ids

@@ -1,5 +1,5 @@
 -- How a view begins and ends.
-use Rattle.std.specs.Prelude.{◌≡◌, ℕ, Bool, true, false, not, List, [], Option, Some, None, Ok}
+use Rattle.std.specs.Prelude.{◌≡◌, ℕ, Bool, true, false, not, [], Option, Some, None, Ok}
 use Rattle.hp_elements.specs.declared.token.Mode.{Mode}
 use Rattle.hp_elements.specs.declared.token.Mode.TheVariants as mode
 use Rattle.hp_elements.specs.declared.token.Rest.TheVariants.{Data}
@@ -15,7 +15,7 @@ use Rattle.hp_control.specs.declared.question.Answer.{Answer}
 use Rattle.hp_control.specs.declared.question.Answer.TheVariants as answer
 use Rattle.hp_control.specs.Faithful.{Page, Split}
 use Rattle.hp_control.specs.Outcome.{is_table_text}
-use Rattle.hp_control.specs.Plan.{gives, asks, Heard, Runs}
+use Rattle.hp_control.specs.Plan.{gives, asks, Runs}
 use Rattle.hp_control.specs.States.{ControlState}
 
 abbrev pub form_of : Option ℕ → FormChange

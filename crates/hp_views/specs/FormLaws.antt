@@ -1,5 +1,5 @@
 -- The end of a form: the plan does to a view what the act does to the whole state.
-use Rattle.std.specs.Prelude.{◌≡◌, ℕ, zero, suc, ◌+◌, ◌-◌, ◌<◌, ◌≤◌, ◌==◌, Bool, true, false, ◌||◌, if◌then◌else◌, nat_lt, List, [], ◌∷◌, ◌++◌, Option, Some, None, IfSome, Result, Ok, map, drop, length, refl}
+use Rattle.std.specs.Prelude.{◌≡◌, ℕ, suc, ◌+◌, ◌-◌, ◌<◌, ◌≤◌, ◌==◌, Bool, true, false, ◌||◌, if◌then◌else◌, nat_lt, List, [], ◌∷◌, Option, Some, None, IfSome, Ok, drop, length, refl}
 use Rattle.std.specs.Option.{is_some, option_map}
 use Rattle.std.proofs.Common.{sym, subst, ap, ◌∙◌, arith}
 use Rattle.std.proofs.lemmas.Bool.{lt-ltb, eqb-true, eq-eqb, ltb-true, ltb-false}
@@ -12,24 +12,22 @@ use Rattle.hp_control.specs.declared.question.Crossing.TheVariants.{X3}
 use Rattle.hp_control.specs.States.{ControlState, IsId}
 use Rattle.hp_control.specs.Walks.{open_at, scope_at, scope_ends}
 use Rattle.hp_control.specs.Truth.{answer_of, away_or, depth_answer, pointer_answer}
-use Rattle.hp_control.specs.Apply.{applied, shifted, form_after}
-use Rattle.hp_control.specs.Outcome.{Act, Outcome, becomes, and_then, choose, nothing_done, touches}
+use Rattle.hp_control.specs.Apply.{applied, form_after}
+use Rattle.hp_control.specs.Outcome.{Act, and_then, choose, nothing_done, touches}
 use Rattle.hp_control.specs.Acts.{take_off, taken_off, empty_form}
 use Rattle.hp_control.specs.Composed.{implied, end_form_of, end_form_in_template, end_form, is_open_form, template_in_stack}
 use Rattle.hp_control.specs.Faithful.{Split, state_over, StandsOn, IsDone, IsSaid, Matches, Follows, Faithful, then_matches, matches_then, said_first}
 use Rattle.hp_control.specs.Plan.{gives, crosses, end_by}
-use Rattle.hp_views.specs.declared.asking.Pointed.{Pointed}
-use Rattle.hp_views.specs.declared.asking.Pointed.TheVariants.{Nowhere, Away, Here}
 use Rattle.hp_views.specs.declared.walks.Walk.{Walk}
 use Rattle.hp_views.specs.declared.walks.Walk.TheVariants.{Found, Stopped, PastAll}
 use Rattle.hp_views.specs.Asking.{pointed_in, pointed_at, depth_from}
 use Rattle.hp_views.specs.ClosingLaws.{by_test_faithful, implied_faithful, end_form_in_template_faithful}
 use Rattle.hp_views.specs.ClosingPlans.{implied_plan, end_form_in_template_plan}
 use Rattle.hp_views.specs.FieldLaws.{empty_form_faithful}
-use Rattle.hp_views.specs.FieldPlans.{with_change, form_cleared}
-use Rattle.hp_views.specs.FormPlans.{form_emptied, own_form_on, own_form_plan, older_off_at, older_off_plan, leave_older_on, leave_older_plan, pointed_plan, older_form_plan, outside_on, outside_plan, end_form_plan}
+use Rattle.hp_views.specs.FieldPlans.{form_cleared}
+use Rattle.hp_views.specs.FormPlans.{form_emptied, own_form_on, own_form_plan, older_off_at, older_off_plan, leave_older_on, pointed_plan, outside_on, outside_plan, end_form_plan}
 use Rattle.hp_views.specs.OlderIds.{is_found, scope_older, scope_own, scope_by, scope_below, scope_open, open_within, open_drop, open_gone, open_left, open_below}
-use Rattle.hp_views.specs.OwnIds.{ids, ids_drop}
+use Rattle.hp_views.specs.OwnIds.{ids_drop}
 use Rattle.hp_views.specs.PopLaws.{pop_faithful, nothing_popped}
 use Rattle.hp_views.specs.Quiet.{quiet, paged_part}
 use Rattle.hp_views.specs.Reading.{depth_back}

@@ -11,7 +11,7 @@ use Rattle.hp_control.specs.Walks.{scope_ends}
 use Rattle.hp_views.specs.declared.asking.Pointed.{Pointed}
 use Rattle.hp_views.specs.declared.asking.Pointed.TheVariants.{Nowhere, Away, Here}
 use Rattle.hp_views.specs.declared.walks.Walk.{Walk}
-use Rattle.hp_views.specs.declared.walks.Walk.TheVariants.{Found, Stopped, PastAll}
+use Rattle.hp_views.specs.declared.walks.Walk.TheVariants.{Found, PastAll}
 use Rattle.hp_views.specs.Asking.{ask_pointer}
 use Rattle.hp_views.specs.ClosingPlans.{first_then, by_test, implied_plan, end_form_in_template_plan}
 use Rattle.hp_views.specs.FieldPlans.{with_change, form_cleared}

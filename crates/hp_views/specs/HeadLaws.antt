@@ -1,5 +1,5 @@
 -- The head element, on the stack again and off it: each plan does to a view what its act does to the whole state.
-use Rattle.std.specs.Prelude.{◌≡◌, ℕ, ◌+◌, Bool, true, false, ◌||◌, if◌then◌else◌, List, [], ◌∷◌, ◌++◌, Option, Some, None, map, drop, length, refl, Result, Ok, Err}
+use Rattle.std.specs.Prelude.{◌≡◌, ℕ, ◌+◌, Bool, false, ◌||◌, if◌then◌else◌, List, ◌∷◌, Option, Some, None, refl, Result, Ok, Err}
 use Rattle.std.specs.Option.{is_some}
 use Rattle.std.proofs.Common.{sym, subst, ap, ◌∙◌, arith}
 use Rattle.std.proofs.Math.Bool.{or-true}
@@ -14,7 +14,7 @@ use Rattle.hp_control.specs.Truth.{answer_of}
 use Rattle.hp_control.specs.Apply.{applied, shifted}
 use Rattle.hp_control.specs.Outcome.{Outcome, Touch, becomes, is_older, is_touch, touches}
 use Rattle.hp_control.specs.Acts.{head_element, headed, touching, push_head_of, push_head, take_off, take_head_off_of, take_head_off, with_stack}
-use Rattle.hp_control.specs.Faithful.{Page, Split, with_page, state_over, StandsOn, IsDone, IsSaid, Matches, Faithful}
+use Rattle.hp_control.specs.Faithful.{Page, Split, state_over, StandsOn, IsDone, Matches, Faithful}
 use Rattle.hp_control.specs.Plan.{end_by}
 use Rattle.hp_views.specs.declared.walks.Walk.{Walk}
 use Rattle.hp_views.specs.declared.walks.Walk.TheVariants.{Found, Stopped, PastAll}

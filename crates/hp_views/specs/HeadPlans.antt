@@ -1,12 +1,12 @@
 -- The head element, on the stack again and off it: what each act changes of a view.
-use Rattle.std.specs.Prelude.{ℕ, List, ◌∷◌, Option, Some, None}
+use Rattle.std.specs.Prelude.{ℕ, ◌∷◌, Option, Some, None}
 use Rattle.hp_control.specs.declared.change.Change.{Change}
 use Rattle.hp_control.specs.declared.question.Crossing.TheVariants.{X4}
 use Rattle.hp_control.specs.Acts.{head_element}
 use Rattle.hp_control.specs.Faithful.{Page, Split}
 use Rattle.hp_control.specs.Plan.{Plan, gives, crosses}
 use Rattle.hp_views.specs.declared.walks.Walk.{Walk}
-use Rattle.hp_views.specs.declared.walks.Walk.TheVariants.{Found, Stopped, PastAll}
+use Rattle.hp_views.specs.declared.walks.Walk.TheVariants.{Found}
 use Rattle.hp_views.specs.FieldPlans.{with_change}
 use Rattle.hp_views.specs.RemovePlans.{take_off_plan}
 use Rattle.hp_views.specs.Walks.{id_walk}

@@ -1,30 +1,26 @@
 -- Own elements and entries out of mid-list: each plan does to a view what its act does to the whole state. The act names an
 -- own element by its id in the whole state, which its number in the view follows from.
-use Rattle.std.specs.Prelude.{◌≡◌, ℕ, zero, suc, ◌+◌, ◌<◌, ◌≤◌, Bool, true, false, ◌||◌, ◌&&◌, List, [], ◌∷◌, ◌++◌, Option, Some, None, map, take, drop, length, refl, nat_lt}
+use Rattle.std.specs.Prelude.{◌≡◌, ℕ, zero, suc, ◌+◌, ◌<◌, false, ◌++◌, Option, None, map, take, drop, length, refl, nat_lt}
 use Rattle.std.proofs.Common.{sym, subst, ap, ◌∙◌, arith}
-use Rattle.std.proofs.lemmas.Bool.{le-ltb, lt-ltb}
-use Rattle.std.proofs.lemmas.List.{append-nil}
+use Rattle.std.proofs.lemmas.Bool.{le-ltb}
 use Rattle.hp_control.specs.declared.change.Change.{Change}
-use Rattle.hp_control.specs.declared.element.OpenElement.{OpenElement}
-use Rattle.hp_control.specs.declared.element.FormattingEntry.{FormattingEntry}
 use Rattle.hp_control.specs.declared.question.Crossing.TheVariants.{X1, X3}
-use Rattle.hp_control.specs.States.{ControlState, AreIds, entry_ids}
-use Rattle.hp_control.specs.Nothing.{nothing}
+use Rattle.hp_control.specs.States.{ControlState}
 use Rattle.hp_control.specs.Walks.{open_at, cleared_by}
 use Rattle.hp_control.specs.Truth.{answer_of}
-use Rattle.hp_control.specs.Apply.{applied, named_edit, shifted, shifted_entry}
-use Rattle.hp_control.specs.Outcome.{Outcome, Touch, becomes, is_older}
-use Rattle.hp_control.specs.Acts.{without, taken_off, take_off, without_entry, remove_entry, pop, touching}
-use Rattle.hp_control.specs.Faithful.{Page, Split, with_page, state_over, StandsOn, IsDone, IsSaid, Matches, any_view}
-use Rattle.hp_control.specs.Plan.{Plan, gives, end_by}
+use Rattle.hp_control.specs.Apply.{applied, shifted, shifted_entry}
+use Rattle.hp_control.specs.Outcome.{Outcome, becomes}
+use Rattle.hp_control.specs.Acts.{without, taken_off, take_off, without_entry, remove_entry}
+use Rattle.hp_control.specs.Faithful.{Split, state_over, StandsOn, IsDone, IsSaid, Matches}
+use Rattle.hp_control.specs.Plan.{Plan, end_by}
 use Rattle.hp_views.specs.declared.walks.Walk.{Walk}
 use Rattle.hp_views.specs.declared.walks.Walk.TheVariants.{Found, Stopped, PastAll}
 use Rattle.hp_views.specs.FieldPlans.{with_change}
 use Rattle.hp_views.specs.ListPlans.{with_entries}
-use Rattle.hp_views.specs.OwnIds.{ids, ids_drop, open_older, open_own, found_at, without_own, id_within, entries_cleared_by, no_older_entry, without_found, entry_own}
+use Rattle.hp_views.specs.OwnIds.{ids_drop, open_older, open_own, found_at, without_own, id_within, entries_cleared_by, no_older_entry, without_found, entry_own}
 use Rattle.hp_views.specs.PopLaws.{own_pops, nothing_popped}
-use Rattle.hp_views.specs.Quiet.{quiet, own_touch, paged_part}
-use Rattle.hp_views.specs.RemovePlans.{without_at, taken_at, take_off_on, take_off_plan, remove_on, remove_entry_plan}
+use Rattle.hp_views.specs.Quiet.{quiet, own_touch}
+use Rattle.hp_views.specs.RemovePlans.{without_at, take_off_on, take_off_plan, remove_on, remove_entry_plan}
 use Rattle.hp_views.specs.StackLaws.{full_stack}
 use Rattle.hp_views.specs.Walks.{id_walk, id_entry_walk}
 

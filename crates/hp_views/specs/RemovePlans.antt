@@ -1,5 +1,5 @@
 -- Own elements and entries taken out of mid-list: what each act changes of a view.
-use Rattle.std.specs.Prelude.{ℕ, zero, suc, ◌+◌, ◌==◌, Bool, false, List, ◌++◌, take, drop}
+use Rattle.std.specs.Prelude.{ℕ, zero, suc, ◌+◌, ◌==◌, Bool, false, ◌++◌, take, drop}
 use Rattle.hp_control.specs.declared.change.Change.{Change}
 use Rattle.hp_control.specs.declared.element.FormattingEntry.{FormattingEntry}
 use Rattle.hp_control.specs.declared.element.FormattingEntry.TheVariants.{Marker, Element}
@@ -7,7 +7,7 @@ use Rattle.hp_control.specs.Acts.{without}
 use Rattle.hp_control.specs.Faithful.{Split}
 use Rattle.hp_control.specs.Plan.{Plan, gives}
 use Rattle.hp_views.specs.declared.walks.Walk.{Walk}
-use Rattle.hp_views.specs.declared.walks.Walk.TheVariants.{Found, Stopped, PastAll}
+use Rattle.hp_views.specs.declared.walks.Walk.TheVariants.{Found}
 use Rattle.hp_views.specs.FieldPlans.{with_change}
 use Rattle.hp_views.specs.ListPlans.{with_entries}
 use Rattle.hp_views.specs.StackPlans.{own_popped}

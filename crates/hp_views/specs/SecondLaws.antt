@@ -1,7 +1,7 @@
 -- The second element, template modes, foreign content and the last tag: what a plan finds out is what holds of the whole state.
-use Rattle.std.specs.Prelude.{◌≡◌, ℕ, zero, suc, ◌+◌, ◌<◌, ◌==◌, Bool, true, false, not, ◌||◌, if◌then◌else◌, List, [], ◌∷◌, ◌++◌, Option, Some, None, Result, Ok, map, drop, length, refl, slice_get}
+use Rattle.std.specs.Prelude.{◌≡◌, ℕ, zero, suc, ◌+◌, ◌<◌, Bool, true, false, not, ◌||◌, List, [], ◌∷◌, ◌++◌, Option, Some, None, Ok, map, drop, length, refl, slice_get}
 use Rattle.std.specs.Option.{is_some, unwrap_or}
-use Rattle.std.proofs.Common.{sym, subst, ap, ◌∙◌, arith}
+use Rattle.std.proofs.Common.{sym, ap, ◌∙◌, arith}
 use Rattle.std.proofs.lemmas.Bool.{ne_eqb}
 use Rattle.std.proofs.lemmas.List.{length-drop}
 use Rattle.hp_elements.specs.declared.kinds.Kinds.TheVariants as kinds
@@ -9,14 +9,13 @@ use Rattle.hp_elements.specs.declared.token.Mode.{Mode}
 use Rattle.hp_control.specs.declared.change.Change.{Change}
 use Rattle.hp_control.specs.declared.edit.Edit.{Edit}
 use Rattle.hp_control.specs.declared.element.OpenElement.{OpenElement}
-use Rattle.hp_control.specs.States.{ControlState, is_html}
-use Rattle.hp_control.specs.Nothing.{nothing}
+use Rattle.hp_control.specs.States.{ControlState}
 use Rattle.hp_control.specs.Walks.{seen, second_is_body}
 use Rattle.hp_control.specs.Truth.{answer_of, element_answer}
 use Rattle.hp_control.specs.Apply.{applied, shifted}
-use Rattle.hp_control.specs.Composed.{has_modes, is_second_body, first_is_foreign, is_foreign_now, is_one}
-use Rattle.hp_control.specs.Faithful.{Page, Split, with_page, state_over, IsBase, StandsOn, FaithfulTest}
-use Rattle.hp_control.specs.Plan.{Plan, end_by}
+use Rattle.hp_control.specs.Composed.{has_modes, is_second_body, first_is_foreign, is_foreign_now}
+use Rattle.hp_control.specs.Faithful.{Page, Split, state_over, IsBase, StandsOn, FaithfulTest}
+use Rattle.hp_control.specs.Plan.{end_by}
 use Rattle.hp_views.specs.Asking.{is_there, is_foreign, ask_last_tag}
 use Rattle.hp_views.specs.PopLaws.{none_left}
 use Rattle.hp_views.specs.Quiet.{view, paged_part}

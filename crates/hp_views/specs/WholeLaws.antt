@@ -1,5 +1,5 @@
 -- Over a known state each act is its act in that state, and none crosses.
-use Rattle.std.specs.Prelude.{◌≡◌, ℕ, true, false, List, [], ◌∷◌, Option, Some, None, Result, Ok, Err, refl}
+use Rattle.std.specs.Prelude.{◌≡◌, true, false, List, [], ◌∷◌, Option, Some, None, Result, Ok, Err, refl}
 use Rattle.std.proofs.Common.{sym, subst, ◌∙◌}
 use Rattle.hp_control.specs.declared.question.Crossing.{Crossing}
 use Rattle.hp_control.specs.declared.question.Question.{Question}
