@@ -1,8 +1,8 @@
 #!/usr/bin/env python3
 """Prints what an independent reading of the standard's rules does, as the table that the rules crates' tests compare.
 
-    tools/rule_table.py ORACLE crates/hp_rules_page > crates/hp_tests/src/rows/page.rt
-    tools/rule_table.py ORACLE crates/hp_elements > crates/hp_tests/src/rows/names.rt
+    tools/rule_table.py ORACLE crates/hp_rules_page > crates/hp_base_tests/src/rows/page.rt
+    tools/rule_table.py ORACLE crates/hp_elements > crates/hp_base_tests/src/rows/names.rt
     tools/rule_table.py ORACLE                        the same for all four crates, as text to be read
 
 ORACLE is the folder of the Python reference parser (builder.py, tables.py, lexer.py, tree.py), which was written from

@@ -1,13 +1,11 @@
 //! Guesses as an independent model makes them, and what each predictor says.
 
-use crate::cases::{Case, compare};
-use crate::reading::page_of;
 use hp_control::{
     Answer, Control, FactKind, FormattingEntry, OpenElements, Predictor, Question, Stack, truth,
 };
 use hp_elements::{Chain, Kinds, Known, Mode, Name, Namespace, Rest, SetName, Tag};
 use hp_predict::{Contrary, Prescan, Quiet};
-use hp_text::{Chunk, Page};
+use hp_text::{Chunk, Page, check_page};
 use std::alloc::Global;
 use std::mem;
 use std::process::Abort;
@@ -122,7 +120,7 @@ fn is_described(rt: &impl Abort, alloc: Global, state: &Control, wanted: &str) -
 
 /// The guess for a text from a place on.
 fn guess_from(rt: &impl Abort, alloc: Global, text: &str, from: usize) -> Prescan {
-    let page = page_of(rt, text.as_bytes());
+    let page = check_page(text.as_bytes()).expect(rt, "the page is UTF-8");
     Prescan::new(alloc, &rest_of(rt, page, from)).expect(rt, "there is memory")
 }
 
@@ -136,15 +134,19 @@ fn guess(rt: &impl Abort, alloc: Global, before: &str, chunk: &str) -> Prescan {
     guessed
 }
 
-impl Case for &'static str {
-    /// The guess of the row is the one that stands there.
-    fn is_so(&self, rt: &impl Abort, alloc: Global) -> bool {
-        let (page, wanted) = self.split_once('|').expect(rt, "a row has a guess");
-        let (before, chunk) = page.split_once('^').expect(rt, "a row has a mark");
-        let prescan = guess(rt, alloc, before, chunk);
-        let well = is_described(rt, alloc, prescan.state(), wanted);
-        mem::forget(prescan);
-        well
+/// Whether the guess of the row is the one that stands there. What is owned is kept to the end of the test.
+fn is_guessed(rt: &impl Abort, alloc: Global, row: &str) -> bool {
+    let (page, wanted) = row.split_once('|').expect(rt, "a row has a guess");
+    let (before, chunk) = page.split_once('^').expect(rt, "a row has a mark");
+    let prescan = guess(rt, alloc, before, chunk);
+    let well = is_described(rt, alloc, prescan.state(), wanted);
+    mem::forget(prescan);
+    well
+}
+
+fn compare(rt: &impl Abort, alloc: Global, rows: &[&str]) {
+    for row in rows {
+        assert!(rt; is_guessed(rt, alloc, row), "{row}");
     }
 }
 

@@ -1,6 +1,5 @@
 //! Trees that edits make, printed.
 
-use crate::cases::{self, compare};
 use crate::growing::{comment, detach, element, foster, keep_room, make, put, put_element};
 use hp_arena::Tree;
 use hp_control::{Child, Edit, Ref};
@@ -172,19 +171,25 @@ fn prints_so(rt: &impl Abort, alloc: Global, tree: &Tree<'_>, front: &str, rest:
     well
 }
 
-impl cases::Case for Case {
-    fn is_so(&self, rt: &impl Abort, alloc: Global) -> bool {
-        let (steps, front, rest) = *self;
-        let mut grown = Grown {
-            tree: Tree::start(alloc).expect(rt, "there is memory"),
-            attributes: Chain::new(),
-        };
-        for step in steps {
-            grow(rt, alloc, &mut grown, *step);
-        }
-        let shown = prints_so(rt, alloc, &grown.tree, front, rest);
-        mem::forget(grown);
-        shown
+/// Whether the tree of these steps is printed so. What is owned is kept to the end of the test.
+fn is_shown(rt: &impl Abort, alloc: Global, case: Case) -> bool {
+    let (steps, front, rest) = case;
+    let mut grown = Grown {
+        tree: Tree::start(alloc).expect(rt, "there is memory"),
+        attributes: Chain::new(),
+    };
+    for step in steps {
+        grow(rt, alloc, &mut grown, *step);
+    }
+    let shown = prints_so(rt, alloc, &grown.tree, front, rest);
+    mem::forget(grown);
+    shown
+}
+
+/// Compares the trees of a table, of which the first has the number 0.
+fn compare(rt: &impl Abort, alloc: Global, cases: &[Case]) {
+    for (number, case) in cases.iter().enumerate() {
+        assert!(rt; is_shown(rt, alloc, *case), "case {number}");
     }
 }
 
