@@ -25,6 +25,13 @@ at_every p h name = subst (λ x. p x ≡ true) (known_at name) (agree_below_at (
 pub same_index : (a b : Known) → index_of a ≡ index_of b → a ≡ b
 same_index a b e = sym (known_at a) ∙ (ap (λ (i : ℕ). get_or every i k.A) e ∙ known_at b)
 
+-- a table of all texts has a place for each name
+table_length : {X : Type 0} (now : X → List ℕ) (table : List X) → map now table ≡ map text_of every → length table ≡ 240
+table_length now table e = sym (length-map table now) ∙ (ap length e ∙ length-map every text_of)
+
+pub in_table : {X : Type 0} (now : X → List ℕ) (table : List X) (i : ℕ) (name : Known) → i ≡ index_of name → map now table ≡ map text_of every → i < length table
+in_table now table i name p e = rw (p, table_length now table e) (index_below name)
+
 -- what a table of all texts has at a name's place
 text_at : {X : Type 0} (now : X → List ℕ) (table : List X) (d : X) (name : Known) → map now table ≡ map text_of every → length table ≡ 240 → now (get_or table (index_of name) d) ≡ text_of name
 text_at now table d name e len =
@@ -34,4 +41,4 @@ text_at now table d name e len =
 
 pub text_in_table : {X : Type 0} (now : X → List ℕ) (table : List X) (d : X) (i : ℕ) (name : Known) → i ≡ index_of name → map now table ≡ map text_of every → now (get_or table i d) ≡ text_of name
 text_in_table {X} now table d i name p e =
-    ap (λ (n : ℕ). now (get_or table n d)) p ∙ text_at now table d name e (sym (length-map table now) ∙ (ap length e ∙ length-map every text_of))
+    ap (λ (n : ℕ). now (get_or table n d)) p ∙ text_at now table d name e (table_length now table e)

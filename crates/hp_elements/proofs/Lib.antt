@@ -9,3 +9,4 @@ pub mod RowLemmas
 pub mod FindLemmas
 pub mod QuirksLemmas
 pub mod RespellingLemmas
+pub mod ListLemmas

@@ -1,4 +1,5 @@
-use Rattle.std.proofs.Common.{ℕ, ap, sym, ◌∙◌, slice_index}
+use Rattle.std.proofs.Common.{arith, ℕ, ap, sym, ◌∙◌, slice_index}
+use Rattle.hp_elements.proofs.EveryName.{index_below}
 use Rattle.hp_elements.specs.Names.{index_of}
 use Rattle.hp_elements.specs.SetMasks.{masks_of}
 use Rattle.hp_elements.specs.declared.sets.Namespace.{Namespace}
@@ -16,3 +17,21 @@ returns-in-MathMl c = ap (λ (i : ℕ). slice_index (masks_of MathMl) i) c.index
 pub returns-in-Svg : goal.returns-in-Svg
 unfolding masks_of
 returns-in-Svg c = ap (λ (i : ℕ). slice_index (masks_of Svg) i) c.index-in-Svg.ensures ∙ ap (λ (n : Namespace). slice_index (masks_of n) (index_of c.args.name)) (sym c.in-Svg.is)
+
+pub bounds-index : goal.bounds-index
+bounds-index c = rw c.index.ensures (index_below c.args.name)
+
+pub offset_bounds-index : goal.offset_bounds-index
+offset_bounds-index c = omega (arith, bounds-index c)
+
+pub bounds-index-in-Svg : goal.bounds-index-in-Svg
+bounds-index-in-Svg c = rw c.index-in-Svg.ensures (index_below c.args.name)
+
+pub offset_bounds-index-in-Svg : goal.offset_bounds-index-in-Svg
+offset_bounds-index-in-Svg c = omega (arith, bounds-index-in-Svg c)
+
+pub bounds-index-in-MathMl : goal.bounds-index-in-MathMl
+bounds-index-in-MathMl c = rw c.index-in-MathMl.ensures (index_below c.args.name)
+
+pub offset_bounds-index-in-MathMl : goal.offset_bounds-index-in-MathMl
+offset_bounds-index-in-MathMl c = omega (arith, bounds-index-in-MathMl c)

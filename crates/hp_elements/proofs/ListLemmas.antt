@@ -1,0 +1,32 @@
+-- What a call that may fail leaves of a list.
+use Rattle.std.proofs.Common.{◌≡◌, ◌≤◌, ℕ, List, [], ◌∷◌, ◌++◌, length, cond, Result, Ok, Err, OnOk, OnErr, is_ok, get_or, ap, sym, ◌∙◌, arith}
+use Rattle.std.specs.List.{insert}
+
+-- the items are other ones at an `Ok`, and the same at an `Err`
+pub kept : {T R E : Type 0} (r : Result R E) (now more old : List T) → now ≡ cond (is_ok r) more old → OnOk r (now ≡ more) × OnErr r (now ≡ old)
+kept (Ok x) now more old e = (e, tt)
+kept (Err x) now more old e = (tt, e)
+
+-- the items where they are an array of one
+pub only : {T : Type 0} {items array : List T} {first : T} → items ≡ array → length array ≡ 1 → first ≡ get_or array 0 first → items ≡ first ∷ []
+only {T} {items} {array} {first} here one stands = here ∙ is_one array first one stands
+  where
+    is_one : (xs : List T) (x : T) → length xs ≡ 1 → x ≡ get_or xs 0 x → xs ≡ x ∷ []
+    is_one [] x one stands = absurd (omega arith)
+    is_one (y ∷ []) x one stands = ap (λ z. z ∷ []) (sym stands)
+    is_one (y ∷ z ∷ zs) x one stands = absurd (omega arith)
+
+-- a list of one item gets others behind it, or one before it or at a place
+pub put_behind : {T R E : Type 0} (r : Result R E) (now items back : List T) (first : T) → OnOk r (now ≡ first ∷ back) → OnErr r (now ≡ first ∷ []) → items ≡ first ∷ []
+    → OnOk r (now ≡ items ++ back) × OnErr r (now ≡ items)
+put_behind r now items back first ok err e = rw e (ok, err)
+
+pub put_before : {T R E : Type 0} (r : Result R E) (now items : List T) (at : ℕ) (first item : T) → OnOk r (now ≡ item ∷ first ∷ []) → OnErr r (now ≡ first ∷ []) → at ≡ 0 → items ≡ first ∷ []
+    → OnOk r (now ≡ insert items at item) × OnErr r (now ≡ items)
+put_before r now items at first item ok err place e = rw (place, e) (ok, err)
+
+pub put_last : {T R E : Type 0} (r : Result R E) (now items : List T) (at : ℕ) (first item : T) → OnOk r (now ≡ first ∷ item ∷ []) → OnErr r (now ≡ first ∷ []) → (at ≡ 0 → ⊥) → at ≤ length items
+    → items ≡ first ∷ [] → OnOk r (now ≡ insert items at item) × OnErr r (now ≡ items)
+put_last r now items at first item ok err some within e =
+    let place : at ≡ 1 = omega (arith, ap length e) in
+    rw (place, e) (ok, err)
