@@ -1,5 +1,5 @@
 -- The facts of a whole tree, once its nodes have other links.
-use Rattle.std.proofs.Common.{◌≡◌, ℕ, ◌+◌, ◌<◌, ◌&&◌, Bool, true, false, length, List, slice_index_or, sym, ap, ◌∙◌, subst, arith, refl}
+use Rattle.std.proofs.Common.{◌≡◌, ℕ, ◌+◌, ◌<◌, ◌&&◌, Bool, true, false, length, List, slice_index_or, vec_len, sym, ap, ◌∙◌, subst, arith, refl}
 use Rattle.std.specs.Vec.{with_items}
 use Rattle.std.proofs.lemmas.List.{with_items_is, length-map, get_or_read}
 use Rattle.std.proofs.lemmas.Bool.{true≢false}
@@ -80,3 +80,10 @@ last_read a id e n leaves t h read next =
     let is : e ≡ slice_index_or a.elements.items id no_element = get_or_read a.elements.items id e h read no_element in
     let at : e.node + 1 ≡ node_of a.elements.items id + 1 = ap (λ x. x.node + 1) is in
     (is, get_or_read a.nodes.items (node_of a.elements.items id + 1) n (t.end_in id h) (subst (λ k. n ≡ slice_index_or a.nodes.items k n) at next) blank)
+
+-- the end of the children of an element that the code has read
+pub end-below : (a : Inside) (s : Seen) (id : ℕ) → IsSound a → seen a ≡ s → id < length s.branches → (e : ElementOf) → e ≡ slice_index_or a.elements.items id e → e.node + 1 < vec_len a.nodes
+end-below a s id sound is h e read =
+    let below : id < length a.elements.items = id-below a s id is h in
+    let own : e ≡ slice_index_or a.elements.items id no_element = get_or_read a.elements.items id e below read no_element in
+    rw (a.nodes.ok.0, own) (sound.tree.end_in id below)

@@ -1,4 +1,4 @@
-use Rattle.std.proofs.Common.{◌≡◌, ◌≢◌, ◌<◌, ◌+◌, ℕ, length, slice_index_or, sym, ap, ◌∙◌, subst}
+use Rattle.std.proofs.Common.{◌≡◌, ◌≢◌, ◌<◌, ◌+◌, ℕ, length, slice_index_or, sym, ap, ◌∙◌, subst, arith}
 use Rattle.std.proofs.lemmas.List.{get_or_read}
 use Rattle.hp_control.specs.Tree.{children_moved}
 use Rattle.hp_arena.specs.Nodes.{links_of, IsRelinked, node_at, blank}
@@ -8,7 +8,7 @@ use Rattle.hp_arena.specs.declared.links.Node.{Node}
 use Rattle.hp_arena.specs.declared.arena.Element.{Element as ElementOf}
 use Rattle.hp_arena.specs.declared.arena.Arena.TheInside.{Inside}
 use Rattle.hp_arena.proofs.Moving.{IsTree-spliced, branches-spliced, branches-no_children}
-use Rattle.hp_arena.proofs.Glue.{IsSound-relinked, branches-relinked, id-below, tree_in, tree_out}
+use Rattle.hp_arena.proofs.Glue.{IsSound-relinked, branches-relinked, id-below, end-below, tree_in, tree_out}
 use Rattle.hp_arena.proofs.arena.Arena.move_children.Goals as goal
 
 -- what the code has read of the two lists
@@ -27,6 +27,30 @@ reads a sound from to hf ht e f n re rf rn =
       target = get_or_read a.elements.items to f ht rf no_element;
       end = get_or_read a.nodes.items (node_of a.elements.items from + 1) n (sound.tree.end_in from hf) (subst (λ k. n ≡ slice_index_or a.nodes.items k n) at rn) blank;
     }
+
+pub index-requires : goal.index-requires
+index-requires c = rw c.self.inside.elements.ok.0 (id-below c.self.inside c.args.self.now c.args.from c.self.view_is c.requires.from_in)
+
+pub index-requires-2 : goal.index-requires-2
+index-requires-2 c = rw c.self.inside.elements.ok.0 (id-below c.self.inside c.args.self.now c.args.to c.self.view_is c.requires.to_in)
+
+pub overflow_add-source : goal.overflow_add-source
+overflow_add-source c = omega (arith, end-below c.self.inside c.args.self.now c.args.from c.self.invariant c.self.view_is c.requires.from_in c.index.result.now c.index.ensures)
+
+pub overflow_add-target : goal.overflow_add-target
+overflow_add-target c = omega (arith, end-below c.self.inside c.args.self.now c.args.to c.self.invariant c.self.view_is c.requires.to_in c.index-2.result.now c.index-2.ensures)
+
+pub index-requires-3 : goal.index-requires-3
+index-requires-3 c = end-below c.self.inside c.args.self.now c.args.from c.self.invariant c.self.view_is c.requires.from_in c.index.result.now c.index.ensures
+
+pub splice-requires-clause-source_in : goal.splice-requires-clause-source_in
+splice-requires-clause-source_in c = omega (arith, end-below c.self.inside c.args.self.now c.args.from c.self.invariant c.self.view_is c.requires.from_in c.index.result.now c.index.ensures)
+
+pub splice-requires-clause-target_in : goal.splice-requires-clause-target_in
+splice-requires-clause-target_in c = omega (arith, end-below c.self.inside c.args.self.now c.args.to c.self.invariant c.self.view_is c.requires.to_in c.index-2.result.now c.index-2.ensures)
+
+pub splice-requires-clause-closed : goal.splice-requires-clause-closed
+splice-requires-clause-closed c = rw c.deref_mut.ensures.value c.self.invariant.tree.closed
 
 pub invariant_of-self : goal.invariant_of-self
 invariant_of-self c =
