@@ -1,5 +1,5 @@
 -- A node that is alone is put before the node that a place leads to.
-use Rattle.std.proofs.Common.{◌≡◌, ◌≢◌, ℕ, ◌+◌, ◌<◌, List, false, ◌==◌, length, map, refl, sym, ap, ◌∙◌, subst, inl, inr}
+use Rattle.std.proofs.Common.{◌≡◌, ◌≢◌, ℕ, ◌+◌, ◌<◌, List, false, ◌==◌, length, map, refl, sym, ap, ◌∙◌, subst, arith, inl, inr}
 use Rattle.std.proofs.lemmas.Bool.{cases_eq, cond-true, cond-false, eq-eqb, ne_eqb}
 use Rattle.hp_control.specs.Tree.{Item, put, put_into, put_before, in_each, has_parent, id_of, leads_into_document}
 use Rattle.hp_control.specs.declared.edit.Place.{Place}
@@ -25,13 +25,16 @@ at-alone nodes elements table above lone = cond-true ((links_of nodes).next (nod
 pub at-table : (nodes : List Node) (elements : List ElementOf) (table above : Ref) → (links_of nodes).next (node_of elements (id_of table)) ≢ node_of elements (id_of table) → at_of nodes elements (Foster table above) ≡ node_of elements (id_of table)
 at-table nodes elements table above away = cond-false ((links_of nodes).next (node_of elements (id_of table)) == node_of elements (id_of table)) _ _ (ne_eqb _ _ away)
 
-pub at-in : (nodes : List Node) (elements : List ElementOf) (leaves : ℕ) → IsTree nodes elements leaves → (place : Place) → IsPlaceIn (length elements) place → at_of nodes elements place < length nodes
-at-in nodes elements leaves t (Into parent) h = t.end_in (id_of parent) h
-at-in nodes elements leaves t (Foster table above) h =
+pub at-among : (nodes : List Node) (elements : List ElementOf) (n : ℕ) → ((id : ℕ) → id < length elements → node_of elements id + 1 < n) → (place : Place) → IsPlaceIn (length elements) place → at_of nodes elements place < n
+at-among nodes elements n below (Into parent) h = below (id_of parent) h
+at-among nodes elements n below (Foster table above) h =
     elim (cases_eq ((links_of nodes).next (node_of elements (id_of table))) (node_of elements (id_of table))) [
-      | inl lone ↦ subst (λ at. at < length nodes) (sym (at-alone nodes elements table above lone)) (t.end_in (id_of above) h.1)
-      | inr away ↦ subst (λ at. at < length nodes) (sym (at-table nodes elements table above away)) (node-below nodes elements leaves t (id_of table) h.0)
+      | inl lone ↦ subst (λ at. at < n) (sym (at-alone nodes elements table above lone)) (below (id_of above) h.1)
+      | inr away ↦ subst (λ at. at < n) (sym (at-table nodes elements table above away)) (omega (arith, below (id_of table) h.0))
     ]
+
+pub at-in : (nodes : List Node) (elements : List ElementOf) (leaves : ℕ) → IsTree nodes elements leaves → (place : Place) → IsPlaceIn (length elements) place → at_of nodes elements place < length nodes
+at-in nodes elements leaves t place h = at-among nodes elements (length nodes) t.end_in place h
 
 -- where nodes are added, a place leads where it led
 pub at-grown : (old new : List Node) (elements : List ElementOf) (leaves : ℕ) → IsGrown old new → IsTree old elements leaves → (place : Place) → IsPlaceIn (length elements) place → at_of new elements place ≡ at_of old elements place

@@ -5,8 +5,8 @@ use Rattle.hp_control.specs.Tree.{put}
 use Rattle.hp_arena.specs.Leaves.{leaf_item, doctype_item, no_doctype}
 use Rattle.hp_arena.specs.Shape.{IsLeafAdded, at_of, branches_of, items_in}
 use Rattle.hp_arena.specs.declared.leaves.Leaf.TheVariants.{Doctype}
-use Rattle.hp_arena.proofs.Added.{IsTree-added, branches-added}
-use Rattle.hp_arena.proofs.Glue.{place-in}
+use Rattle.hp_arena.proofs.Added.{IsTree-added, branches-added, at-below}
+use Rattle.hp_arena.proofs.Glue.{place-in, nodes-in}
 use Rattle.hp_arena.proofs.Items.{leaf_items-push, leaf_items-more}
 use Rattle.hp_arena.proofs.Rooms.{IsSound-leaf}
 use Rattle.hp_arena.proofs.Texts.{doctype-apart}
@@ -40,3 +40,15 @@ returns-clause-branches c =
     ∙ ap (λ x. items_in c.self.inside ++ x ∷ []) own)
     ∙ branches-added c.self.inside c.self.invariant c.args.place place_in c.add_leaf.new.nodes.items (doctype_item c.args.doctype) (λ id. refl) added (doctype-apart _ c.args.doctype.name c.args.doctype.public c.args.doctype.system)
     ∙ ap (λ s. put s.branches (doctype_item c.args.doctype) c.args.place) c.self.view_is)
+
+pub node_at-at-requires-clause-there : goal.node_at-at-requires-clause-there
+node_at-at-requires-clause-there c = rw c.deref-2.ensures.value (place-in c.self.inside c.args.self.now c.args.place c.self.view_is c.requires.there)
+
+pub node_at-at-requires-clause-closed : goal.node_at-at-requires-clause-closed
+node_at-at-requires-clause-closed c = rw (c.deref.ensures.value, c.deref-2.ensures.value) (nodes-in c.self.inside c.self.invariant)
+
+pub add_leaf-requires-clause-at_in : goal.add_leaf-requires-clause-at_in
+add_leaf-requires-clause-at_in c = rw (c.node_at-at.ensures, c.deref.ensures.value, c.deref-2.ensures.value) (at-below c.self.inside c.self.invariant c.args.place (place-in c.self.inside c.args.self.now c.args.place c.self.view_is c.requires.there))
+
+pub add_leaf-requires-clause-closed : goal.add_leaf-requires-clause-closed
+add_leaf-requires-clause-closed c = c.self.invariant.tree.closed

@@ -11,8 +11,9 @@ use Rattle.hp_arena.specs.declared.links.Node.{Node}
 use Rattle.hp_arena.specs.declared.arena.Element.{Element as ElementOf}
 use Rattle.hp_arena.specs.declared.arena.Arena.TheInside.{Inside}
 use Rattle.hp_arena.proofs.Detaching.{IsTree-detached, node-below}
-use Rattle.hp_arena.proofs.Glue.{with_nodes, items_are, IsSound-relinked, branches-relinked, id-below, place-in, tree_in, tree_out}
+use Rattle.hp_arena.proofs.Glue.{with_nodes, items_are, IsSound-relinked, branches-relinked, id-below, end-below, nodes-in, place-in, tree_in, tree_out}
 use Rattle.hp_arena.proofs.Items.{leaves-plain}
+use Rattle.hp_arena.proofs.Places.{at-among}
 use Rattle.hp_arena.proofs.Putting.{IsTree-moved, branches-moved}
 use Rattle.hp_arena.proofs.arena.Arena.put_element.Goals as goal
 
@@ -85,3 +86,19 @@ unlink-requires-clause-closed c = rw c.deref_mut.ensures.value c.self.invariant.
 
 pub node_at-at-requires-clause-there : goal.node_at-at-requires-clause-there
 node_at-at-requires-clause-there c = rw c.deref-2.ensures.value (place-in c.self.inside c.args.self.now c.args.place c.self.view_is c.requires.there)
+
+pub node_at-at-requires-clause-closed : goal.node_at-at-requires-clause-closed
+node_at-at-requires-clause-closed c = rw (c.deref.ensures.len, c.self.inside.nodes.ok.0, c.deref-2.ensures.value) (nodes-in c.self.inside c.self.invariant)
+
+pub put_before-requires-clause-at_in : goal.put_before-requires-clause-at_in
+put_before-requires-clause-at_in c =
+    rw (c.node_at-at.ensures, c.deref-2.ensures.value, c.deref_mut-2.ensures.len, c.self.inside.nodes.ok.0)
+    (at-among c.deref.result.now c.self.inside.elements.items (length c.self.inside.nodes.items) c.self.invariant.tree.end_in c.args.place (place-in c.self.inside c.args.self.now c.args.place c.self.view_is c.requires.there))
+
+pub put_before-requires-clause-node_in : goal.put_before-requires-clause-node_in
+put_before-requires-clause-node_in c = omega (arith, c.deref_mut-2.ensures.len, end-below c.self.inside c.args.self.now c.args.id c.self.invariant c.self.view_is c.requires.id_in c.index.result.now c.index.ensures)
+
+pub put_before-requires-clause-closed : goal.put_before-requires-clause-closed
+put_before-requires-clause-closed c =
+    let out : IsRelinked c.self.inside.nodes.items c.unlink.new.nodes (unlinked (links_of c.self.inside.nodes.items) c.index.result.now.node) = rw c.deref_mut.ensures.value at c.unlink.ensures in
+    rw (c.deref_mut-2.ensures.value, items_are c.self.inside c.unlink.new.nodes out.same) out.closed

@@ -1,17 +1,20 @@
-use Rattle.std.proofs.Common.{◌≡◌, ◌<◌, ℕ, length, slice_index_or, sym, ap, ◌∙◌, subst, arith, refl, false}
+use Rattle.std.proofs.Common.{◌≡◌, ◌<◌, ℕ, List, length, slice_index_or, sym, ap, ◌∙◌, subst, arith, refl, false}
 use Rattle.std.specs.Vec.{with_items}
 use Rattle.std.proofs.lemmas.List.{get_or_read, with_items_is}
 use Rattle.hp_control.specs.Tree as item
 use Rattle.hp_control.specs.Tree.{put}
 use Rattle.hp_control.specs.declared.edit.Place.{Place}
-use Rattle.hp_arena.specs.Leaves.{leaf_items, leaf_at, is_text_leaf, text_of, IsTextAt, IsTextAdded}
+use Rattle.hp_arena.specs.Leaves.{leaf_items, leaf_at, IsLeafIn, is_text_leaf, text_of, IsTextAt, IsTextAdded}
 use Rattle.hp_arena.specs.Nodes.{links_of, kind_of, blank}
-use Rattle.hp_arena.specs.Shape.{IsSound, IsLeafAdded, IsPlaceIn, at_of, branches_of, items_in, is_text}
+use Rattle.hp_arena.specs.Shape.{IsSound, IsAtHome, IsLeafAdded, IsPlaceIn, at_of, branches_of, items_in, is_text}
 use Rattle.hp_arena.specs.declared.links.Node.{Node}
+use Rattle.hp_arena.specs.declared.links.Kind.{Kind}
+use Rattle.hp_arena.specs.declared.links.Kind.TheVariants.{End, Element, Leaf}
+use Rattle.hp_arena.specs.declared.arena.Element.{Element as ElementOf}
 use Rattle.hp_arena.specs.declared.leaves.Leaf.TheVariants.{Run}
 use Rattle.hp_arena.specs.declared.arena.Arena.TheInside.{Inside}
 use Rattle.hp_arena.proofs.Added.{IsTree-added, branches-added, before_item, at-below}
-use Rattle.hp_arena.proofs.Glue.{place-in, tree_in}
+use Rattle.hp_arena.proofs.Glue.{place-in, nodes-in, tree_in}
 use Rattle.hp_arena.proofs.Items.{leaf_items-push, kind-is_text, text-before, leaves-plain}
 use Rattle.hp_arena.proofs.Places.{at-in}
 use Rattle.hp_arena.proofs.Rooms.{IsSound-leaf, IsSound-text}
@@ -24,6 +27,19 @@ before_read : (a : Inside) → IsSound a → (place : Place) → IsPlaceIn (leng
 before_read a sound place h at is n read =
     let read' : n ≡ slice_index_or a.nodes.items (at_of a.nodes.items a.elements.items place) n = subst (λ k. n ≡ slice_index_or a.nodes.items k n) is read in
     ap (λ x. x.prev) (get_or_read a.nodes.items (at_of a.nodes.items a.elements.items place) n (at-in a.nodes.items a.elements.items (length a.leaves.items) sound.tree place h) read' blank)
+
+leaf-in : (elements : List ElementOf) (leaves s : ℕ) (kind : Kind) → IsAtHome elements leaves s kind → IsLeafIn leaves kind
+leaf-in elements leaves s (End id) h = tt
+leaf-in elements leaves s (Element id) h = tt
+leaf-in elements leaves s (Leaf number) h = h
+
+-- and it is one of the nodes
+before_in : (a : Inside) → IsSound a → (place : Place) → IsPlaceIn (length a.elements.items) place → (at : ℕ) → at ≡ at_of a.nodes.items a.elements.items place
+    → (n : Node) → n ≡ slice_index_or a.nodes.items at n → (n.prev < length a.nodes.items) × IsLeafIn (length a.leaves.items) (kind_of a.nodes.items n.prev)
+before_in a sound place h at is n read =
+    let there : (links_of a.nodes.items).prev (at_of a.nodes.items a.elements.items place) < length a.nodes.items =
+    sound.tree.closed.prev _ (at-in a.nodes.items a.elements.items (length a.leaves.items) sound.tree place h) in
+    rw (before_read a sound place h at is n read) (there, leaf-in a.elements.items (length a.leaves.items) _ (kind_of a.nodes.items _) (sound.tree.home _ there))
 
 pub invariant_of-self : goal.invariant_of-self
 invariant_of-self c =
@@ -81,3 +97,33 @@ returns-in-Some-clause-branches c =
     ∙ branches-joined c.self.inside.nodes.items c.self.inside.elements.items (items_in c.self.inside) (tree_in c.self.inside c.self.invariant) c.in-Some.number (text_of (leaf_at c.self.inside.leaves.items c.in-Some.number)) c.args.text (leaves-plain c.self.inside.doctypes.items c.self.inside.leaves.items) c.args.place place_in
     (text-before c.self.inside.doctypes.items c.self.inside.nodes.items c.self.inside.leaves.items _ c.in-Some.number is)
     ∙ ap (λ s. put s.branches (item.Text c.args.text) c.args.place) c.self.view_is
+
+pub node_at-at-requires-clause-there : goal.node_at-at-requires-clause-there
+node_at-at-requires-clause-there c = rw c.deref-2.ensures.value (place-in c.self.inside c.args.self.now c.args.place c.self.view_is c.requires.there)
+
+pub node_at-at-requires-clause-closed : goal.node_at-at-requires-clause-closed
+node_at-at-requires-clause-closed c = rw (c.deref.ensures.value, c.deref-2.ensures.value) (nodes-in c.self.inside c.self.invariant)
+
+pub index-requires : goal.index-requires
+index-requires c = rw (c.node_at-at.ensures, c.deref.ensures.value, c.deref-2.ensures.value) (at-below c.self.inside c.self.invariant c.args.place (place-in c.self.inside c.args.self.now c.args.place c.self.view_is c.requires.there))
+
+pub text_at-requires-clause-node_in : goal.text_at-requires-clause-node_in
+text_at-requires-clause-node_in c = rw c.deref-3.ensures.value (before_in c.self.inside c.self.invariant c.args.place (place-in c.self.inside c.args.self.now c.args.place c.self.view_is c.requires.there) c.node_at-at.result (rw (c.deref.ensures.value, c.deref-2.ensures.value) at c.node_at-at.ensures) c.index.result.now c.index.ensures).0
+
+pub text_at-requires-clause-leaf_in : goal.text_at-requires-clause-leaf_in
+text_at-requires-clause-leaf_in c = rw (c.deref-3.ensures.value, c.deref-4.ensures.value) (before_in c.self.inside c.self.invariant c.args.place (place-in c.self.inside c.args.self.now c.args.place c.self.view_is c.requires.there) c.node_at-at.result (rw (c.deref.ensures.value, c.deref-2.ensures.value) at c.node_at-at.ensures) c.index.result.now c.index.ensures).1
+
+pub add_text-requires-clause-number_in : goal.add_text-requires-clause-number_in
+add_text-requires-clause-number_in c = rw (c.deref_mut.ensures.value, ← c.deref-4.ensures.value) c.in-Some.ensures.number_in
+
+pub add_text-requires-clause-is_text : goal.add_text-requires-clause-is_text
+add_text-requires-clause-is_text c = rw (c.deref_mut.ensures.value, ← c.deref-4.ensures.value) c.in-Some.ensures.text
+
+pub add_text-requires-clause-room : goal.add_text-requires-clause-room
+add_text-requires-clause-room c = rw c.deref_mut.ensures.value (omega (arith, c.self.invariant.room.runs c.in-Some.number, c.self.invariant.room.used))
+
+pub add_text-requires-clause-cell : goal.add_text-requires-clause-cell
+add_text-requires-clause-cell c = c.self.invariant.room.cell
+
+pub add_leaf-requires-clause-closed : goal.add_leaf-requires-clause-closed
+add_leaf-requires-clause-closed c = c.self.invariant.tree.closed
