@@ -82,8 +82,11 @@ last_read a id e n leaves t h read next =
     (is, get_or_read a.nodes.items (node_of a.elements.items id + 1) n (t.end_in id h) (subst (λ k. n ≡ slice_index_or a.nodes.items k n) at next) blank)
 
 -- the end of the children of an element that the code has read
+pub end-in : (a : Inside) → IsSound a → (id : ℕ) → id < length a.elements.items → (e : ElementOf) → e ≡ slice_index_or a.elements.items id e → e.node + 1 < vec_len a.nodes
+end-in a sound id h e read =
+    let own : e ≡ slice_index_or a.elements.items id no_element = get_or_read a.elements.items id e h read no_element in
+    rw (a.nodes.ok.0, own) (sound.tree.end_in id h)
+
+-- the same of an id that the contract sees
 pub end-below : (a : Inside) (s : Seen) (id : ℕ) → IsSound a → seen a ≡ s → id < length s.branches → (e : ElementOf) → e ≡ slice_index_or a.elements.items id e → e.node + 1 < vec_len a.nodes
-end-below a s id sound is h e read =
-    let below : id < length a.elements.items = id-below a s id is h in
-    let own : e ≡ slice_index_or a.elements.items id no_element = get_or_read a.elements.items id e below read no_element in
-    rw (a.nodes.ok.0, own) (sound.tree.end_in id below)
+end-below a s id sound is h e read = end-in a sound id (id-below a s id is h) e read

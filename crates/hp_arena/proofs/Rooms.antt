@@ -1,12 +1,13 @@
 -- The room after an edit.
-use Rattle.std.proofs.Common.{◌≡◌, ◌≢◌, None, ℕ, ◌+◌, ◌-◌, ◌<◌, ◌≤◌, List, [], ◌∷◌, ◌++◌, length, All, arith, ap, subst, sym, ◌∙◌, vec_len, vec_capacity, Vec, Global, slice_index_or, inl, inr}
+use Rattle.std.proofs.Common.{◌≡◌, ◌≢◌, None, ℕ, ◌+◌, ◌-◌, ◌*◌, ◌^◌, ◌<◌, ◌≤◌, List, [], ◌∷◌, ◌++◌, length, All, arith, ap, subst, sym, ◌∙◌, vec_len, vec_capacity, Vec, Global, slice_index_or, inl, inr}
 use Rattle.std.proofs.lemmas.Bool.{cases_lt, cases_eq}
 use Rattle.std.proofs.lemmas.List.{get_or_append_left, get_or_past, length-append}
 use Rattle.std.proofs.Math.Seq.{get_or-append_seam}
 use Rattle.std.specs.Vec.{with_items}
 use Rattle.std.proofs.lemmas.List.{with_items_is}
 use Rattle.hp_arena.specs.Leaves.{IsCell, run_count, leaf_at, no_leaf, IsDoctypeIn, IsTextAdded}
-use Rattle.hp_arena.specs.Shape.{IsSound, IsTree, attribute_count, tag_at, no_element}
+use Rattle.hp_arena.specs.Room.{IsWidened}
+use Rattle.hp_arena.specs.Shape.{IsSound, IsTree, HasRoom, attribute_count, tag_at, no_element}
 use Rattle.hp_arena.specs.declared.arena.Arena.TheInside.{Inside}
 use Rattle.hp_arena.specs.declared.arena.Element.{Element as ElementOf}
 use Rattle.hp_arena.specs.declared.leaves.Leaf.{Leaf as LeafOf}
@@ -120,3 +121,64 @@ IsSound-text a leaves cells number text sound some more enough cell =
         cell = cell;
       };
     }
+
+-- the same tree, in lists that may be wider
+module _ (a b : Inside) (sound : IsSound a) (nodes : IsWidened a.nodes b.nodes) (elements : IsWidened a.elements b.elements) (leaves : IsWidened a.leaves b.leaves) (doctypes : IsWidened a.doctypes b.doctypes)
+    (used : b.used ≡ a.used) (cell : All IsCell b.cells.items) where
+  runs : (number : ℕ) → run_count (leaf_at b.leaves.items number) ≤ b.used
+  runs = rw (leaves.items, used) sound.room.runs
+
+  attributes : (id : ℕ) → attribute_count (tag_at b.elements.items id) ≤ b.used
+  attributes = rw (elements.items, used) sound.room.attributes
+
+  IsSound-same : HasRoom b → IsSound b
+  IsSound-same room = record {
+    document = rw elements.items sound.document;
+    tags = rw elements.items sound.tags;
+    tree = rw (nodes.items, elements.items, leaves.items) sound.tree;
+    doctypes = rw (leaves.items, doctypes.items) sound.doctypes;
+    room = room;
+  }
+
+  -- with the room that was there
+  pub IsSound-wider : b.spare ≡ a.spare → vec_len a.cells ≤ vec_len b.cells → IsSound b
+  IsSound-wider spare more =
+      let room = sound.room in
+      IsSound-same
+      (record {
+        nodes = omega (arith, room.nodes);
+        numbers = omega (arith, room.numbers);
+        elements = omega (arith, room.elements);
+        leaves = omega (arith, room.leaves);
+        doctypes = omega (arith, room.doctypes);
+        ids = omega (arith, room.ids);
+        leaf_numbers = omega (arith, room.leaf_numbers);
+        doctype_numbers = omega (arith, room.doctype_numbers);
+        runs = runs;
+        attributes = attributes;
+        used = omega (arith, room.used);
+        cells = omega (arith, room.cells);
+        cell = cell;
+      })
+
+  -- and with more room
+  pub IsSound-widened : vec_len b.nodes + 2 * b.spare ≤ vec_capacity b.nodes → vec_len b.elements + b.spare ≤ vec_capacity b.elements → vec_len b.leaves + b.spare ≤ vec_capacity b.leaves
+      → vec_len b.doctypes + b.spare ≤ vec_capacity b.doctypes → b.spare ≤ vec_len b.cells → b.spare ≤ 2 ^ 29
+      → vec_len a.nodes ≤ 2 ^ 29 → vec_len a.elements ≤ 2 ^ 29 → vec_len a.leaves ≤ 2 ^ 29 → vec_len a.doctypes ≤ 2 ^ 29 → a.used ≤ 2 ^ 29 → IsSound b
+  IsSound-widened nodes_room elements_room leaves_room doctypes_room cells_room few few_nodes few_elements few_leaves few_doctypes few_used =
+      IsSound-same
+      (record {
+        nodes = nodes_room;
+        numbers = omega arith;
+        elements = elements_room;
+        leaves = leaves_room;
+        doctypes = doctypes_room;
+        ids = omega arith;
+        leaf_numbers = omega arith;
+        doctype_numbers = omega arith;
+        runs = runs;
+        attributes = attributes;
+        used = omega arith;
+        cells = cells_room;
+        cell = cell;
+      })

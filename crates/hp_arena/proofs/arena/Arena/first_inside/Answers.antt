@@ -1,11 +1,20 @@
-use Rattle.std.proofs.Common.{◌≡◌, ◌+◌, length, sym, ap, ◌∙◌, refl, Some, subst}
+use Rattle.std.proofs.Common.{◌≡◌, ◌+◌, length, sym, ap, ◌∙◌, refl, Some, subst, arith}
 use Rattle.hp_arena.specs.Nodes.{links_of}
 use Rattle.hp_arena.specs.Shape.{node_of}
 use Rattle.hp_control.specs.Tree.{IsForest}
 use Rattle.hp_arena.proofs.Parents.{IsForest-seen}
-use Rattle.hp_arena.proofs.Glue.{id-below, last_read}
+use Rattle.hp_arena.proofs.Glue.{id-below, end-below, last_read}
 use Rattle.hp_arena.proofs.Reading.{first-there, none-there, is_at-there}
 use Rattle.hp_arena.proofs.arena.Arena.first_inside.Goals as goal
+
+pub index-requires : goal.index-requires
+index-requires c = rw c.self.inside.elements.ok.0 (id-below c.self.inside c.args.self.now c.args.id c.self.view_is c.requires)
+
+pub overflow_add-end : goal.overflow_add-end
+overflow_add-end c = omega (arith, end-below c.self.inside c.args.self.now c.args.id c.self.invariant c.self.view_is c.requires c.index.result.now c.index.ensures)
+
+pub index-requires-2 : goal.index-requires-2
+index-requires-2 c = end-below c.self.inside c.args.self.now c.args.id c.self.invariant c.self.view_is c.requires c.index.result.now c.index.ensures
 
 pub returns-then-node-end-clause-first : goal.returns-then-node-end-clause-first
 returns-then-node-end-clause-first c =

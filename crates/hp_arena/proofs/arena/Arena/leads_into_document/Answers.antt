@@ -1,4 +1,4 @@
-use Rattle.std.proofs.Common.{◌≡◌, ◌+◌, ◌<◌, ◌==◌, ℕ, true, false, length, slice_index_or, sym, ap, ◌∙◌, subst}
+use Rattle.std.proofs.Common.{◌≡◌, ◌+◌, ◌<◌, ◌==◌, ℕ, true, false, length, slice_index_or, sym, ap, ◌∙◌, subst, arith, refl}
 use Rattle.std.proofs.lemmas.List.{get_or_read}
 use Rattle.std.proofs.lemmas.Bool.{cond-true}
 use Rattle.hp_control.specs.Tree.{leads_into_document, is_place, id_of, stands_in, has_parent}
@@ -14,7 +14,7 @@ use Rattle.hp_arena.specs.declared.links.Node.{Node}
 use Rattle.hp_arena.specs.declared.arena.Element.{Element as ElementOf}
 use Rattle.hp_arena.specs.declared.arena.Arena.TheInside.{Inside}
 use Rattle.hp_arena.proofs.Detaching.{node-below}
-use Rattle.hp_arena.proofs.Glue.{place-in, tree_in}
+use Rattle.hp_arena.proofs.Glue.{place-in, end-in, tree_in}
 use Rattle.hp_arena.proofs.Items.{leaves-plain}
 use Rattle.hp_arena.proofs.Places.{leads-alone, leads-table}
 use Rattle.hp_arena.proofs.arena.Arena.leads_into_document.Goals as goal
@@ -25,10 +25,12 @@ record TableRead (a : Inside) (id : ℕ) (e : ElementOf) (n : Node) : Type 0 whe
   next : n.next ≡ (links_of a.nodes.items).next (node_of a.elements.items id)
   below : node_of a.elements.items id < length a.nodes.items
 
+own-read : (a : Inside) (id other : ℕ) → id < length a.elements.items → other ≡ id → (e : ElementOf) → e ≡ slice_index_or a.elements.items other e → e.node ≡ node_of a.elements.items id
+own-read a id other h same e read = ap (λ x. x.node) (get_or_read a.elements.items id e h (subst (λ k. e ≡ slice_index_or a.elements.items k e) same read) no_element)
+
 table-read : (a : Inside) → IsSound a → (id other : ℕ) → id < length a.elements.items → other ≡ id → (e : ElementOf) (n : Node) → e ≡ slice_index_or a.elements.items other e → n ≡ slice_index_or a.nodes.items e.node n → TableRead a id e n
 table-read a sound id other h same e n re rn =
-    let re' : e ≡ slice_index_or a.elements.items id e = subst (λ k. e ≡ slice_index_or a.elements.items k e) same re in
-    let own : e.node ≡ node_of a.elements.items id = ap (λ x. x.node) (get_or_read a.elements.items id e h re' no_element) in
+    let own : e.node ≡ node_of a.elements.items id = own-read a id other h same e re in
     let below : node_of a.elements.items id < length a.nodes.items = node-below a.nodes.items a.elements.items (length a.leaves.items) sound.tree id h in
     record {
       own = own;
@@ -38,6 +40,24 @@ table-read a sound id other h same e n re rn =
 
 foster-in : (a : Inside) (s : Seen) (place : Place) (table above : Ref) → seen a ≡ s → is_place s.branches place ≡ true → place ≡ Foster table above → id_of table < length a.elements.items
 foster-in a s place table above view there is = (subst (λ p. IsPlaceIn (length a.elements.items) p) is (place-in a s place view there)).0
+
+pub index-requires : goal.index-requires
+index-requires c = rw (c.id_of-in-Foster.ensures, c.self.inside.elements.ok.0) (foster-in c.self.inside c.args.self.now c.args.place c.in-Foster.table c.in-Foster.above c.self.view_is c.requires.there c.in-Foster.is)
+
+pub index-requires-in-Foster : goal.index-requires-in-Foster
+index-requires-in-Foster c =
+    let table_in = foster-in c.self.inside c.args.self.now c.args.place c.in-Foster.table c.in-Foster.above c.self.view_is c.requires.there c.in-Foster.is in
+    rw (c.self.inside.nodes.ok.0, own-read c.self.inside (id_of c.in-Foster.table) c.id_of-in-Foster.result table_in c.id_of-in-Foster.ensures c.index.result.now c.index.ensures)
+    (node-below c.self.inside.nodes.items c.self.inside.elements.items (length c.self.inside.leaves.items) c.self.invariant.tree (id_of c.in-Foster.table) table_in)
+
+pub overflow_add-result : goal.overflow_add-result
+overflow_add-result c = omega (arith, end-in c.self.inside c.self.invariant 0 c.self.invariant.document c.index-in-Foster-2.result.now c.index-in-Foster-2.ensures)
+
+pub returns-in-Into : goal.returns-in-Into
+returns-in-Into c = rw (c.id_of.ensures, c.in-Into.is) refl
+
+pub end_after-requires-clause-closed : goal.end_after-requires-clause-closed
+end_after-requires-clause-closed c = rw c.deref.ensures.value c.self.invariant.tree.closed
 
 pub returns-then-index-node : goal.returns-then-index-node
 returns-then-index-node c =
