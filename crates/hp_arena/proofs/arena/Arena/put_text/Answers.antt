@@ -127,3 +127,15 @@ add_text-requires-clause-cell c = c.self.invariant.room.cell
 
 pub add_leaf-requires-clause-closed : goal.add_leaf-requires-clause-closed
 add_leaf-requires-clause-closed c = c.self.invariant.tree.closed
+
+pub add_text-requires-clause-some : goal.add_text-requires-clause-some
+add_text-requires-clause-some c = omega (arith, c.self.invariant.room.cells, subst (λ s. 0 < s.spare) (sym c.self.view_is) c.requires.room)
+
+pub add_leaf-requires-clause-nodes_room : goal.add_leaf-requires-clause-nodes_room
+add_leaf-requires-clause-nodes_room c = omega (arith, c.self.invariant.room.nodes, subst (λ s. 0 < s.spare) (sym c.self.view_is) c.requires.room)
+
+pub returns-in-Some-clause-spare : goal.returns-in-Some-clause-spare
+returns-in-Some-clause-spare c = omega (arith, c.requires.room, ap (λ s. s.spare) c.self.view_is)
+
+pub returns-in-None-clause-spare : goal.returns-in-None-clause-spare
+returns-in-None-clause-spare c = omega (arith, c.requires.room, ap (λ s. s.spare) c.self.view_is)
