@@ -1,4 +1,4 @@
-use Rattle.std.proofs.Common.{◌++◌, length, ap, ◌∙◌, arith}
+use Rattle.std.proofs.Common.{◌++◌, ap, ◌∙◌, arith}
 use Rattle.std.specs.List.{concat}
 use Rattle.std.proofs.lemmas.List.{append-nil, length-append}
 use Rattle.std.proofs.lemmas.List.Folds.{concat-append}

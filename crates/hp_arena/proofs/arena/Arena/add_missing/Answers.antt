@@ -1,7 +1,15 @@
-use Rattle.std.proofs.Common.{◌<◌, ◌+◌, length, sym, ap, subst}
+use Rattle.std.proofs.Common.{◌<◌, ◌+◌, length, sym, ap, subst, arith}
 use Rattle.hp_arena.proofs.Glue.{id-below}
 use Rattle.hp_arena.proofs.Tagging.{IsSound-retagged, branches-with_missing}
 use Rattle.hp_arena.proofs.arena.Arena.add_missing.Goals as goal
+
+pub retag-requires-clause-id_in : goal.retag-requires-clause-id_in
+retag-requires-clause-id_in c = rw c.deref_mut.ensures.value (id-below c.self.inside c.args.self.now c.args.id c.self.view_is c.requires.id_in)
+
+pub retag-requires-clause-room : goal.retag-requires-clause-room
+retag-requires-clause-room c =
+    rw c.deref_mut.ensures.value
+    (omega (arith, c.self.invariant.room.attributes c.args.id, c.self.invariant.room.used, subst (λ s. length c.args.attributes < s.spare) (sym c.self.view_is) c.requires.room))
 
 pub invariant_of-self : goal.invariant_of-self
 invariant_of-self c =
