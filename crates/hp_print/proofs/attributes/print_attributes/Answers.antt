@@ -16,9 +16,3 @@ returns-then-len-lt2-clause-printed g c =
           let as_they_stand : c.args.attributes.now ≡ in_order c.args.attributes.now = sym (w.is_in_order.ensures (search rules)) in
           prints_as _ _ _ _ _ _ c.print_unsorted.ensures (ap (attribute_lines c.args.depth) as_they_stand)
     ]
-
-pub returns-in-Ok-clause-printed : goal.returns-in-Ok-clause-printed
-returns-in-Ok-clause-printed g c = rw (← c.in-Ok.ensures, ← c.as_slice.ensures.value) c.print_all.ensures
-
-pub returns-clause-printed : goal.returns-clause-printed
-returns-clause-printed g c = rw (← c.place_all.ensures.items, ← c.as_slice-2.ensures.value) c.print_all-2.ensures

@@ -1,15 +1,17 @@
-use Rattle.std.proofs.Common.{◌++◌, length, ap, sym, ◌∙◌, append_assoc, append-nil, arith}
+use Rattle.std.proofs.Common.{◌≡◌, List, [], ◌∷◌, ◌++◌, length, ap, sym, ◌∙◌, append_assoc, append-nil, arith}
 use Rattle.std.proofs.lemmas.List.{map-append}
-use Rattle.hp_print.specs.Shown.{attributes_of}
+use Rattle.hp_elements.specs.declared.tag.Attribute.{Attribute}
+use Rattle.hp_print.specs.Shown.{attribute_of, attributes_of}
+use Rattle.hp_print.specs.declared.attributes.Shown.{Shown}
 use Rattle.hp_print.proofs.attributes.texts_of.Goals as goal
 
-pub loop-attribute-smaller : goal.loop-attribute-smaller
-loop-attribute-smaller c = omega (arith, ap length c.in-Some.ensures.steps)
+-- the texts of one more
+one_more : (shown more : List Shown) (next : Shown) (attribute : Attribute) (left rest all : List Attribute) → more ≡ shown ++ next ∷ [] → attribute_of next ≡ attribute → left ≡ attribute ∷ rest → attributes_of shown ++ left ≡ all → attributes_of more ++ rest ≡ all
+one_more shown more next attribute left rest all grown is steps done =
+    ap (λ l. attributes_of l ++ rest) grown
+    ∙ (ap (λ l. l ++ rest) (map-append attribute_of shown (next ∷ []))
+    ∙ (append_assoc (attributes_of shown) (attribute_of next ∷ []) rest
+    ∙ (ap (λ a. attributes_of shown ++ a ∷ rest) is ∙ (ap (λ l. attributes_of shown ++ l) (sym steps) ∙ done))))
 
 pub loop-attribute-preserved : goal.loop-attribute-preserved
-loop-attribute-preserved c = rw (c.in_ok-push.ensures.items, map-append, append_assoc, c.of.ensures, ← c.in-Some.ensures.steps) c.loop-attribute.invariant
-
-pub returns : goal.returns
-returns c =
-    let shown = attributes_of c.loop-attribute.shown.items in
-    sym (append-nil shown) ∙ (ap (λ rest. shown ++ rest) (sym c.in-None.ensures.steps.0) ∙ c.loop-attribute.invariant)
+loop-attribute-preserved c = one_more c.loop-attribute.shown.items c.push.new.self.items c.of.result c.in-Some.attribute.now c.loop-attribute.attribute-iterator c.next.new.self c.args.attributes.now c.in_ok-push.ensures.items c.of.ensures c.in-Some.ensures.steps c.loop-attribute.invariant
