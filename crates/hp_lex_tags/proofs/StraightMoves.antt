@@ -30,6 +30,9 @@ use Rattle.hp_lex_tags.specs.declared.straight.Way.TheVariants as way
 use Rattle.hp_lex_tags.specs.Straight.{Reading, tagging, tag_of, is_between, ends_part, behind_blanks, Onto, Closes, ClosesStart, Arrives, Continues}
 use Rattle.hp_lex_tags.proofs.NamedSteps.{tags_rows}
 
+pub never : {A : Type 0} → false ≡ true → A
+never h = cc
+
 -- a row that reads again, and one that emits a token and rests
 abbrev pub reread : Machine → Row
 reread m = record { to = m; reads = Again; emits = [] }
@@ -167,7 +170,7 @@ closes_on {names} BeforeAttributeName reading old new h taken =
 closes_on {names} AttributeName reading old new h taken =
     closes_join (rereads AttributeName AfterAttributeName (StartTag (tag_of reading)) (StartTag (tag_of reading)) 62 new.text old (λ last. refl) refl refl refl taken.text)
     (emits_here AfterAttributeName (StartTag (tag_of reading)) 62 old new _ _ (λ last. refl) refl refl taken)
-closes_on {names} _ reading old new h taken = cc
+closes_on {names} _ reading old new h taken = never h
 
 pub slash_on : {names : List Reference} (s : State) (b : NewTag) (old new : Unread) → ends_part s ≡ true → Reads old 47 new → Onto names s (StartTag b) old SelfClosingStartTag (StartTag b) new
 slash_on {names} TagName b old new h taken = consumes TagName SelfClosingStartTag (StartTag b) (StartTag b) 47 old new (λ last. refl) refl refl refl taken
@@ -179,7 +182,7 @@ slash_on {names} BeforeAttributeName b old new h taken =
 slash_on {names} AttributeName b old new h taken =
     onto_join (rereads AttributeName AfterAttributeName (StartTag b) (StartTag b) 47 new.text old (λ last. refl) refl refl refl taken.text)
     (consumes AfterAttributeName SelfClosingStartTag (StartTag b) (StartTag b) 47 old new (λ last. refl) refl refl refl taken)
-slash_on {names} _ b old new h taken = cc
+slash_on {names} _ b old new h taken = never h
 
 -- behind `/`, `>` closes the tag
 pub closes_self : {names : List Reference} (reading : Reading) (old new : Unread) → Reads old 62 new
@@ -199,17 +202,17 @@ blank_no_cr c h = unlike is_blank 13 c refl h
 blank_stays : (s : State) (b : Building) (c : ℕ) → is_between s ≡ true → is_blank c ≡ true → (last : Option (List ℕ)) → row (tagging last s b) (Some c) ≡ stay (tagging last s b)
 blank_stays BeforeAttributeName b c h blank last = rw blank refl
 blank_stays AfterAttributeName b c h blank last = rw blank refl
-blank_stays _ b c h blank last = cc
+blank_stays _ b c h blank last = never h
 
 pub between_row : (s : State) → is_between s ≡ true → IsTrue (has_row s)
 between_row BeforeAttributeName h = refl
 between_row AfterAttributeName h = refl
-between_row _ h = cc
+between_row _ h = never h
 
 pub between_rest : (s : State) → is_between s ≡ true → is_resting s ≡ false
 between_rest BeforeAttributeName h = refl
 between_rest AfterAttributeName h = refl
-between_rest _ h = cc
+between_rest _ h = never h
 
 pub over_blanks : {names : List Reference} (s : State) (b : Building) (run : List ℕ) (old new : Unread) → is_between s ≡ true → ReadsRun is_blank old run new → Onto names s b old s b new
 over_blanks {names} s b run old new h r =
@@ -225,7 +228,7 @@ first_blank {names} AfterAttributeName t c old new h blank taken = consumes Afte
 first_blank {names} AttributeName t c old new h blank taken =
     onto_join (rereads AttributeName AfterAttributeName (StartTag t) (StartTag t) c new.text old (λ last. rw blank refl) refl refl (blank_no_cr c blank) taken.text)
     (consumes AfterAttributeName AfterAttributeName (StartTag t) (StartTag t) c old new (λ last. rw blank refl) refl refl (blank_no_cr c blank) taken)
-first_blank {names} _ t c old new h blank taken = cc
+first_blank {names} _ t c old new h blank taken = never h
 
 behind_between : (s : State) → is_between (behind_blanks s) ≡ true
 behind_between AttributeName = refl
@@ -298,7 +301,7 @@ unquoted_closed {names} reading old mid new k taken = let P : Unread → Type 0 
 pub between_ends : (s : State) → is_between s ≡ true → ends_part s ≡ true
 between_ends BeforeAttributeName h = refl
 between_ends AfterAttributeName h = refl
-between_ends _ h = cc
+between_ends _ h = never h
 
 -- what was told of a way that is known
 pub arrives_as : (names : List Reference) (s : State) (b : Building) (old new : Unread) (reading : Reading) (w v : Way) → w ≡ v → Arrives names s b old reading new w → Arrives names s b old reading new v

@@ -33,7 +33,7 @@ use Rattle.hp_lex_tags.specs.Straight.{Reading, tagging, within, standing_at, ta
 use Rattle.hp_lex_tags.specs.Usual.{ReferenceTaken}
 use Rattle.hp_lex_tags.proofs.ValueReferences.{reference_onto}
 use Rattle.hp_lex_tags.proofs.PlainRows.{double_quoted_plain, single_quoted_plain, unquoted_plain}
-use Rattle.hp_lex_tags.proofs.StraightMoves.{reread, consumed_move, consumes, rereads, onto_join, arrives_join, continues_join, over_run, between_row}
+use Rattle.hp_lex_tags.proofs.StraightMoves.{reread, consumed_move, consumes, rereads, onto_join, arrives_join, continues_join, over_run, between_row, never}
 
 -- a lowered code point is U+0000 only where it was before
 lowered_zero : (c : ℕ) → (c == 0) ≡ false → (lowered c == 0) ≡ false
@@ -244,7 +244,7 @@ unquoted_opened names reading new name old last w b double single h =
 begin_row : (s : State) (m : Machine) (c : ℕ) → is_between s ≡ true → none_of attribute_name_stops c ≡ true → row_of s m (Some c) ≡ again AttributeName (new_attribute m)
 begin_row BeforeAttributeName m c h k = let a = apart attribute_name_stops c k in rw (a.1.0, a.1.1.0, a.1.1.1.0, a.1.1.1.1.1.0, a.1.1.1.1.1.1.0, a.1.1.1.1.1.1.1.0, a.1.1.1.1.1.1.1.1.0) refl
 begin_row AfterAttributeName m c h k = let a = apart attribute_name_stops c k in rw (a.1.0, a.1.1.0, a.1.1.1.0, a.1.1.1.1.1.0, a.1.1.1.1.1.1.0, a.1.1.1.1.1.1.1.0, a.1.1.1.1.1.1.1.1.0) refl
-begin_row _ m c h k = cc
+begin_row _ m c h k = never h
 
 name_read : {names : List Reference} (s : State) (reading folded : Reading) (run name : List ℕ) (old mid : Unread) → is_between s ≡ true → BeginsBy (none_of attribute_name_stops) old.text
     → IsFolded reading folded → ReadsRun (none_of attribute_name_stops) old run mid → name ≡ lowered_text run

@@ -1,5 +1,5 @@
 -- Each row of this part reads a code point for good or goes to a state of a lower rank, and emits code points one by one.
-use Rattle.std.proofs.Common.{ℕ, [], ◌∷◌, Option, None, Some, arith}
+use Rattle.std.proofs.Common.{ℕ, false, [], ◌∷◌, Option, None, Some, arith}
 use Rattle.std.specs.Prelude.{IsTrue, ◌==◌}
 use Rattle.hp_tokens.specs.declared.state.State.{State}
 use Rattle.hp_tokens.specs.declared.state.State.TheVariants.{Data, TagOpen, EndTagOpen, TagName, BeforeAttributeName, AttributeName, AfterAttributeName, BeforeAttributeValue, AttributeValueDoubleQuoted, AttributeValueSingleQuoted, AttributeValueUnquoted, AfterAttributeValueQuoted, SelfClosingStartTag, CharacterReference, NamedCharacterReference, AmbiguousAmpersand, NumericCharacterReference, HexadecimalCharacterReferenceStart, DecimalCharacterReferenceStart, HexadecimalCharacterReference, DecimalCharacterReference, NumericCharacterReferenceEnd}
@@ -13,6 +13,9 @@ use Rattle.hp_names.specs.Numeric.{numeric}
 use Rattle.hp_lex_tags.specs.Letters.{ampersand, number_sign}
 use Rattle.std.specs.Char.{is_ascii_alphanumeric, is_digit}
 use Rattle.hp_lex_tags.specs.Rows.{row, row_of, has_row}
+
+never : {A : Type 0} → IsTrue false → A
+never h = cc
 
 each_fine : (s : State) (m : Machine) (symbol : Option ℕ) → IsTrue (has_row s) → IsFine s symbol (row_of s m symbol)
 each_fine Data m None h = search fine
@@ -63,7 +66,7 @@ each_fine DecimalCharacterReference m (Some c) h = search fine
 each_fine NumericCharacterReferenceEnd m None h = flushing_end-fine (with_buffer (numeric m.value ∷ []) m) (omega arith)
 each_fine NumericCharacterReferenceEnd m (Some c) h =
     flushing-fine (with_buffer (numeric m.value ∷ []) m) (omega arith)
-each_fine _ m symbol h = cc
+each_fine _ m symbol h = never h
 
 pub row_fine : (m : Machine) (symbol : Option ℕ) → IsTrue (has_row m.state) → IsFine m.state symbol (row m symbol)
 row_fine m symbol h = each_fine m.state m symbol h
