@@ -1,4 +1,4 @@
-use Rattle.std.proofs.Common.{ℕ, ◌≡◌, ◌+◌, ◌∷◌, false, ap, ◌∙◌, sym, subst}
+use Rattle.std.proofs.Common.{ℕ, ◌≡◌, ◌+◌, ◌∷◌, false, ap, ◌∙◌, sym, subst, arith, length, length-append}
 use Rattle.std.specs.Prelude.{◌==◌}
 use Rattle.std.specs.Str.{chars}
 use Rattle.hp_names.specs.Numeric.{numeric}
@@ -6,6 +6,9 @@ use Rattle.hp_lex_tags.specs.Decided.{IsReference}
 use Rattle.hp_lex_tags.proofs.UsualReference.{unequal}
 use Rattle.hp_lex_tags.proofs.Decimals.{decimal_reference, decimal_chars}
 use Rattle.hp_lex_tags.proofs.usual_reference.usual_number.Goals as goal
+
+pub overflow_add-result : goal.overflow_add-result
+overflow_add-result c = grind (arith, ap length c.in_ok-value.ensures.spelled, length-append {A = ℕ})
 
 pub returns : goal.returns
 returns c =
