@@ -1,7 +1,16 @@
-use Rattle.std.proofs.Common.{◌∙◌, sym}
+use Rattle.std.proofs.Common.{◌∙◌, sym, false}
 use Rattle.hp_names.specs.Longest.{longest}
-use Rattle.hp_lex_tags.proofs.NamedSteps.{end_goes, decided_held}
+use Rattle.hp_tokens.proofs.Stepping.{end_by_rows}
+use Rattle.hp_lex_tags.specs.Rows.{has_row, row}
+use Rattle.hp_lex_tags.specs.Tags.{tag_rules}
+use Rattle.hp_lex_tags.proofs.NamedSteps.{tags_rows, end_goes, decided_held}
 use Rattle.hp_lex_tags.proofs.named.end.Goals as goal
+
+pub returns-then-is_pair_next-clause-step : goal.returns-then-is_pair_next-clause-step
+returns-then-is_pair_next-clause-step c = λ rested settled. (
+  false,
+  c.drop_line_feed.ensures.dropped _ (end_by_rows (tag_rules c.args.names.now) has_row row (tags_rows c.args.names.now)) c.args.tokens.now rested settled,
+)
 
 pub returns-clause-step : goal.returns-clause-step
 returns-clause-step c = λ rested settled.
