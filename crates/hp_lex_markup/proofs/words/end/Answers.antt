@@ -1,9 +1,28 @@
 use Rattle.std.proofs.Common.{◌∙◌, sym, refl, ap, false}
 use Rattle.hp_tokens.specs.Advancing.{unread}
-use Rattle.hp_tokens.proofs.Stepping.{text_of_some}
+use Rattle.hp_tokens.proofs.Stepping.{text_of_some, end_by_rows}
+use Rattle.hp_lex_markup.specs.Rows.{has_row, row}
+use Rattle.hp_lex_markup.specs.Markup.{markup_rules}
 use Rattle.hp_lex_markup.proofs.Spelled.{word_fits}
-use Rattle.hp_lex_markup.proofs.WordSteps.{no_pair_at, none_read_at_end, past_at_end, past_held}
+use Rattle.hp_lex_markup.proofs.WordSteps.{markup_rows, none_unread, no_pair_at, none_read_at_end, past_at_end, past_held}
 use Rattle.hp_lex_markup.proofs.words.end.Goals as goal
+
+pub end_row-requires-clause-none : goal.end_row-requires-clause-none
+end_row-requires-clause-none c = none_unread _ (sym c.peek.ensures ∙ c.in_default.is)
+
+pub returns-then-is_pair_next-clause-step : goal.returns-then-is_pair_next-clause-step
+returns-then-is_pair_next-clause-step c = λ rested settled.
+    (false, c.drop_line_feed.ensures.dropped _ (end_by_rows markup_rules has_row row markup_rows) c.args.tokens.now rested settled)
+
+pub read_row-requires-clause-next : goal.read_row-requires-clause-next
+read_row-requires-clause-next c = sym c.in-Some.ensures
+
+pub returns-in_default-first_word-clause-step : goal.returns-in_default-first_word-clause-step
+returns-in_default-first_word-clause-step c = λ rested settled.
+    let text = text_of_some (unread c.args.state.now c.args.input.now) (sym c.in-Some.ensures) in
+    let no_lf = no_pair_at c.args.state.now.machine.after_cr (unread c.args.state.now c.args.input.now) (sym c.is_pair_next.ensures ∙ c.if-is_pair_next.false) c.in-Some.c text.0 text.1 in
+    let by_row = none_read_at_end c.args.state.now c.args.input.now c.in-Some.c c.requires.here c.requires.ended no_lf (sym c.first_word.ensures ∙ c.in_default-first_word.is) in
+    (c.in_ok-read_row.field-0, c.in_ok-read_row.ensures.step _ by_row rested settled)
 
 pub read_word-requires : goal.read_word-requires
 read_word-requires c = word_fits c.args.state.now.machine.state c.args.state.now.ahead c.in-Some-first_word.word (sym c.in-Some-first_word.ensures)

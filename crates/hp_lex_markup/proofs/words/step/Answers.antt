@@ -1,9 +1,39 @@
-use Rattle.std.proofs.Common.{◌∙◌, sym, refl, ap}
-use Rattle.hp_tokens.specs.Advancing.{unread}
-use Rattle.hp_tokens.proofs.Stepping.{text_of_some}
+use Rattle.std.proofs.Common.{◌∙◌, ℕ, List, sym, refl, ap}
+use Rattle.hp_tokens.specs.Reading.{first}
+use Rattle.hp_tokens.specs.Moves.{Lexing, move}
+use Rattle.hp_tokens.specs.Advancing.{unread, lexing}
+use Rattle.hp_tokens.proofs.Stepping.{text_of_some, by_rows, nothing_unread}
+use Rattle.hp_lex_markup.specs.Rows.{has_row, row}
+use Rattle.hp_lex_markup.specs.Markup.{markup_rules}
 use Rattle.hp_lex_markup.proofs.Spelled.{word_fits}
-use Rattle.hp_lex_markup.proofs.WordSteps.{no_pair_at, row_there, asked_there, past_there, past_held, stands}
+use Rattle.hp_lex_markup.proofs.WordSteps.{markup_rows, needs_more_there, no_pair_at, row_there, asked_there, past_there, past_held, stands}
 use Rattle.hp_lex_markup.proofs.words.step.Goals as goal
+
+pub returns-in_default-clause-step : goal.returns-in_default-clause-step
+returns-in_default-clause-step c = λ rested settled.
+    (nothing_unread markup_rules (lexing c.args.state.now c.args.input.now rested) (sym c.peek.ensures ∙ c.in_default.is), refl, refl)
+
+pub returns-then-is_pair_next-clause-step : goal.returns-then-is_pair_next-clause-step
+returns-then-is_pair_next-clause-step c = c.drop_line_feed.ensures.dropped _ (by_rows markup_rules has_row row markup_rows) c.args.tokens.now
+
+pub returns-then-not-decided-clause-step : goal.returns-then-not-decided-clause-step
+returns-then-not-decided-clause-step c = λ rested settled.
+    let text = text_of_some (unread c.args.state.now c.args.input.now) (sym c.in-Some.ensures) in
+    let no_lf = no_pair_at c.args.state.now.machine.after_cr (unread c.args.state.now c.args.input.now) (sym c.is_pair_next.ensures ∙ c.if-is_pair_next.false) c.in-Some.c text.0 text.1 in
+    let e = stands c.args.state.now c.args.input.now c.in-Some.c text.0 c.gather.new.state c.gather.new.input rested c.requires.here text.1 no_lf c.in_ok-decided.ensures.same in
+    let undecided = c.in_ok-decided.ensures.undecided c.if-not-decided.true in (
+      ap (λ (l : Lexing). move markup_rules l) (sym e)
+          ∙ needs_more_there c.args.state.now c.args.input.now c.in-Some.c text.0 c.gather.new.state c.gather.new.input rested c.requires.here text.1 no_lf
+          c.in_ok-decided.ensures.same undecided.0 undecided.1,
+      e,
+      refl,
+    )
+
+pub read_row-requires-clause-here : goal.read_row-requires-clause-here
+read_row-requires-clause-here c = rw c.in_ok-decided.ensures.same.machine c.requires.here
+
+pub read_row-requires-clause-next : goal.read_row-requires-clause-next
+read_row-requires-clause-next c = ap (λ (u : List ℕ). first u) c.in_ok-decided.ensures.same.text ∙ sym c.in-Some.ensures
 
 pub returns-in_default-first_word-clause-step : goal.returns-in_default-first_word-clause-step
 returns-in_default-first_word-clause-step c = λ rested settled.
