@@ -8,6 +8,9 @@ use Rattle.hp_tokens.specs.Ranks.{IsFine}
 use Rattle.hp_tokens.proofs.FineRows.{fine}
 use Rattle.hp_lex_markup.specs.Rows.{row, row_of, is_here, reads_word, has_row}
 
+never : {A : Type 0} → IsTrue false → A
+never h = cc
+
 each_fine : (s : State) (m : Machine) (symbol : Option ℕ) → IsTrue (is_here s) → IsFine s symbol (row_of s m symbol)
 each_fine BogusComment m None h = search fine
 each_fine BogusComment m (Some c) h = search fine
@@ -71,7 +74,7 @@ each_fine CdataSectionBracket m None h = search fine
 each_fine CdataSectionBracket m (Some c) h = search fine
 each_fine CdataSectionEnd m None h = search fine
 each_fine CdataSectionEnd m (Some c) h = search fine
-each_fine _ m symbol h = cc
+each_fine _ m symbol h = never h
 
 -- of each state of this part; of those that read by their row alone
 pub here_fine : (m : Machine) (symbol : Option ℕ) → IsTrue (is_here m.state) → IsFine m.state symbol (row m symbol)
