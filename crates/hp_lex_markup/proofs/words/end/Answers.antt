@@ -1,4 +1,4 @@
-use Rattle.std.proofs.Common.{◌∙◌, sym, refl, ap, false}
+use Rattle.std.proofs.Common.{◌∙◌, sym, false}
 use Rattle.hp_tokens.specs.Advancing.{unread}
 use Rattle.hp_tokens.proofs.Stepping.{text_of_some, end_by_rows}
 use Rattle.hp_lex_markup.specs.Rows.{has_row, row}
