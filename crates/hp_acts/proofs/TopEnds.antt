@@ -5,7 +5,7 @@ use Rattle.hp_elements.specs.Names.{known_of, text_of}
 use Rattle.hp_elements.specs.declared.kinds.Kinds.{Kinds}
 use Rattle.hp_elements.specs.declared.kinds.Kinds.TheVariants as kinds
 use Rattle.hp_elements.specs.declared.known.Known.{Known}
-use Rattle.hp_elements.specs.declared.known.Known.TheVariants as known
+use Rattle.hp_elements.specs.KnownNames as known
 use Rattle.hp_elements.specs.declared.sets.SetName.{SetName}
 use Rattle.hp_elements.specs.declared.sets.SetName.TheVariants as set
 use Rattle.hp_control.specs.declared.change.Refusal.{Refusal}

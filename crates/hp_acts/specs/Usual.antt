@@ -10,7 +10,7 @@ use Rattle.hp_elements.specs.declared.act.Scope.TheVariants as scope
 use Rattle.hp_elements.specs.declared.act.Test.TheVariants as test
 use Rattle.hp_elements.specs.declared.act.Which.TheVariants.{Its, Named}
 use Rattle.hp_elements.specs.declared.kinds.Kinds.TheVariants as kinds
-use Rattle.hp_elements.specs.declared.known.Known.TheVariants as known
+use Rattle.hp_elements.specs.KnownNames as known
 use Rattle.hp_elements.specs.declared.sets.SetName.TheVariants as set
 use Rattle.hp_elements.specs.declared.tag.Tag.{Tag}
 use Rattle.hp_elements.specs.declared.token.Mode.{Mode}

@@ -74,7 +74,7 @@ pub(crate) fn carry_out<'p, B: Below>(
         Act::InsertForeign => insert_named_foreign(alloc, view, token, spending, fostering),
         Act::InsertAsCurrent => insert_like_current(alloc, view, token, spending, fostering),
         Act::InsertHtml => insert_html(alloc, view, token, spending),
-        Act::InsertBareHtml => view.insert_into_document(alloc, bare(Known::Html)),
+        Act::InsertBareHtml => view.insert_into_document(alloc, bare(Known::HTML)),
         Act::Comment => put_comment(alloc, view, token, spending, fostering),
         Act::CommentIntoDocument => comment_into_document(alloc, view, token, spending),
         Act::CommentIntoFirst => comment_into_first(alloc, view, token, spending),

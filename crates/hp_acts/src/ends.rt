@@ -54,10 +54,12 @@ fn ends_known(stack: &OpenElements, known: Known, passed: SetName) -> bool
 fn ends_description(stack: &OpenElements, name: &Name) -> bool
     ensures { result ≡ true → EndsDescription name.now stack.now }
 {
-    match name.known() {
-        Some(Known::Dt) => ends_top(stack, name, SetName::ImpliedButDt),
-        Some(Known::Dd) => ends_top(stack, name, SetName::ImpliedButDd),
-        _ => false,
+    if name.is(Known::DT) {
+        ends_top(stack, name, SetName::ImpliedButDt)
+    } else if name.is(Known::DD) {
+        ends_top(stack, name, SetName::ImpliedButDd)
+    } else {
+        false
     }
 }
 
@@ -114,7 +116,7 @@ fn end_block<'p, B: Below>(
 pub(crate) fn close_item<'p, B: Below>(alloc: Global, view: &mut View<'p, B>) -> Result<(), Refusal>
     ensures { Carries result (sight B.heard view.old) (sight B.heard view.new) item_end_plan }
 {
-    if ends_known(&view.change.stack, Known::Li, SetName::ImpliedButLi) {
+    if ends_known(&view.change.stack, Known::LI, SetName::ImpliedButLi) {
         view.pop_own(1);
         return Ok(());
     }
@@ -126,7 +128,7 @@ pub(crate) fn close_item<'p, B: Below>(alloc: Global, view: &mut View<'p, B>) ->
 fn close_item_any<'p, B: Below>(alloc: Global, view: &mut View<'p, B>) -> Result<(), Refusal>
     ensures { Carries result (sight B.heard view.old) (sight B.heard view.new) item_end_plan }
 {
-    let goals = Kinds::Html(Name::of_known(Known::Li));
+    let goals = Kinds::Html(Name::of_known(Known::LI));
     let is_open = view.in_scope(alloc, Scope::ListItem, goals)?;
     end_item(alloc, view, is_open)
 }
@@ -141,8 +143,8 @@ fn end_item<'p, B: Below>(
     ensures { Carries result (sight B.heard view.old) (sight B.heard view.new) (λ v. item_end_by v is_open) }
 {
     if is_open {
-        view.implied_except(alloc, Known::Li)?;
-        view.through_named(alloc, Name::of_known(Known::Li))
+        view.implied_except(alloc, Known::LI)?;
+        view.through_named(alloc, Name::of_known(Known::LI))
     } else {
         Ok(())
     }

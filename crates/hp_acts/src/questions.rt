@@ -2,7 +2,7 @@
 ghost use Rattle.std.specs.Prelude.{◌≡◌, IfOk};
 ghost use Rattle.std.specs.List.{list_any};
 ghost use Rattle.std.specs.Str.{bytes_eq};
-ghost use Rattle.hp_elements.specs.declared.known.Known.TheVariants as known;
+ghost use Rattle.hp_elements.specs.KnownNames as known;
 ghost use Rattle.hp_acts.specs.Hidden.{is_typed_as};
 ghost use Rattle.hp_control.specs.Foreign.{has_font_attribute};
 ghost use Rattle.hp_elements.specs.Names.{lowered, text_of};
@@ -29,7 +29,7 @@ fn is_alike(text: &Text<'_>, other: &Text<'_>) -> bool
 fn is_type(name: &Name) -> bool
     ensures { result ≡ bytes_eq name.now (text_of known.Type_) }
 {
-    name.is(Known::Type_)
+    name.is(Known::TYPE)
 }
 
 /// Whether it is an attribute `type` of that value.

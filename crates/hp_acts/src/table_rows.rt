@@ -78,7 +78,7 @@ fn mark_cell<'p, B: Below>(alloc: Global, view: &mut View<'p, B>) -> Result<(), 
 pub(crate) fn end_row<'p, B: Below>(alloc: Global, view: &mut View<'p, B>) -> Result<(), Refusal>
     ensures { Carries result (sight B.heard view.old) (sight B.heard view.new) row_end_plan }
 {
-    let goals = Kinds::Html(Name::of_known(Known::Tr));
+    let goals = Kinds::Html(Name::of_known(Known::TR));
     let is_open = view.in_scope(alloc, Scope::Table, goals)?;
     end_open_row(alloc, view, is_open)
 }

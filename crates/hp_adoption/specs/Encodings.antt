@@ -4,7 +4,7 @@ use Rattle.std.specs.List.{list_any}
 use Rattle.std.specs.Str.{bytes_eq, chars}
 use Rattle.std.proofs.Common.{ap, ◌∙◌}
 use Rattle.hp_elements.specs.Names.{text_of, lowered}
-use Rattle.hp_elements.specs.declared.known.Known.TheVariants as known
+use Rattle.hp_elements.specs.KnownNames as known
 use Rattle.hp_elements.specs.declared.tag.Attribute.{Attribute}
 use Rattle.hp_control.specs.Acts.{encodes_html}
 

@@ -1,7 +1,7 @@
 -- The start of a link: what that asks of the older state and what it changes of a view (13.2.6.4.7).
 use Rattle.std.specs.Prelude.{ℕ, Bool, true, false, List, Option, Some, slice_get}
 use Rattle.hp_elements.specs.Names.{text_of}
-use Rattle.hp_elements.specs.declared.known.Known.TheVariants as known
+use Rattle.hp_elements.specs.KnownNames as known
 use Rattle.hp_control.specs.declared.element.FormattingEntry.{FormattingEntry}
 use Rattle.hp_control.specs.declared.element.FormattingEntry.TheVariants.{Element}
 use Rattle.hp_control.specs.declared.question.Crossing.TheVariants.{X1}

@@ -50,7 +50,7 @@ fn mathml_point(alloc: Global, tag: &Tag) -> Result<Point, NoMemory>
     if SetName::MathMlTextPoints.has(Namespace::MathMl, &tag.name) {
         return Ok(Point::MathText);
     }
-    if !is_called(&tag.name, Known::AnnotationXml) {
+    if !is_called(&tag.name, Known::ANNOTATION_XML) {
         return Ok(Point::No);
     }
     if encodes_html(alloc, &tag.attributes)? {
@@ -81,7 +81,7 @@ fn any_encodes(attributes: &Chain<Attribute>, html: &Text<'_>, xhtml: &Text<'_>)
 fn encodes(attribute: &Attribute, html: &Text<'_>, xhtml: &Text<'_>) -> bool
     ensures { result ≡ encodes_as html.now xhtml.now attribute.now }
 {
-    is_called(&attribute.name, Known::Encoding)
+    is_called(&attribute.name, Known::ENCODING)
         && (is_alike(&attribute.value, html) || is_alike(&attribute.value, xhtml))
 }
 

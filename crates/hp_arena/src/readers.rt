@@ -59,5 +59,5 @@ pub enum NodeView<'t, 'p> {
 pub fn is_template(tag: &Tag) -> bool
     ensures { result ≡ is_template tag.now }
 {
-    tag.namespace == Namespace::Html && tag.name.is(Known::Template)
+    tag.namespace == Namespace::Html && tag.name.is(Known::TEMPLATE)
 }

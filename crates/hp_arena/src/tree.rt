@@ -240,7 +240,7 @@ fn taken_tag(tag: &mut Tag) -> Tag
 {
     let other = Tag {
         namespace: Namespace::Html,
-        name: Name::of_known(Known::Html),
+        name: Name::of_known(Known::HTML),
         attributes: Chain::new(),
     };
     mem::replace(tag, other)

@@ -41,7 +41,7 @@ impl Case for Named {
 /// Whether a text is the name of a table but for its case.
 fn is_table_in_another_case(rt: &impl Abort, alloc: Global, text: &str) -> bool {
     let name = named(rt, alloc, text);
-    let table = Name::of_known(Known::Table);
+    let table = Name::of_known(Known::TABLE);
     let well = table.same_without_case(&name) && !table.same(&name);
     mem::forget(name);
     mem::forget(table);
@@ -363,10 +363,10 @@ fn doctypes_give_quirks(rt: HostRuntime) {
 type Raw = (Known, Option<Rest>);
 
 const RAW_TEXTS: &[Raw] = &[
-    (Known::Title, Some(Rest::Rcdata)),
-    (Known::Script, Some(Rest::Script)),
-    (Known::Noframes, Some(Rest::Rawtext)),
-    (Known::Div, None),
+    (Known::TITLE, Some(Rest::Rcdata)),
+    (Known::SCRIPT, Some(Rest::Script)),
+    (Known::NOFRAMES, Some(Rest::Rawtext)),
+    (Known::DIV, None),
 ];
 
 impl Case for Raw {
@@ -415,7 +415,7 @@ fn is_copied_token(rt: &impl Abort, alloc: Global, token: &Token<'_>) -> bool {
 fn tags_are_copied(rt: HostRuntime) {
     let mut tag = Tag {
         namespace: Namespace::Svg,
-        name: Name::of_known(Known::Title),
+        name: Name::of_known(Known::TITLE),
         attributes: Chain::new(),
     };
     add(&rt, rt.alloc(), &mut tag, "class", "a");
@@ -433,8 +433,8 @@ fn tags_are_copied(rt: HostRuntime) {
 
 #[test]
 fn lists_are_copied(rt: HostRuntime) {
-    let mut names = List::of_one(Name::of_known(Known::Title));
-    let pushed = names.push(rt.alloc(), Name::of_known(Known::Svg));
+    let mut names = List::of_one(Name::of_known(Known::TITLE));
+    let pushed = names.push(rt.alloc(), Name::of_known(Known::SVG));
     let copy = names.copy(rt.alloc()).expect(&rt, "there is memory");
     let well = pushed.is_ok() && copy.len() == 2;
     mem::forget(names);

@@ -11,7 +11,7 @@ use Rattle.hp_elements.specs.declared.kinds.Kinds.{Kinds}
 use Rattle.hp_elements.specs.declared.kinds.Kinds.TheVariants as kinds
 use Rattle.hp_elements.specs.declared.kinds.Point.{Point}
 use Rattle.hp_elements.specs.declared.kinds.Point.TheVariants as point
-use Rattle.hp_elements.specs.declared.known.Known.TheVariants as known
+use Rattle.hp_elements.specs.KnownNames as known
 use Rattle.hp_elements.specs.declared.sets.Namespace.{Namespace}
 use Rattle.hp_elements.specs.declared.sets.Namespace.TheVariants.{Html, MathMl, Svg}
 use Rattle.hp_elements.specs.declared.sets.SetName.TheVariants as sets

@@ -9,7 +9,9 @@ use Rattle.hp_elements.specs.declared.act.Scope.TheVariants as scope
 use Rattle.hp_elements.specs.declared.kinds.Kinds.{Kinds}
 use Rattle.hp_elements.specs.declared.kinds.Kinds.TheVariants as kinds
 use Rattle.hp_elements.specs.declared.known.Known.{Known}
-use Rattle.hp_elements.specs.declared.known.Known.TheVariants as known
+use Rattle.hp_elements.specs.declared.known.Known.TheVariants as names
+use Rattle.hp_elements.specs.declared.element_name.ElementName.TheVariants as element
+use Rattle.hp_elements.specs.KnownNames as known
 use Rattle.hp_elements.specs.declared.sets.SetName.{SetName}
 use Rattle.hp_elements.specs.declared.sets.SetName.TheVariants as sets
 use Rattle.hp_elements.specs.declared.token.CharClass.{CharClass}
@@ -82,16 +84,16 @@ is_listed name c = is_some (last_named name c.formatting)
 
 -- the implied end tags but that of the name
 abbrev pub implied_but : Known → SetName
-implied_but known.Dd = sets.ImpliedButDd
-implied_but known.Dt = sets.ImpliedButDt
-implied_but known.Li = sets.ImpliedButLi
-implied_but known.Optgroup = sets.ImpliedButOptgroup
-implied_but known.Option = sets.ImpliedButOption
-implied_but known.P = sets.ImpliedButP
-implied_but known.Rb = sets.ImpliedButRb
-implied_but known.Rp = sets.ImpliedButRp
-implied_but known.Rt = sets.ImpliedButRt
-implied_but known.Rtc = sets.ImpliedButRtc
+implied_but (names.Element element.Dd) = sets.ImpliedButDd
+implied_but (names.Element element.Dt) = sets.ImpliedButDt
+implied_but (names.Element element.Li) = sets.ImpliedButLi
+implied_but (names.Element element.Optgroup) = sets.ImpliedButOptgroup
+implied_but (names.Element element.Option) = sets.ImpliedButOption
+implied_but (names.Element element.P) = sets.ImpliedButP
+implied_but (names.Element element.Rb) = sets.ImpliedButRb
+implied_but (names.Element element.Rp) = sets.ImpliedButRp
+implied_but (names.Element element.Rt) = sets.ImpliedButRt
+implied_but (names.Element element.Rtc) = sets.ImpliedButRtc
 implied_but _ = sets.Implied
 
 abbrev pub implied : Act

@@ -9,7 +9,9 @@ use Rattle.hp_elements.specs.declared.kinds.Kinds.TheVariants as kinds
 use Rattle.hp_elements.specs.declared.kinds.Point.{Point}
 use Rattle.hp_elements.specs.declared.kinds.Point.TheVariants as point
 use Rattle.hp_elements.specs.declared.known.Known.{Known}
-use Rattle.hp_elements.specs.declared.known.Known.TheVariants as known
+use Rattle.hp_elements.specs.declared.known.Known.TheVariants as names
+use Rattle.hp_elements.specs.declared.element_name.ElementName.TheVariants as element
+use Rattle.hp_elements.specs.KnownNames as known
 use Rattle.hp_elements.specs.declared.respelling.Respelling.TheVariants.{SvgNames, SvgAttributes, MathMlAttributes}
 use Rattle.hp_elements.specs.declared.sets.Namespace.{Namespace}
 use Rattle.hp_elements.specs.declared.sets.Namespace.TheVariants.{Html, MathMl, Svg}
@@ -27,8 +29,8 @@ use Rattle.hp_control.specs.Walks.{seen}
 
 -- the start tags that are foreign content at a MathML text integration point
 abbrev pub is_glyph : Option Known → Bool
-is_glyph (Some known.Mglyph) = true
-is_glyph (Some known.Malignmark) = true
+is_glyph (Some (names.Element element.Mglyph)) = true
+is_glyph (Some (names.Element element.Malignmark)) = true
 is_glyph _ = false
 
 -- whether the mode's rules are used for the token at an integration point
@@ -40,7 +42,7 @@ enters point.Html (kind.Start name) = true
 enters _ _ = false
 
 abbrev pub is_svg_start : Kind → Bool
-is_svg_start (kind.Start (Some known.Svg)) = true
+is_svg_start (kind.Start (Some (names.Element element.Svg))) = true
 is_svg_start _ = false
 
 abbrev pub is_annotation_in : Namespace → List ℕ → Bool

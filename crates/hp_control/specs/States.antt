@@ -6,7 +6,7 @@ use Rattle.std.specs.List.{list_all}
 use Rattle.hp_elements.specs.Names.{text_of, lowered}
 use Rattle.hp_elements.specs.Kinds.{is_html as is_html_space}
 use Rattle.hp_elements.specs.declared.known.Known.{Known}
-use Rattle.hp_elements.specs.declared.known.Known.TheVariants as known
+use Rattle.hp_elements.specs.KnownNames as known
 use Rattle.hp_elements.specs.declared.sets.Namespace.TheVariants.{Html}
 use Rattle.hp_elements.specs.declared.sets.SetName.TheVariants.{Formatting}
 use Rattle.hp_elements.specs.declared.token.Mode.{Mode}

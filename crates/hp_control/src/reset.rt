@@ -24,8 +24,8 @@ fn last_template_mode(templates: &Stack<Mode>) -> Mode
 fn table_comes(stack: &OpenElements, depth: usize) -> bool
     ensures { result ≡ table_comes (drop depth stack.now) }
 {
-    let table = Kinds::Html(Name::of_known(Known::Table));
-    let template = Kinds::Html(Name::of_known(Known::Template));
+    let table = Kinds::Html(Name::of_known(Known::TABLE));
+    let template = Kinds::Html(Name::of_known(Known::TEMPLATE));
     reach_from(stack, depth, &table, &template).is_some()
 }
 
@@ -52,7 +52,7 @@ fn html_mode(has_head: bool) -> Mode
 fn is_cell(element: &OpenElement) -> bool
     ensures { result ≡ is_cell element.now }
 {
-    is_named(Known::Td, element) || is_named(Known::Th, element)
+    is_named(Known::TD, element) || is_named(Known::TH, element)
 }
 
 /// Whether no element stands at this depth.
@@ -73,19 +73,19 @@ fn mode_at(
     ensures { result ≡ mode_at has_head templates.now element.now (drop below stack.now) }
 {
     let is_last = is_last(stack, below);
-    if is_named(Known::Select, element) {
+    if is_named(Known::SELECT, element) {
         return Some(select_mode(table_comes(stack, below)));
     }
     if is_cell(element) && !is_last {
         return Some(Mode::InCell);
     }
-    if is_named(Known::Template, element) {
+    if is_named(Known::TEMPLATE, element) {
         return Some(last_template_mode(templates));
     }
-    if is_named(Known::Head, element) && !is_last {
+    if is_named(Known::HEAD, element) && !is_last {
         return Some(Mode::InHead);
     }
-    if is_named(Known::Html, element) {
+    if is_named(Known::HTML, element) {
         return Some(html_mode(has_head));
     }
     mode_of(element)
@@ -95,25 +95,25 @@ fn mode_at(
 fn mode_of(element: &OpenElement) -> Option<Mode>
     ensures { result ≡ mode_of element.now }
 {
-    if is_named(Known::Tr, element) {
+    if is_named(Known::TR, element) {
         return Some(Mode::InRow);
     }
     if is_within(&Kinds::Set(SetName::TableSections), element) {
         return Some(Mode::InTableBody);
     }
-    if is_named(Known::Caption, element) {
+    if is_named(Known::CAPTION, element) {
         return Some(Mode::InCaption);
     }
-    if is_named(Known::Colgroup, element) {
+    if is_named(Known::COLGROUP, element) {
         return Some(Mode::InColumnGroup);
     }
-    if is_named(Known::Table, element) {
+    if is_named(Known::TABLE, element) {
         return Some(Mode::InTable);
     }
-    if is_named(Known::Body, element) {
+    if is_named(Known::BODY, element) {
         return Some(Mode::InBody);
     }
-    if is_named(Known::Frameset, element) {
+    if is_named(Known::FRAMESET, element) {
         return Some(Mode::InFrameset);
     }
     None

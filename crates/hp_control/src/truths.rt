@@ -204,7 +204,7 @@ pub(crate) fn second_is_body(stack: &OpenElements, depth: usize) -> bool
     ensures { result ≡ second_is_body (drop depth stack.now) }
 {
     match second_place(stack.len(), depth) {
-        Some(at) => is_named(Known::Body, stack.at(at)),
+        Some(at) => is_named(Known::BODY, stack.at(at)),
         None => false,
     }
 }

@@ -48,7 +48,7 @@ pub fn has_template(stack: &OpenElements, depth: usize) -> bool
     ensures { result ≡ list_any is_template (drop depth stack.now) }
 {
     for at in depth..stack.len() {
-        if is_named(Known::Template, stack.at(at)) {
+        if is_named(Known::TEMPLATE, stack.at(at)) {
             return true;
         }
     }

@@ -3,15 +3,20 @@ use Rattle.std.proofs.Common.{◌≡◌, ◌<◌, ℕ, List, map, length, Bool, 
 use Rattle.std.proofs.lemmas.Bool.{agree_below, agree_below_at}
 use Rattle.std.proofs.lemmas.List.{get_or-map, length-map}
 use Rattle.hp_elements.specs.declared.known.Known.{Known}
-use Rattle.hp_elements.specs.declared.known.Known.TheVariants as k
+use Rattle.hp_elements.specs.declared.known.Known.TheVariants.{Element, Attribute}
+use Rattle.hp_elements.specs.declared.element_name.ElementName.TheVariants as element
+use Rattle.hp_elements.specs.declared.attribute_name.AttributeName.TheVariants as attribute
+use Rattle.hp_elements.specs.KnownNames as k
 use Rattle.hp_elements.specs.Names.{index_of, every, text_of}
 
 pub known_at : (name : Known) → get_or every (index_of name) k.A ≡ name
-known_at k.A = refl
+known_at (Element element.A) = refl
+known_at (Attribute attribute.Actuate) = refl
 known_at _ = refl
 
 pub index_below : (name : Known) → index_of name < 240
-index_below k.A = lit< tt
+index_below (Element element.A) = lit< tt
+index_below (Attribute attribute.Actuate) = lit< tt
 index_below _ = lit< tt
 
 -- whether each name passes the test

@@ -10,7 +10,7 @@ use Rattle.std.proofs.lemmas.Slice.Eq.{bytes_eq-Decides}
 use Rattle.std.proofs.lemmas.Bool.{eqb-true}
 use Rattle.std.proofs.lemmas.Str.{encodes-chars, IsUtf8-from_is_utf8}
 use Rattle.hp_elements.specs.declared.known.Known.{Known}
-use Rattle.hp_elements.specs.declared.known.Known.TheVariants as k
+use Rattle.hp_elements.specs.KnownNames as k
 use Rattle.hp_elements.specs.Names.{text_of, has_text, every, index_of, known_of}
 use lib.Utf8.{encodes, encode}
 use Rattle.hp_elements.specs.Slots.{named_at, slots}

@@ -4,7 +4,7 @@ use Rattle.std.specs.List.{list_all}
 use Rattle.std.proofs.lemmas.List.{get_or-map, get_or_append_left, get_or-append-add}
 use Rattle.std.proofs.lemmas.List.Folds.{list_all_at}
 use Rattle.hp_elements.specs.declared.known.Known.{Known}
-use Rattle.hp_elements.specs.declared.known.Known.TheVariants as k
+use Rattle.hp_elements.specs.KnownNames as k
 use Rattle.hp_elements.specs.declared.token.CharClass.TheVariants.{White, Nul, Other}
 use Rattle.hp_elements.specs.declared.token.Kind.{Kind}
 use Rattle.hp_elements.specs.declared.token.Kind.TheVariants.{Characters, Comment, Doctype, Start, End, EndOfInput}

@@ -7,7 +7,7 @@ use Rattle.std.specs.List.{find, list_all}
 use Rattle.std.specs.Option.{unwrap_or, option_map}
 use Rattle.std.specs.Str.{bytes_eq, chars, IsUtf8}
 use Rattle.hp_elements.specs.declared.known.Known.{Known}
-use Rattle.hp_elements.specs.declared.known.Known.TheVariants as k
+use Rattle.hp_elements.specs.KnownNames as k
 use Rattle.hp_elements.specs.declared.respelling.Respelling.{Respelling}
 use Rattle.hp_elements.specs.declared.respelling.Respelling.TheVariants as r
 use Rattle.hp_elements.specs.declared.tag.AttributeSpace.{AttributeSpace}
@@ -17,7 +17,7 @@ use Rattle.hp_elements.specs.Slots.{named_at, slots}
 use Rattle.hp_elements.proofs.EveryName.{at_every, each_passes}
 use Rattle.hp_elements.proofs.FindLemmas.{lowered_twice}
 use Rattle.hp_elements.proofs.Lowering.{lowered_utf8, lowered_chars}
-use Rattle.hp_elements.proofs.NameLemmas.{bytes_eq-true, at_its_number, known_chars, known_utf8, true_false, known_of_text, some_none}
+use Rattle.hp_elements.proofs.NameLemmas.{bytes_eq-true, at_its_number, known_chars, known_utf8, true_false}
 use Rattle.hp_elements.proofs.SetLemmas.{beq-true, is_text, differs, text_known}
 use Rattle.hp_elements.proofs.TextLemmas.{same_bytes}
 

@@ -1,3 +1,4 @@
+pub mod KnownNames
 pub mod Names
 pub mod Sets
 pub mod SetMasks

@@ -1,7 +1,5 @@
 -- The doctypes that give quirks (13.2.6.4.1), by this profile's list. Identifiers are compared in UTF-8, without ASCII case.
-use Prim.Native.String.{String}
-use Rattle.std.specs.Prelude.{ℕ, List, Bool, true, false, not, ◌&&◌, ◌||◌, Option, None, Some, codes, take, length, map}
-use Rattle.std.specs.List.{list_any}
+use Rattle.std.specs.Prelude.{ℕ, List, Bool, false, not, ◌&&◌, ◌||◌, Option, None, Some, codes, take, length}
 use Rattle.std.specs.Str.{bytes_eq}
 use Rattle.std.specs.Option.{is_some}
 use lib.Utf8.{encodes}

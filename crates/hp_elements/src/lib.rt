@@ -2,8 +2,10 @@
 #![tactic(auto)]
 
 mod act;
+mod attribute_name;
 mod chain;
 mod duplicate;
+mod element_name;
 mod find;
 mod kinds;
 mod known;
@@ -23,8 +25,10 @@ mod text;
 mod token;
 
 pub use act::{Act, Scope, Test, Which};
+pub use attribute_name::AttributeName;
 pub use chain::{Chain, ChainIter};
 pub use duplicate::Duplicate;
+pub use element_name::ElementName;
 pub use kinds::{Kinds, Point};
 pub use known::Known;
 pub use list::{List, ListIntoIter};

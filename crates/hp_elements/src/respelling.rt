@@ -108,19 +108,30 @@ fn lower_of(text: &str) -> Option<Known>
 fn foreign_attribute(name: Known) -> Option<ForeignAttribute>
     ensures { option_map (λ a. (a.space, text_of a.local)) result ≡ foreign_attribute_of (text_of name) }
 {
-    let (space, local) = match name {
-        Known::XlinkActuate => (AttributeSpace::Xlink, Known::Actuate),
-        Known::XlinkArcrole => (AttributeSpace::Xlink, Known::Arcrole),
-        Known::XlinkHref => (AttributeSpace::Xlink, Known::Href),
-        Known::XlinkRole => (AttributeSpace::Xlink, Known::Role),
-        Known::XlinkShow => (AttributeSpace::Xlink, Known::Show),
-        Known::XlinkTitle => (AttributeSpace::Xlink, Known::Title),
-        Known::XlinkType => (AttributeSpace::Xlink, Known::Type_),
-        Known::XmlLang => (AttributeSpace::Xml, Known::Lang),
-        Known::XmlSpace => (AttributeSpace::Xml, Known::Space),
-        Known::Xmlns => (AttributeSpace::Xmlns, Known::Xmlns),
-        Known::XmlnsXlink => (AttributeSpace::Xmlns, Known::Xlink),
-        _ => return None,
+    let (space, local) = if name == Known::XLINK_ACTUATE {
+        (AttributeSpace::Xlink, Known::ACTUATE)
+    } else if name == Known::XLINK_ARCROLE {
+        (AttributeSpace::Xlink, Known::ARCROLE)
+    } else if name == Known::XLINK_HREF {
+        (AttributeSpace::Xlink, Known::HREF)
+    } else if name == Known::XLINK_ROLE {
+        (AttributeSpace::Xlink, Known::ROLE)
+    } else if name == Known::XLINK_SHOW {
+        (AttributeSpace::Xlink, Known::SHOW)
+    } else if name == Known::XLINK_TITLE {
+        (AttributeSpace::Xlink, Known::TITLE)
+    } else if name == Known::XLINK_TYPE {
+        (AttributeSpace::Xlink, Known::TYPE)
+    } else if name == Known::XML_LANG {
+        (AttributeSpace::Xml, Known::LANG)
+    } else if name == Known::XML_SPACE {
+        (AttributeSpace::Xml, Known::SPACE)
+    } else if name == Known::XMLNS {
+        (AttributeSpace::Xmlns, Known::XMLNS)
+    } else if name == Known::XMLNS_XLINK {
+        (AttributeSpace::Xmlns, Known::XLINK)
+    } else {
+        return None;
     };
     Some(ForeignAttribute { space, local })
 }

@@ -132,9 +132,9 @@ ghost use Rattle.hp_foreign.specs.Fonts.{is_font_attribute};
 fn is_font_attribute(attribute: &Attribute) -> bool
     ensures { result ≡ is_font_attribute attribute.now }
 {
-    is_called(&attribute.name, Known::Color)
-        || is_called(&attribute.name, Known::Face)
-        || is_called(&attribute.name, Known::Size)
+    is_called(&attribute.name, Known::COLOR)
+        || is_called(&attribute.name, Known::FACE)
+        || is_called(&attribute.name, Known::SIZE)
 }
 
 fn has_any(attributes: &Chain<Attribute>) -> bool

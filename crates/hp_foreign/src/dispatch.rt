@@ -15,9 +15,8 @@ fn is_glyph(name: Option<Known>) -> bool
     ensures { result ≡ is_glyph name }
 {
     match name {
-        Some(Known::Mglyph) => true,
-        Some(Known::Malignmark) => true,
-        _ => false,
+        Some(known) => known == Known::MGLYPH || known == Known::MALIGNMARK,
+        None => false,
     }
 }
 
@@ -38,7 +37,7 @@ fn is_svg_start(kind: Kind) -> bool
     ensures { result ≡ is_svg_start kind }
 {
     match kind {
-        Kind::Start(Some(Known::Svg)) => true,
+        Kind::Start(Some(known)) => known == Known::SVG,
         _ => false,
     }
 }
@@ -48,7 +47,7 @@ fn is_annotation(element: &OpenElement) -> bool
     ensures { result ≡ is_annotation element.now }
 {
     match element.namespace {
-        Namespace::MathMl => element.name.is(Known::AnnotationXml),
+        Namespace::MathMl => element.name.is(Known::ANNOTATION_XML),
         Namespace::Html | Namespace::Svg => false,
     }
 }

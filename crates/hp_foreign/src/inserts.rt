@@ -28,7 +28,7 @@ fn is_alike(text: &Text<'_>, other: &Text<'_>) -> bool
 fn encodes(attribute: &Attribute, html: &Text<'_>, xhtml: &Text<'_>) -> bool
     ensures { result ≡ encodes_as html.now xhtml.now attribute.now }
 {
-    is_called(&attribute.name, Known::Encoding)
+    is_called(&attribute.name, Known::ENCODING)
         && (is_alike(&attribute.value, html) || is_alike(&attribute.value, xhtml))
 }
 
@@ -55,7 +55,7 @@ fn mathml_point(alloc: Global, tag: &Tag) -> Result<Point, NoMemory>
     if SetName::MathMlTextPoints.has(Namespace::MathMl, &tag.name) {
         return Ok(Point::MathText);
     }
-    if !is_called(&tag.name, Known::AnnotationXml) {
+    if !is_called(&tag.name, Known::ANNOTATION_XML) {
         return Ok(Point::No);
     }
     if encodes_html(alloc, &tag.attributes)? {
@@ -135,7 +135,7 @@ fn insert_in<'p, B: Below>(
 fn opened_namespace(name: &Name) -> Namespace
     ensures { result ≡ opened_namespace name.now }
 {
-    if name.is(Known::Svg) {
+    if name.is(Known::SVG) {
         Namespace::Svg
     } else {
         Namespace::MathMl

@@ -80,7 +80,7 @@ fn tell_next(
         Step::AtCut => return true,
         Step::AskCdata => lexer.answer_cdata(manner.foreign),
         Step::AskLastTag => {
-            let name = Name::of_known(Known::Script);
+            let name = Name::of_known(Known::SCRIPT);
             lexer
                 .answer_last_tag(alloc, &name)
                 .expect(rt, "there is memory");

@@ -8,7 +8,7 @@ use Rattle.std.proofs.lemmas.List.Elements.{All-nil, All-head, All-tail}
 use Rattle.hp_elements.specs.Names.{text_of}
 use Rattle.hp_elements.specs.Sets.{in_set}
 use Rattle.hp_elements.specs.declared.kinds.Kinds.TheVariants as kinds
-use Rattle.hp_elements.specs.declared.known.Known.TheVariants as known
+use Rattle.hp_elements.specs.KnownNames as known
 use Rattle.hp_elements.specs.declared.sets.SetName.TheVariants as sets
 use Rattle.hp_elements.specs.declared.tag.Tag.{Tag}
 use Rattle.hp_control.specs.declared.edit.Child.{Child}

@@ -10,7 +10,9 @@ use Rattle.hp_elements.specs.declared.act.Test.{Test}
 use Rattle.hp_elements.specs.declared.act.Test.TheVariants as test
 use Rattle.hp_elements.specs.declared.act.Which.TheVariants.{Its, Named}
 use Rattle.hp_elements.specs.declared.kinds.Kinds.TheVariants as kinds
-use Rattle.hp_elements.specs.declared.known.Known.TheVariants as known
+use Rattle.hp_elements.specs.declared.known.Known.TheVariants as names
+use Rattle.hp_elements.specs.declared.element_name.ElementName.TheVariants as element
+use Rattle.hp_elements.specs.KnownNames as known
 use Rattle.hp_elements.specs.declared.sets.Namespace.TheVariants.{Html}
 use Rattle.hp_elements.specs.declared.sets.SetName.TheVariants as sets
 use Rattle.hp_elements.specs.declared.token.Kind.{Kind}
@@ -233,7 +235,7 @@ kind_is_template (Start (Some k)) = is_a_template (text_of k)
 kind_is_template _ = false
 
 abbrev pub kind_is_html : Kind → Bool
-kind_is_html (Start (Some known.Html)) = true
+kind_is_html (Start (Some (names.Element element.Html))) = true
 kind_is_html _ = false
 
 abbrev pub is_start : Kind → Bool

@@ -11,7 +11,7 @@ use Rattle.hp_elements.specs.Kinds.{is_html as is_html_space}
 use Rattle.hp_elements.specs.Names.{is_among, text_of}
 use Rattle.hp_elements.specs.Sets.{members}
 use Rattle.hp_elements.specs.declared.kinds.Kinds.TheVariants as kinds
-use Rattle.hp_elements.specs.declared.known.Known.TheVariants as known
+use Rattle.hp_elements.specs.KnownNames as known
 use Rattle.hp_elements.specs.declared.sets.SetName.TheVariants as sets
 use Rattle.hp_elements.specs.declared.tag.Tag.{Tag}
 use Rattle.hp_elements.specs.declared.token.Mode.{Mode}

@@ -16,7 +16,9 @@ use Rattle.hp_elements.specs.declared.act.Act.TheVariants as act
 use Rattle.hp_elements.specs.declared.act.Which.TheVariants.{Its, Named}
 use Rattle.hp_elements.specs.declared.kinds.Kinds.TheVariants as kinds
 use Rattle.hp_elements.specs.declared.known.Known.{Known}
-use Rattle.hp_elements.specs.declared.known.Known.TheVariants as known
+use Rattle.hp_elements.specs.declared.known.Known.TheVariants as names
+use Rattle.hp_elements.specs.declared.element_name.ElementName.TheVariants as element
+use Rattle.hp_elements.specs.KnownNames as known
 use Rattle.hp_elements.specs.declared.sets.Namespace.{Namespace}
 use Rattle.hp_elements.specs.declared.sets.Namespace.TheVariants.{Html, MathMl, Svg}
 use Rattle.hp_elements.specs.declared.sets.SetName.TheVariants as sets
@@ -74,7 +76,7 @@ formatting-told name h = go (known_of name) refl h
     go None e f = absurd (true≢false (sym f))
 
 html_known : (o : Option Known) → kind_is_html (Start o) ≡ true → o ≡ Some known.Html
-html_known (Some known.Html) h = refl
+html_known (Some (names.Element element.Html)) h = refl
 html_known _ h = absurd (true≢false (sym h))
 
 html-told : (name : List ℕ) → kind_is_html (Start (known_of name)) ≡ true → name ≡ text_of known.Html

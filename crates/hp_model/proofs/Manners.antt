@@ -5,7 +5,7 @@ use Rattle.hp_elements.specs.Names.{text_of}
 use Rattle.hp_elements.specs.Rules.{Plan, ends, ◌⨾◌}
 use Rattle.hp_elements.specs.declared.act.Act.TheVariants.{Again, AsFostered, Done, EmptyPending, KeepOriginal, Pop, Switch}
 use Rattle.hp_elements.specs.declared.kinds.Kinds.TheVariants as kinds
-use Rattle.hp_elements.specs.declared.known.Known.TheVariants.{Colgroup}
+use Rattle.hp_elements.specs.KnownNames.{Colgroup}
 use Rattle.hp_elements.specs.declared.sets.SetName.TheVariants.{TableTextParents}
 use Rattle.hp_elements.specs.declared.token.CharClass.{CharClass}
 use Rattle.hp_elements.specs.declared.token.CharClass.TheVariants.{White, Nul, Other}

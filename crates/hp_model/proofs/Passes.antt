@@ -3,7 +3,9 @@ use Rattle.std.specs.Prelude.{ℕ, zero, suc, ◌+◌, nat_lt, Bool, true, false
 use Rattle.hp_elements.specs.Rules.{Plan, ends, ◌⨾◌, when, unless, plan_for}
 use Rattle.hp_elements.specs.declared.act.Act.{Act}
 use Rattle.hp_elements.specs.declared.act.Act.TheVariants as act
-use Rattle.hp_elements.specs.declared.known.Known.TheVariants as known
+use Rattle.hp_elements.specs.declared.known.Known.TheVariants as names
+use Rattle.hp_elements.specs.declared.element_name.ElementName.TheVariants as element
+use Rattle.hp_elements.specs.KnownNames as known
 use Rattle.hp_elements.specs.declared.token.Kind.{Kind}
 use Rattle.hp_elements.specs.declared.token.Kind.TheVariants.{Characters, Start, End}
 use Rattle.hp_elements.specs.declared.token.Mode.{Mode}
@@ -76,13 +78,13 @@ rank_end_of_html mode.AfterBody = fixed 0
 rank_end_of_html mode = beside (distance mode)
 
 abbrev pub rank : Kind → Mode → Rank
-rank (Start (Some known.Td)) = rank_cell
-rank (Start (Some known.Th)) = rank_cell
-rank (Start (Some known.Tr)) = rank_row
-rank (Start (Some known.Col)) = rank_column
-rank (Start (Some known.Img)) = rank_image
+rank (Start (Some (names.Element element.Td))) = rank_cell
+rank (Start (Some (names.Element element.Th))) = rank_cell
+rank (Start (Some (names.Element element.Tr))) = rank_row
+rank (Start (Some (names.Element element.Col))) = rank_column
+rank (Start (Some (names.Element element.Img))) = rank_image
 rank (Characters class) = rank_characters
-rank (End (Some known.Html)) = rank_end_of_html
+rank (End (Some (names.Element element.Html))) = rank_end_of_html
 rank _ = λ mode. beside (distance mode)
 
 abbrev pub is_kept : Count → Bool

@@ -7,7 +7,7 @@ use Rattle.std.specs.Str.{bytes_eq}
 use Rattle.std.proofs.lemmas.Bool.{and_parts, true≢false, eqb-true}
 use Rattle.hp_elements.specs.Names.{text_of, is_among, words}
 use Rattle.hp_elements.specs.Sets.{Elements, in_set, is_member, members, same_namespace}
-use Rattle.hp_elements.specs.declared.known.Known.TheVariants as known
+use Rattle.hp_elements.specs.KnownNames as known
 use Rattle.hp_elements.specs.declared.sets.Namespace.{Namespace}
 use Rattle.hp_elements.specs.declared.sets.SetName.TheVariants.{Formatting}
 use Rattle.hp_elements.specs.declared.tag.Tag.{Tag}

@@ -8,7 +8,7 @@ use Rattle.hp_elements.specs.Sets.{in_set}
 use Rattle.hp_elements.specs.declared.kinds.Kinds.{Kinds}
 use Rattle.hp_elements.specs.declared.kinds.Kinds.TheVariants as kinds
 use Rattle.hp_elements.specs.declared.known.Known.{Known}
-use Rattle.hp_elements.specs.declared.known.Known.TheVariants as known
+use Rattle.hp_elements.specs.KnownNames as known
 use Rattle.hp_elements.specs.declared.act.Scope.TheVariants as scope
 use Rattle.hp_elements.specs.declared.sets.SetName.TheVariants as sets
 use Rattle.hp_elements.specs.declared.tag.Tag.{Tag}

@@ -11,7 +11,9 @@ use Rattle.hp_elements.specs.declared.act.Scope.TheVariants as scope
 use Rattle.hp_elements.specs.declared.kinds.Kinds.{Kinds}
 use Rattle.hp_elements.specs.declared.kinds.Kinds.TheVariants as kinds
 use Rattle.hp_elements.specs.declared.known.Known.{Known}
-use Rattle.hp_elements.specs.declared.known.Known.TheVariants as known
+use Rattle.hp_elements.specs.declared.known.Known.TheVariants as names
+use Rattle.hp_elements.specs.declared.element_name.ElementName.TheVariants as element
+use Rattle.hp_elements.specs.KnownNames as known
 use Rattle.hp_elements.specs.declared.sets.SetName.TheVariants as sets
 use Rattle.hp_control.specs.declared.element.OpenElement.{OpenElement}
 use Rattle.hp_control.specs.Acts.{above, pop_by, pop_run, pop_to, popped_by, through, through_named, walk, with_it}
@@ -78,16 +80,16 @@ implied-strong s c r = run-strong s (kinds.Set sets.Implied) c r (apart-set key_
 
 -- the implied end tags but one
 pub but-apart : (k : Known) (e : OpenElement) → within (kinds.Set (implied_but k)) e ≡ true → named_in key_names e ≡ false
-but-apart known.Dd e h = apart-set key_names (members sets.ImpliedButDd) refl e h
-but-apart known.Dt e h = apart-set key_names (members sets.ImpliedButDt) refl e h
-but-apart known.Li e h = apart-set key_names (members sets.ImpliedButLi) refl e h
-but-apart known.Optgroup e h = apart-set key_names (members sets.ImpliedButOptgroup) refl e h
-but-apart known.Option e h = apart-set key_names (members sets.ImpliedButOption) refl e h
-but-apart known.P e h = apart-set key_names (members sets.ImpliedButP) refl e h
-but-apart known.Rb e h = apart-set key_names (members sets.ImpliedButRb) refl e h
-but-apart known.Rp e h = apart-set key_names (members sets.ImpliedButRp) refl e h
-but-apart known.Rt e h = apart-set key_names (members sets.ImpliedButRt) refl e h
-but-apart known.Rtc e h = apart-set key_names (members sets.ImpliedButRtc) refl e h
+but-apart (names.Element element.Dd) e h = apart-set key_names (members sets.ImpliedButDd) refl e h
+but-apart (names.Element element.Dt) e h = apart-set key_names (members sets.ImpliedButDt) refl e h
+but-apart (names.Element element.Li) e h = apart-set key_names (members sets.ImpliedButLi) refl e h
+but-apart (names.Element element.Optgroup) e h = apart-set key_names (members sets.ImpliedButOptgroup) refl e h
+but-apart (names.Element element.Option) e h = apart-set key_names (members sets.ImpliedButOption) refl e h
+but-apart (names.Element element.P) e h = apart-set key_names (members sets.ImpliedButP) refl e h
+but-apart (names.Element element.Rb) e h = apart-set key_names (members sets.ImpliedButRb) refl e h
+but-apart (names.Element element.Rp) e h = apart-set key_names (members sets.ImpliedButRp) refl e h
+but-apart (names.Element element.Rt) e h = apart-set key_names (members sets.ImpliedButRt) refl e h
+but-apart (names.Element element.Rtc) e h = apart-set key_names (members sets.ImpliedButRtc) refl e h
 but-apart _ e h = apart-set key_names (members sets.Implied) refl e h
 
 pub except-strong : (s : ControlState) (k : Known) (c : ControlState) → is_rooted c.stack ≡ true → Leaves (Strong s c.stack) (implied_except k) c

@@ -14,7 +14,7 @@ use Rattle.hp_elements.specs.declared.act.Which.{Which}
 use Rattle.hp_elements.specs.declared.kinds.Kinds.{Kinds}
 use Rattle.hp_elements.specs.declared.kinds.Kinds.TheVariants as kinds
 use Rattle.hp_elements.specs.declared.known.Known.{Known}
-use Rattle.hp_elements.specs.declared.known.Known.TheVariants as known
+use Rattle.hp_elements.specs.KnownNames as known
 use Rattle.hp_elements.specs.Kinds.{is_html as is_html_space}
 use Rattle.hp_elements.specs.declared.sets.Namespace.{Namespace}
 use Rattle.hp_elements.specs.declared.sets.Namespace.TheVariants.{Html, MathMl, Svg}

@@ -17,7 +17,9 @@ use Rattle.hp_elements.specs.declared.act.Test.TheVariants as test
 use Rattle.hp_elements.specs.declared.act.Which.{Which}
 use Rattle.hp_elements.specs.declared.kinds.Kinds.{Kinds}
 use Rattle.hp_elements.specs.declared.kinds.Kinds.TheVariants as kinds
-use Rattle.hp_elements.specs.declared.known.Known.TheVariants as known
+use Rattle.hp_elements.specs.declared.known.Known.TheVariants as names
+use Rattle.hp_elements.specs.declared.element_name.ElementName.TheVariants as element
+use Rattle.hp_elements.specs.KnownNames as known
 use Rattle.hp_elements.specs.declared.sets.SetName.TheVariants as sets
 use Rattle.hp_elements.specs.declared.token.Kind.{Kind}
 use Rattle.hp_elements.specs.declared.token.Token.{Token}
@@ -226,7 +228,7 @@ assume_on s t (test.CurrentIsIn sets.Headings) w c r on h = with_top (plainer w.
 assume_on s t _ w c r on h = on
 
 pub deny_on : (s : ControlState) (t : Token) (x : Test) (w : Track) (c : ControlState) → is_rooted c.stack ≡ true → On w s c → holds t x c ≡ false → On (track_deny x w) s c
-deny_on s t (test.CurrentIs known.Html) w c r on h = with_top (highly w.top) w s c on (high_still s w.top c.stack (not_root c.stack r h) on.top)
+deny_on s t (test.CurrentIs (names.Element element.Html)) w c r on h = with_top (highly w.top) w s c on (high_still s w.top c.stack (not_root c.stack r h) on.top)
 deny_on s t _ w c r on h = on
 
 pub test_told : (s : ControlState) (x : Test) (c : ControlState) → can_test x ≡ true → is_test_told s x c ≡ true

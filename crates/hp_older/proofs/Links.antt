@@ -9,7 +9,7 @@ use Rattle.hp_elements.specs.Names.{is_among, text_of, words}
 use Rattle.hp_elements.specs.Sets.{members}
 use Rattle.hp_elements.specs.declared.act.Scope.TheVariants as scope
 use Rattle.hp_elements.specs.declared.kinds.Kinds.TheVariants as kinds
-use Rattle.hp_elements.specs.declared.known.Known.TheVariants as known
+use Rattle.hp_elements.specs.KnownNames as known
 use Rattle.hp_elements.specs.declared.sets.Namespace.{Namespace}
 use Rattle.hp_elements.specs.declared.sets.SetName.TheVariants as sets
 use Rattle.hp_elements.specs.declared.tag.Tag.{Tag}

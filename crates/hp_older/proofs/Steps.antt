@@ -10,7 +10,9 @@ use Rattle.hp_elements.specs.declared.act.Scope.{Scope}
 use Rattle.hp_elements.specs.declared.act.Scope.TheVariants as scope
 use Rattle.hp_elements.specs.declared.act.Test.{Test}
 use Rattle.hp_elements.specs.declared.act.Test.TheVariants as test
-use Rattle.hp_elements.specs.declared.known.Known.TheVariants as known
+use Rattle.hp_elements.specs.declared.known.Known.TheVariants as names
+use Rattle.hp_elements.specs.declared.element_name.ElementName.TheVariants as element
+use Rattle.hp_elements.specs.KnownNames as known
 use Rattle.hp_elements.specs.declared.sets.Namespace.TheVariants.{Html}
 use Rattle.hp_elements.specs.declared.sets.SetName.{SetName}
 use Rattle.hp_elements.specs.declared.sets.SetName.TheVariants as sets
@@ -199,7 +201,7 @@ highly unknown = high
 highly top = top
 
 abbrev pub track_deny : Test → Track → Track
-track_deny (test.CurrentIs known.Html) w = record w { top = highly w.top }
+track_deny (test.CurrentIs (names.Element element.Html)) w = record w { top = highly w.top }
 track_deny _ w = w
 
 -- whether a new template mode is there is asked at the end of input alone

@@ -7,7 +7,7 @@ use Rattle.std.proofs.lemmas.Bool.{and_parts, and_from, true≢false, lt-leb}
 use Rattle.std.proofs.lemmas.List.Elements.{All-drop}
 use Rattle.hp_elements.specs.Names.{is_among, text_of, words}
 use Rattle.hp_elements.specs.declared.kinds.Kinds.TheVariants as kinds
-use Rattle.hp_elements.specs.declared.known.Known.TheVariants as known
+use Rattle.hp_elements.specs.KnownNames as known
 use Rattle.hp_elements.proofs.FindLemmas.{equal_bytes}
 use Rattle.hp_control.specs.declared.element.OpenElement.{OpenElement}
 use Rattle.hp_control.specs.Acts.{pop_by, through_named, with_it}

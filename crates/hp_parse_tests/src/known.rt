@@ -10,13 +10,13 @@ use std::process::Abort;
 
 /// How the head and the body of a page are opened.
 static OPENING: &[Step] = &[
-    Does(Known::Html, Act::PutDoctype),
-    Does(Known::Html, Act::QuirksOfDoctype),
-    Does(Known::Html, Act::InsertBareHtml),
-    Does(Known::Head, Act::Insert),
-    Does(Known::Head, Act::HeadPointer),
-    Does(Known::Head, Act::Pop),
-    Does(Known::Body, Act::Insert),
+    Does(Known::HTML, Act::PutDoctype),
+    Does(Known::HTML, Act::QuirksOfDoctype),
+    Does(Known::HTML, Act::InsertBareHtml),
+    Does(Known::HEAD, Act::Insert),
+    Does(Known::HEAD, Act::HeadPointer),
+    Does(Known::HEAD, Act::Pop),
+    Does(Known::BODY, Act::Insert),
 ];
 
 /// Steps after that, and how many elements are open then and how many edits there are.
@@ -29,16 +29,16 @@ struct Case {
 static CASES: &[Case] = &[
     Case {
         steps: &[
-            Holds(Known::Body, Test::SecondIsBody),
-            Does(Known::Body, Act::AddMissingToBody),
-            Does(Known::Html, Act::AddMissingToFirst),
-            Does(Known::Html, Act::Quirks),
-            Holds(Known::Html, Test::IsQuirks),
-            Does(Known::Frameset, Act::DetachBody),
-            Does(Known::Frameset, Act::PopToFirst),
-            Does(Known::Title, Act::PushHead),
-            Does(Known::Title, Act::InsertHtml),
-            Does(Known::Title, Act::TakeHeadOff),
+            Holds(Known::BODY, Test::SecondIsBody),
+            Does(Known::BODY, Act::AddMissingToBody),
+            Does(Known::HTML, Act::AddMissingToFirst),
+            Does(Known::HTML, Act::Quirks),
+            Holds(Known::HTML, Test::IsQuirks),
+            Does(Known::FRAMESET, Act::DetachBody),
+            Does(Known::FRAMESET, Act::PopToFirst),
+            Does(Known::TITLE, Act::PushHead),
+            Does(Known::TITLE, Act::InsertHtml),
+            Does(Known::TITLE, Act::TakeHeadOff),
         ],
         open: 2,
         edits: 12,
@@ -62,9 +62,9 @@ static CASES: &[Case] = &[
             Does(Known::I, Act::AppendToList),
             Does(Known::I, Act::Pop),
             Does(Known::I, Act::Reconstruct),
-            Does(Known::Form, Act::FormPointer),
+            Does(Known::FORM, Act::FormPointer),
             EmptiesForm,
-            Fails(Known::Form, Test::HasForm),
+            Fails(Known::FORM, Test::HasForm),
         ],
         open: 4,
         edits: 19,

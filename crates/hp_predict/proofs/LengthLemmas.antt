@@ -8,7 +8,7 @@ use Rattle.hp_predict.specs.Tags.{SeenTag, tags, tag_at, counts, counted_tags}
 use Rattle.hp_predict.specs.OpenNames.{Names, is_name, is_cell, is_in_table, is_in_section, with_section, with_row, implied, opened, below, is_unmatched, after_tag, after, unmatched}
 use Rattle.hp_predict.specs.Guess.{from_start, continues, last_part, with_ends, names_for}
 use Rattle.hp_elements.specs.Names.{text_of}
-use Rattle.hp_elements.specs.declared.known.Known.TheVariants as known
+use Rattle.hp_elements.specs.KnownNames as known
 
 pub few_tags : (inside : Bool) (text : List ℕ) → length (tags inside text) ≤ length text
 unfolding tags

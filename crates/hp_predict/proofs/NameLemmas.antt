@@ -5,7 +5,7 @@ use Rattle.std.specs.Str.{bytes_eq}
 use Rattle.hp_elements.specs.Names.{text_of, known_of, words, is_among}
 use Rattle.hp_elements.specs.RawText.{raw_text_of}
 use Rattle.hp_elements.specs.declared.known.Known.{Known}
-use Rattle.hp_elements.specs.declared.known.Known.TheVariants as k
+use Rattle.hp_elements.specs.KnownNames as k
 use Rattle.hp_elements.specs.declared.sets.Namespace.TheVariants.{Html}
 use Rattle.hp_elements.specs.declared.sets.SetName.TheVariants.{Void}
 use Rattle.hp_elements.proofs.NameLemmas.{known_of_text, some_none}

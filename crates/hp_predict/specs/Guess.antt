@@ -6,7 +6,7 @@ use Rattle.hp_elements.specs.Names.{text_of}
 use Rattle.hp_elements.specs.RawText.{raw_text_of}
 use Rattle.hp_elements.specs.Sets.{in_set}
 use Rattle.hp_elements.specs.declared.kinds.Point.TheVariants as point
-use Rattle.hp_elements.specs.declared.known.Known.TheVariants as known
+use Rattle.hp_elements.specs.KnownNames as known
 use Rattle.hp_elements.specs.declared.sets.Namespace.TheVariants.{Html}
 use Rattle.hp_elements.specs.declared.sets.SetName.TheVariants.{Formatting, Markers}
 use Rattle.hp_elements.specs.declared.token.Mode.{Mode}

@@ -132,10 +132,7 @@ fn known_counts(known: Known) -> bool
     if is_in(SetName::Void, Namespace::Html, known) {
         return false;
     }
-    match known {
-        Known::Html | Known::Head | Known::Body => false,
-        _ => true,
-    }
+    !(known == Known::HTML || known == Known::HEAD || known == Known::BODY)
 }
 
 /// Whether it is that known name.

@@ -26,7 +26,7 @@ fn is_in_table(names: &Stack<TagName<'_>>) -> bool
     if names.len() == 0 {
         false
     } else {
-        names.at(0).is(Known::Table)
+        names.at(0).is(Known::TABLE)
     }
 }
 
@@ -46,7 +46,7 @@ fn open_section(alloc: Global, names: &mut Stack<TagName<'_>>) -> Result<(), NoM
     ensures { OnOk result (names.new ≡ with_section names.old) }
 {
     if is_in_table(names) {
-        names.add(alloc, TagName::of_known(Known::Tbody))
+        names.add(alloc, TagName::of_known(Known::TBODY))
     } else {
         Ok(())
     }
@@ -57,7 +57,7 @@ fn open_row(alloc: Global, names: &mut Stack<TagName<'_>>) -> Result<(), NoMemor
     ensures { OnOk result (names.new ≡ with_row names.old) }
 {
     if is_in_section(names) {
-        names.add(alloc, TagName::of_known(Known::Tr))
+        names.add(alloc, TagName::of_known(Known::TR))
     } else {
         Ok(())
     }
@@ -71,7 +71,7 @@ fn open_implied(
 ) -> Result<(), NoMemory>
     ensures { OnOk result (names.new ≡ implied name.now names.old) }
 {
-    if name.is(Known::Tr) {
+    if name.is(Known::TR) {
         open_section(alloc, names)
     } else if name.is_in(SetName::Cells) {
         open_section(alloc, names)?;

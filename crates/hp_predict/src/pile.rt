@@ -1,7 +1,7 @@
 //! The elements of guessed names, piled up from the first one.
 ghost use Rattle.std.specs.Prelude.{◌≡◌, ◌+◌, ◌<◌, ◌≤◌, ◌^◌, Some, None, [], ◌∷◌, ◌++◌, length, drop, OnOk, if◌then◌else◌};
 ghost use Rattle.hp_elements.specs.Names.{text_of};
-ghost use Rattle.hp_elements.specs.declared.known.Known.TheVariants as knowns;
+ghost use Rattle.hp_elements.specs.KnownNames as knowns;
 ghost use Rattle.hp_elements.specs.declared.token.Mode.TheVariants as modes;
 ghost use Rattle.hp_predict.specs.OpenNames.{Names, is_name};
 ghost use Rattle.hp_predict.specs.Guess.{entry, first_of, with_ends};
@@ -48,7 +48,7 @@ fn put_entry(
 fn put_mode(alloc: Global, templates: &mut Stack<Mode>, name: &TagName<'_>) -> Result<(), NoMemory>
     ensures { OnOk result (templates.new ≡ (if is_name knowns.Template name.now then modes.InTemplate ∷ templates.old else templates.old)) }
 {
-    if name.is(Known::Template) {
+    if name.is(Known::TEMPLATE) {
         templates.add(alloc, Mode::InTemplate)
     } else {
         Ok(())
@@ -59,7 +59,7 @@ fn put_mode(alloc: Global, templates: &mut Stack<Mode>, name: &TagName<'_>) -> R
 fn form_at(id: u64, name: &TagName<'_>) -> Option<u64>
     ensures { result ≡ (if is_name knowns.Form name.now then Some id else None) }
 {
-    if name.is(Known::Form) { Some(id) } else { None }
+    if name.is(Known::FORM) { Some(id) } else { None }
 }
 
 /// The first form of a pile, which one more element may be.
@@ -140,8 +140,8 @@ fn put_page(alloc: Global, pile: &mut Pile) -> Result<(), NoMemory>
     ensures of { IsOf [] pile.old → OnOk result (IsOf (text_of knowns.Body ∷ text_of knowns.Html ∷ []) pile.new) }
     ensures count { OnOk result (length pile.new.stack ≡ length pile.old.stack + 2) }
 {
-    pile.put(alloc, &TagName::of_known(Known::Html))?;
-    pile.put(alloc, &TagName::of_known(Known::Body))
+    pile.put(alloc, &TagName::of_known(Known::HTML))?;
+    pile.put(alloc, &TagName::of_known(Known::BODY))
 }
 
 /// Piles up end tags, the last one first.

@@ -4,7 +4,7 @@ ghost use Rattle.std.specs.Option.{unwrap_or};
 ghost use Rattle.hp_text.specs.Page.{text_of as text_of_page};
 ghost use Rattle.hp_elements.specs.Names.{text_of};
 ghost use Rattle.hp_elements.specs.RawText.{raw_text_of};
-ghost use Rattle.hp_elements.specs.declared.known.Known.TheVariants as knowns;
+ghost use Rattle.hp_elements.specs.KnownNames as knowns;
 ghost use Rattle.hp_elements.specs.declared.token.Mode.TheVariants as modes;
 ghost use Rattle.hp_elements.specs.declared.token.Rest.TheVariants as rests;
 ghost use Rattle.hp_control.specs.Truth.{answer_of};
@@ -69,7 +69,7 @@ fn raw_text(name: &Name) -> Option<Rest>
 fn is_text(name: &Name) -> bool
     ensures { result ≡ spec_is_text name.now }
 {
-    raw_text(name).is_some() && !has_name(name, Known::Plaintext)
+    raw_text(name).is_some() && !has_name(name, Known::PLAINTEXT)
 }
 
 fn rest_for(name: &Name) -> Rest

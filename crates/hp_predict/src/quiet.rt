@@ -64,7 +64,7 @@ fn has_body(goals: &Kinds) -> bool
     ensures { result ≡ spec_has_body goals.now }
 {
     match goals {
-        Kinds::Html(name) => has_name(name, Known::Body),
+        Kinds::Html(name) => has_name(name, Known::BODY),
         _ => has_all_html(goals),
     }
 }
@@ -114,7 +114,7 @@ fn quiet_answer(alloc: Global, question: &Question) -> Result<Answer, NoMemory>
         }),
         Question::Elem { .. } => Ok(Answer::Element {
             namespace: Namespace::Html,
-            name: Name::of_known(Known::Div),
+            name: Name::of_known(Known::DIV),
             point: Point::No,
         }),
         Question::Seen { goals, .. } => Ok(yes_or_no(has_body(goals))),

@@ -4,7 +4,7 @@ use Rattle.hp_elements.specs.declared.act.Act.TheVariants.{AddMissingToBody, Add
 use Rattle.hp_elements.specs.declared.act.Scope.TheVariants.{Button, Default, ListItem}
 use Rattle.hp_elements.specs.declared.act.Test.TheVariants.{CurrentIs, CurrentIsIn, FramesetOk, HasForm, HasTemplateModes, InScope, InTableModes, IsQuirks, OneInScope, SecondIsBody, TemplateInStack, TypeIsHidden}
 use Rattle.hp_elements.specs.declared.act.Which.TheVariants.{Its, Named}
-use Rattle.hp_elements.specs.declared.known.Known.TheVariants as name
+use Rattle.hp_elements.specs.KnownNames as name
 use Rattle.hp_elements.specs.declared.sets.SetName.TheVariants.{Headings}
 use Rattle.hp_elements.specs.declared.token.Mode.TheVariants.{AfterBody, InFrameset, InHead, InSelect, InSelectInTable, InTable, InTemplate, Text}
 use Rattle.hp_elements.specs.declared.token.Rest.TheVariants as rest

@@ -63,14 +63,14 @@ pub fn acts_numbered(row: u16) -> &'static [Act]
         ],
         10 => &[
             If {
-                test: Test::InScope(Scope::Default, Which::Named(Known::Body)),
+                test: Test::InScope(Scope::Default, Which::Named(Known::BODY)),
                 otherwise: 2,
             },
             Switch(Mode::AfterBody),
         ],
         11 => &[
             If {
-                test: Test::InScope(Scope::Default, Which::Named(Known::Body)),
+                test: Test::InScope(Scope::Default, Which::Named(Known::BODY)),
                 otherwise: 3,
             },
             Switch(Mode::AfterBody),
@@ -110,11 +110,11 @@ pub fn acts_numbered(row: u16) -> &'static [Act]
         18 => &[CloseParagraph, Insert, Lexer(Rest::Plaintext)],
         19 => &[
             If {
-                test: Test::InScope(Scope::Default, Which::Named(Known::Button)),
+                test: Test::InScope(Scope::Default, Which::Named(Known::BUTTON)),
                 otherwise: 3,
             },
             Implied,
-            Through(Which::Named(Known::Button)),
+            Through(Which::Named(Known::BUTTON)),
             Reconstruct,
             Insert,
             FramesetNotOk,
@@ -133,11 +133,11 @@ pub fn acts_numbered(row: u16) -> &'static [Act]
                 otherwise: 5,
             },
             If {
-                test: Test::InScope(Scope::Default, Which::Named(Known::Form)),
+                test: Test::InScope(Scope::Default, Which::Named(Known::FORM)),
                 otherwise: 4,
             },
             Implied,
-            Through(Which::Named(Known::Form)),
+            Through(Which::Named(Known::FORM)),
             Done,
             EndForm,
         ],
@@ -151,11 +151,11 @@ pub fn acts_numbered(row: u16) -> &'static [Act]
         ],
         23 => &[
             If {
-                test: Test::InScope(Scope::ListItem, Which::Named(Known::Li)),
+                test: Test::InScope(Scope::ListItem, Which::Named(Known::LI)),
                 otherwise: 3,
             },
-            ImpliedExcept(Which::Named(Known::Li)),
-            Through(Which::Named(Known::Li)),
+            ImpliedExcept(Which::Named(Known::LI)),
+            Through(Which::Named(Known::LI)),
         ],
         24 => &[
             If {
@@ -177,10 +177,10 @@ pub fn acts_numbered(row: u16) -> &'static [Act]
         27 => &[
             Reconstruct,
             If {
-                test: Test::InScope(Scope::Default, Which::Named(Known::Nobr)),
+                test: Test::InScope(Scope::Default, Which::Named(Known::NOBR)),
                 otherwise: 4,
             },
-            Adopt(Which::Named(Known::Nobr)),
+            Adopt(Which::Named(Known::NOBR)),
             Reconstruct,
             Insert,
             AppendToList,
@@ -207,7 +207,7 @@ pub fn acts_numbered(row: u16) -> &'static [Act]
             FramesetNotOk,
             Switch(Mode::InTable),
         ],
-        33 => &[Reconstruct, InsertBare(Known::Br), Pop, FramesetNotOk],
+        33 => &[Reconstruct, InsertBare(Known::BR), Pop, FramesetNotOk],
         34 => &[Reconstruct, Insert, Pop, FramesetNotOk],
         35 => &[
             Reconstruct,
@@ -221,7 +221,7 @@ pub fn acts_numbered(row: u16) -> &'static [Act]
         ],
         36 => &[Insert, Pop],
         37 => &[CloseParagraph, Insert, Pop, FramesetNotOk],
-        38 => &[AgainAs(Known::Img)],
+        38 => &[AgainAs(Known::IMG)],
         39 => &[
             Insert,
             Lexer(Rest::Rcdata),
@@ -266,7 +266,7 @@ pub fn acts_numbered(row: u16) -> &'static [Act]
         ],
         44 => &[
             If {
-                test: Test::CurrentIs(Known::Option),
+                test: Test::CurrentIs(Known::OPTION),
                 otherwise: 2,
             },
             Pop,
@@ -275,7 +275,7 @@ pub fn acts_numbered(row: u16) -> &'static [Act]
         ],
         45 => &[
             If {
-                test: Test::InScope(Scope::Default, Which::Named(Known::Ruby)),
+                test: Test::InScope(Scope::Default, Which::Named(Known::RUBY)),
                 otherwise: 2,
             },
             Implied,
@@ -283,10 +283,10 @@ pub fn acts_numbered(row: u16) -> &'static [Act]
         ],
         46 => &[
             If {
-                test: Test::InScope(Scope::Default, Which::Named(Known::Ruby)),
+                test: Test::InScope(Scope::Default, Which::Named(Known::RUBY)),
                 otherwise: 2,
             },
-            ImpliedExcept(Which::Named(Known::Rtc)),
+            ImpliedExcept(Which::Named(Known::RTC)),
             Insert,
         ],
         47 => &[Reconstruct, InsertForeign],

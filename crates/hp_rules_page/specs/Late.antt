@@ -2,7 +2,7 @@
 use Rattle.std.specs.Prelude.{List, [], ◌∷◌}
 use Rattle.hp_elements.specs.declared.act.Act.TheVariants.{Again, As, Characters, Comment, CommentIntoDocument, CommentIntoFirst, Insert, Pop, Stop, Switch}
 use Rattle.hp_elements.specs.declared.act.Test.TheVariants.{CurrentIs}
-use Rattle.hp_elements.specs.declared.known.Known.TheVariants.{Frameset, Html}
+use Rattle.hp_elements.specs.KnownNames.{Frameset, Html}
 use Rattle.hp_elements.specs.declared.token.Mode.TheVariants.{AfterAfterBody, AfterAfterFrameset, AfterFrameset, InBody, InHead}
 use Rattle.hp_elements.specs.Rules.{Row, white, comment, doctype, start, end, end_of_input, any, ◌or◌, ends, ◌⨾◌, unless, ◌⟶◌, ignored, void}
 

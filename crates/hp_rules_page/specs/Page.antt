@@ -3,7 +3,7 @@ use Rattle.std.specs.Prelude.{List, [], ◌∷◌}
 use Rattle.hp_elements.specs.declared.act.Act.TheVariants.{Again, As, Characters, Comment, CommentIntoDocument, PutDoctype, QuirksOfDoctype, Quirks, Insert, InsertBare, InsertHtml, InsertBareHtml, Pop, PushHead, TakeHeadOff, Through, ImpliedThoroughly, Marker, ClearToMarker, Reset, FramesetNotOk, Switch, HeadPointer, PushTemplateMode, PopTemplateMode}
 use Rattle.hp_elements.specs.declared.act.Test.TheVariants.{TemplateInStack}
 use Rattle.hp_elements.specs.declared.act.Which.TheVariants.{Named}
-use Rattle.hp_elements.specs.declared.known.Known.TheVariants.{Head, Body, Template}
+use Rattle.hp_elements.specs.KnownNames.{Head, Body, Template}
 use Rattle.hp_elements.specs.declared.token.Mode.TheVariants.{BeforeHtml, BeforeHead, InHead, InHeadNoscript, AfterHead, InBody, InFrameset, InTemplate}
 use Rattle.hp_elements.specs.declared.token.Rest.TheVariants.{Rcdata, Rawtext, Script}
 use Rattle.hp_elements.specs.Rules.{Row, white, comment, doctype, start, end, end_but, any, ◌or◌, ends, ◌⨾◌, when, ◌⟶◌, ignored, void, raw}

@@ -30,7 +30,7 @@ pub fn acts_numbered(row: u16) -> &'static [Act]
         12 => &[Insert, HeadPointer, Switch(Mode::InHead)],
         13 => &[],
         14 => &[
-            InsertBare(Known::Head),
+            InsertBare(Known::HEAD),
             HeadPointer,
             Switch(Mode::InHead),
             Again,
@@ -74,7 +74,7 @@ pub fn acts_numbered(row: u16) -> &'static [Act]
                 otherwise: 6,
             },
             ImpliedThoroughly,
-            Through(Which::Named(Known::Template)),
+            Through(Which::Named(Known::TEMPLATE)),
             ClearToMarker,
             PopTemplateMode,
             Reset,
@@ -98,7 +98,7 @@ pub fn acts_numbered(row: u16) -> &'static [Act]
         41 => &[PushHead, As(Mode::InHead), TakeHeadOff],
         42 => &[As(Mode::InHead)],
         43 => &[],
-        44 => &[InsertBare(Known::Body), Switch(Mode::InBody), Again],
+        44 => &[InsertBare(Known::BODY), Switch(Mode::InBody), Again],
         // after body
         45 => &[As(Mode::InBody)],
         46 => &[CommentIntoFirst],
@@ -114,12 +114,12 @@ pub fn acts_numbered(row: u16) -> &'static [Act]
         55 => &[Insert],
         56 => &[
             Unless {
-                test: Test::CurrentIs(Known::Html),
+                test: Test::CurrentIs(Known::HTML),
                 otherwise: 4,
             },
             Pop,
             Unless {
-                test: Test::CurrentIs(Known::Frameset),
+                test: Test::CurrentIs(Known::FRAMESET),
                 otherwise: 4,
             },
             Switch(Mode::AfterFrameset),

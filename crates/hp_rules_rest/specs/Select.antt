@@ -4,7 +4,7 @@ use Rattle.hp_elements.specs.declared.act.Act.TheVariants.{Again, As, Characters
 use Rattle.hp_elements.specs.declared.act.Scope.TheVariants as scope
 use Rattle.hp_elements.specs.declared.act.Test.TheVariants.{BelowIs, CurrentIs, InScope, TemplateInStack}
 use Rattle.hp_elements.specs.declared.act.Which.TheVariants.{Its, Named}
-use Rattle.hp_elements.specs.declared.known.Known.TheVariants as name
+use Rattle.hp_elements.specs.KnownNames as name
 use Rattle.hp_elements.specs.declared.token.Mode.TheVariants.{InBody, InColumnGroup, InHead, InRow, InSelect, InTable, InTableBody}
 use Rattle.hp_elements.specs.Rules.{Row, white, nul, other, comment, doctype, start, end, any_start, any_end, end_of_input, any, ◌or◌, ends, ◌⨾◌, when, ◌⟶◌, ignored, void}
 

@@ -20,7 +20,7 @@ pub fn acts_numbered(row: u16) -> &'static [Act]
         4 => &[As(Mode::InBody)],
         5 => &[
             If {
-                test: Test::CurrentIs(Known::Option),
+                test: Test::CurrentIs(Known::OPTION),
                 otherwise: 2,
             },
             Pop,
@@ -28,12 +28,12 @@ pub fn acts_numbered(row: u16) -> &'static [Act]
         ],
         6 => &[
             If {
-                test: Test::CurrentIs(Known::Option),
+                test: Test::CurrentIs(Known::OPTION),
                 otherwise: 2,
             },
             Pop,
             If {
-                test: Test::CurrentIs(Known::Optgroup),
+                test: Test::CurrentIs(Known::OPTGROUP),
                 otherwise: 4,
             },
             Pop,
@@ -41,12 +41,12 @@ pub fn acts_numbered(row: u16) -> &'static [Act]
         ],
         7 => &[
             If {
-                test: Test::CurrentIs(Known::Option),
+                test: Test::CurrentIs(Known::OPTION),
                 otherwise: 2,
             },
             Pop,
             If {
-                test: Test::CurrentIs(Known::Optgroup),
+                test: Test::CurrentIs(Known::OPTGROUP),
                 otherwise: 4,
             },
             Pop,
@@ -55,41 +55,41 @@ pub fn acts_numbered(row: u16) -> &'static [Act]
         ],
         8 => &[
             If {
-                test: Test::CurrentIs(Known::Option),
+                test: Test::CurrentIs(Known::OPTION),
                 otherwise: 3,
             },
             If {
-                test: Test::BelowIs(Known::Optgroup),
+                test: Test::BelowIs(Known::OPTGROUP),
                 otherwise: 3,
             },
             Pop,
             If {
-                test: Test::CurrentIs(Known::Optgroup),
+                test: Test::CurrentIs(Known::OPTGROUP),
                 otherwise: 5,
             },
             Pop,
         ],
         9 => &[
             If {
-                test: Test::CurrentIs(Known::Option),
+                test: Test::CurrentIs(Known::OPTION),
                 otherwise: 2,
             },
             Pop,
         ],
         10 => &[
             If {
-                test: Test::InScope(Scope::Select, Which::Named(Known::Select)),
+                test: Test::InScope(Scope::Select, Which::Named(Known::SELECT)),
                 otherwise: 3,
             },
-            Through(Which::Named(Known::Select)),
+            Through(Which::Named(Known::SELECT)),
             Reset,
         ],
         11 => &[
             If {
-                test: Test::InScope(Scope::Select, Which::Named(Known::Select)),
+                test: Test::InScope(Scope::Select, Which::Named(Known::SELECT)),
                 otherwise: 4,
             },
-            Through(Which::Named(Known::Select)),
+            Through(Which::Named(Known::SELECT)),
             Reset,
             Again,
         ],
@@ -97,13 +97,13 @@ pub fn acts_numbered(row: u16) -> &'static [Act]
         13 => &[As(Mode::InBody)],
         14 => &[],
         // in select in table
-        15 => &[Through(Which::Named(Known::Select)), Reset, Again],
+        15 => &[Through(Which::Named(Known::SELECT)), Reset, Again],
         16 => &[
             If {
                 test: Test::InScope(Scope::Table, Which::Its),
                 otherwise: 4,
             },
-            Through(Which::Named(Known::Select)),
+            Through(Which::Named(Known::SELECT)),
             Reset,
             Again,
         ],
@@ -138,7 +138,7 @@ pub fn acts_numbered(row: u16) -> &'static [Act]
                 test: Test::TemplateInStack,
                 otherwise: 7,
             },
-            Through(Which::Named(Known::Template)),
+            Through(Which::Named(Known::TEMPLATE)),
             ClearToMarker,
             PopTemplateMode,
             Reset,

@@ -4,7 +4,7 @@ use Rattle.hp_elements.specs.declared.act.Act.TheVariants.{Again, AppendPending,
 use Rattle.hp_elements.specs.declared.act.Scope.TheVariants.{Table}
 use Rattle.hp_elements.specs.declared.act.Test.TheVariants.{CurrentIs, CurrentIsIn, HasForm, InScope, OneInScope, TemplateInStack, TypeIsHidden}
 use Rattle.hp_elements.specs.declared.act.Which.TheVariants.{Its, Named}
-use Rattle.hp_elements.specs.declared.known.Known.TheVariants as name
+use Rattle.hp_elements.specs.KnownNames as name
 use Rattle.hp_elements.specs.declared.sets.SetName.TheVariants.{TableTextParents, TableContext, TableBodyContext, TableRowContext, TableSections, Cells}
 use Rattle.hp_elements.specs.declared.token.Mode.TheVariants.{InBody, InCaption, InCell, InColumnGroup, InHead, InRow, InTable, InTableBody, InTableText}
 use Rattle.hp_elements.specs.Rules.{Row, white, nul, other, comment, doctype, start, end, end_of_input, any, ◌or◌, ends, ◌⨾◌, when, unless, ◌⟶◌, ignored, void}

@@ -40,7 +40,7 @@ pub fn acts_numbered(row: u16) -> &'static [Act]
         ],
         5 => &[
             PopTo(SetName::TableContext),
-            InsertBare(Known::Colgroup),
+            InsertBare(Known::COLGROUP),
             Switch(Mode::InColumnGroup),
             Again,
         ],
@@ -51,25 +51,25 @@ pub fn acts_numbered(row: u16) -> &'static [Act]
         ],
         7 => &[
             PopTo(SetName::TableContext),
-            InsertBare(Known::Tbody),
+            InsertBare(Known::TBODY),
             Switch(Mode::InTableBody),
             Again,
         ],
         8 => &[
             If {
-                test: Test::InScope(Scope::Table, Which::Named(Known::Table)),
+                test: Test::InScope(Scope::Table, Which::Named(Known::TABLE)),
                 otherwise: 4,
             },
-            Through(Which::Named(Known::Table)),
+            Through(Which::Named(Known::TABLE)),
             Reset,
             Again,
         ],
         9 => &[
             If {
-                test: Test::InScope(Scope::Table, Which::Named(Known::Table)),
+                test: Test::InScope(Scope::Table, Which::Named(Known::TABLE)),
                 otherwise: 3,
             },
-            Through(Which::Named(Known::Table)),
+            Through(Which::Named(Known::TABLE)),
             Reset,
         ],
         10 => &[],
@@ -106,21 +106,21 @@ pub fn acts_numbered(row: u16) -> &'static [Act]
         // in caption
         19 => &[
             If {
-                test: Test::InScope(Scope::Table, Which::Named(Known::Caption)),
+                test: Test::InScope(Scope::Table, Which::Named(Known::CAPTION)),
                 otherwise: 5,
             },
             Implied,
-            Through(Which::Named(Known::Caption)),
+            Through(Which::Named(Known::CAPTION)),
             ClearToMarker,
             Switch(Mode::InTable),
         ],
         20 => &[
             If {
-                test: Test::InScope(Scope::Table, Which::Named(Known::Caption)),
+                test: Test::InScope(Scope::Table, Which::Named(Known::CAPTION)),
                 otherwise: 6,
             },
             Implied,
-            Through(Which::Named(Known::Caption)),
+            Through(Which::Named(Known::CAPTION)),
             ClearToMarker,
             Switch(Mode::InTable),
             Again,
@@ -135,7 +135,7 @@ pub fn acts_numbered(row: u16) -> &'static [Act]
         27 => &[Insert, Pop],
         28 => &[
             If {
-                test: Test::CurrentIs(Known::Colgroup),
+                test: Test::CurrentIs(Known::COLGROUP),
                 otherwise: 3,
             },
             Pop,
@@ -146,7 +146,7 @@ pub fn acts_numbered(row: u16) -> &'static [Act]
         31 => &[As(Mode::InBody)],
         32 => &[
             If {
-                test: Test::CurrentIs(Known::Colgroup),
+                test: Test::CurrentIs(Known::COLGROUP),
                 otherwise: 4,
             },
             Pop,
@@ -161,7 +161,7 @@ pub fn acts_numbered(row: u16) -> &'static [Act]
         ],
         34 => &[
             PopTo(SetName::TableBodyContext),
-            InsertBare(Known::Tr),
+            InsertBare(Known::TR),
             Switch(Mode::InRow),
             Again,
         ],
@@ -195,7 +195,7 @@ pub fn acts_numbered(row: u16) -> &'static [Act]
         ],
         40 => &[
             If {
-                test: Test::InScope(Scope::Table, Which::Named(Known::Tr)),
+                test: Test::InScope(Scope::Table, Which::Named(Known::TR)),
                 otherwise: 4,
             },
             PopTo(SetName::TableRowContext),
@@ -204,7 +204,7 @@ pub fn acts_numbered(row: u16) -> &'static [Act]
         ],
         41 => &[
             If {
-                test: Test::InScope(Scope::Table, Which::Named(Known::Tr)),
+                test: Test::InScope(Scope::Table, Which::Named(Known::TR)),
                 otherwise: 5,
             },
             PopTo(SetName::TableRowContext),
@@ -218,7 +218,7 @@ pub fn acts_numbered(row: u16) -> &'static [Act]
                 otherwise: 6,
             },
             If {
-                test: Test::InScope(Scope::Table, Which::Named(Known::Tr)),
+                test: Test::InScope(Scope::Table, Which::Named(Known::TR)),
                 otherwise: 6,
             },
             PopTo(SetName::TableRowContext),

@@ -164,7 +164,7 @@ fn question(number: u32) -> Option<Question> {
         1 => Some(Question::Elem { depth }),
         2 => Some(Question::Seen {
             depth,
-            goals: Kinds::Html(Name::of_known(Known::Body)),
+            goals: Kinds::Html(Name::of_known(Known::BODY)),
             stops: Kinds::Set(SetName::ButtonScopeEnds),
         }),
         3 => Some(Question::Reach {

@@ -59,9 +59,9 @@ fn add(rt: &impl Abort, tree: &mut Tree<'static>, element: Edit<'static>, parent
 
 /// Makes html, head and body.
 fn add_page(rt: &impl Abort, tree: &mut Tree<'static>) {
-    add(rt, tree, element(Known::Html), 0);
-    add(rt, tree, element(Known::Head), 1);
-    add(rt, tree, element(Known::Body), 1);
+    add(rt, tree, element(Known::HTML), 0);
+    add(rt, tree, element(Known::HEAD), 1);
+    add(rt, tree, element(Known::BODY), 1);
 }
 
 /// A text that stands in the program.
@@ -505,7 +505,7 @@ fn grow_page(rt: &impl Abort, alloc: Global, tree: &mut Tree<'static>, growth: G
         Growth::Levels(count) => {
             for level in 0..count {
                 keep_room(rt, alloc, tree);
-                add(rt, tree, element(Known::Div), level.wrapping_add(3));
+                add(rt, tree, element(Known::DIV), level.wrapping_add(3));
             }
         }
         Growth::Siblings(count) => {
@@ -515,7 +515,7 @@ fn grow_page(rt: &impl Abort, alloc: Global, tree: &mut Tree<'static>, growth: G
             }
         }
         Growth::BeforeTable(count) => {
-            add(rt, tree, element(Known::Table), 3);
+            add(rt, tree, element(Known::TABLE), 3);
             for _ in 0..count {
                 keep_room(rt, alloc, tree);
                 make(rt, tree, foster(comment(), 4, 0));

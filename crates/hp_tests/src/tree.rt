@@ -300,7 +300,7 @@ fn reads_template(tree: &Tree<'_>) -> Option<bool> {
 fn readers_come_to_contents(rt: HostRuntime) {
     let mut tree: Tree<'static> = Tree::start(rt.alloc()).expect(&rt, "there is memory");
     make_room(&rt, rt.alloc(), &mut tree, 10);
-    make(&rt, &mut tree, element(Known::Template));
+    make(&rt, &mut tree, element(Known::TEMPLATE));
     make(&rt, &mut tree, element(Known::B));
     make(&rt, &mut tree, put_element(1, 0));
     make(&rt, &mut tree, put_element(2, 1));

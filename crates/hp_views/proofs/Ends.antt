@@ -2,7 +2,7 @@
 use Rattle.std.specs.Prelude.{false, suc, ◌-◌, ◌<◌, ◌≤◌, ◌≡◌, List, [], ◌∷◌, length, slice_index_or, refl}
 use Rattle.std.proofs.Common.{arith, ap, ◌∙◌}
 use Rattle.hp_control.specs.declared.element.OpenElement.{OpenElement}
-use Rattle.hp_elements.specs.declared.known.Known.TheVariants.{Body}
+use Rattle.hp_elements.specs.KnownNames.{Body}
 use Rattle.hp_control.specs.Acts.{first_id, second_id}
 use Rattle.hp_control.specs.States.{is_named}
 use Rattle.hp_control.specs.Walks.{second_is_body}

@@ -5,7 +5,7 @@ use Rattle.hp_elements.specs.declared.act.Scope.TheVariants as scope
 use Rattle.hp_elements.specs.declared.kinds.Kinds.{Kinds}
 use Rattle.hp_elements.specs.declared.kinds.Kinds.TheVariants as kinds
 use Rattle.hp_elements.specs.declared.known.Known.{Known}
-use Rattle.hp_elements.specs.declared.known.Known.TheVariants as known
+use Rattle.hp_elements.specs.KnownNames as known
 use Rattle.hp_elements.specs.declared.sets.SetName.TheVariants as sets
 use Rattle.hp_control.specs.Acts.{through_named, walk}
 use Rattle.hp_control.specs.Composed.{implied_but, implied, implied_except, implied_thoroughly, close, close_paragraph, is_item, close_item, close_description, end_form_in_template, named_in_scope}

@@ -9,7 +9,7 @@ use Rattle.std.proofs.lemmas.Slice.Eq.{bytes_eq-Decides}
 use Rattle.hp_elements.specs.Names.{text_of}
 use Rattle.hp_elements.specs.Kinds.{is_html as is_html_space}
 use Rattle.hp_elements.specs.declared.kinds.Kinds.TheVariants as kinds
-use Rattle.hp_elements.specs.declared.known.Known.TheVariants as known
+use Rattle.hp_elements.specs.KnownNames as known
 use Rattle.hp_elements.specs.declared.sets.SetName.TheVariants as sets
 use Rattle.hp_control.specs.declared.change.Change.{Change}
 use Rattle.hp_control.specs.declared.edit.Place.{Place}

@@ -8,7 +8,7 @@ ghost use Rattle.hp_views.specs.Steps.{implied_step, implied_except_step, implie
 ghost use Rattle.hp_views.specs.View.{Answers, Carries};
 ghost use Rattle.hp_views.specs.StackPlans.{in_scope_plan};
 ghost use Rattle.hp_elements.specs.declared.act.Scope.TheVariants as scope;
-ghost use Rattle.hp_elements.specs.declared.known.Known.TheVariants as known;
+ghost use Rattle.hp_elements.specs.KnownNames as known;
 ghost use Rattle.hp_views.specs.ClosingPlans.{close_plan, is_item_plan, close_term_plan, either, leaves_it, through_form_plan};
 
 use crate::view::View;
@@ -21,18 +21,28 @@ use std::alloc::Global;
 fn implied_but(name: Known) -> SetName
     ensures { result ≡ spec_implied_but name }
 {
-    match name {
-        Known::Dd => SetName::ImpliedButDd,
-        Known::Dt => SetName::ImpliedButDt,
-        Known::Li => SetName::ImpliedButLi,
-        Known::Optgroup => SetName::ImpliedButOptgroup,
-        Known::Option => SetName::ImpliedButOption,
-        Known::P => SetName::ImpliedButP,
-        Known::Rb => SetName::ImpliedButRb,
-        Known::Rp => SetName::ImpliedButRp,
-        Known::Rt => SetName::ImpliedButRt,
-        Known::Rtc => SetName::ImpliedButRtc,
-        _ => SetName::Implied,
+    if name == Known::DD {
+        SetName::ImpliedButDd
+    } else if name == Known::DT {
+        SetName::ImpliedButDt
+    } else if name == Known::LI {
+        SetName::ImpliedButLi
+    } else if name == Known::OPTGROUP {
+        SetName::ImpliedButOptgroup
+    } else if name == Known::OPTION {
+        SetName::ImpliedButOption
+    } else if name == Known::P {
+        SetName::ImpliedButP
+    } else if name == Known::RB {
+        SetName::ImpliedButRb
+    } else if name == Known::RP {
+        SetName::ImpliedButRp
+    } else if name == Known::RT {
+        SetName::ImpliedButRt
+    } else if name == Known::RTC {
+        SetName::ImpliedButRtc
+    } else {
+        SetName::Implied
     }
 }
 
@@ -122,8 +132,8 @@ impl<'p, B: Below> View<'p, B> {
     pub fn close_item(&mut self, alloc: Global) -> Result<(), Refusal>
         ensures { Meets result (sight B.heard self.old) (sight B.heard self.new) close_item_step }
     {
-        if self.is_item(alloc, Known::Li)? {
-            self.close(alloc, Known::Li)
+        if self.is_item(alloc, Known::LI)? {
+            self.close(alloc, Known::LI)
         } else {
             Ok(())
         }
@@ -145,8 +155,8 @@ impl<'p, B: Below> View<'p, B> {
     fn close_term(&mut self, alloc: Global) -> Result<(), Refusal>
         ensures { Carries result (sight B.heard self.old) (sight B.heard self.new) close_term_plan }
     {
-        let is_open = self.is_item(alloc, Known::Dt)?;
-        self.close_if(alloc, is_open, Known::Dt)
+        let is_open = self.is_item(alloc, Known::DT)?;
+        self.close_if(alloc, is_open, Known::DT)
     }
 
     /// Closes a description, where one is said to be open, or else a term.
@@ -155,7 +165,7 @@ impl<'p, B: Below> View<'p, B> {
         ensures { Carries result (sight B.heard self.old) (sight B.heard self.new) (either (close_plan known.Dd) close_term_plan is_open) }
     {
         if is_open {
-            self.close(alloc, Known::Dd)
+            self.close(alloc, Known::DD)
         } else {
             self.close_term(alloc)
         }
@@ -165,7 +175,7 @@ impl<'p, B: Below> View<'p, B> {
     pub fn close_description(&mut self, alloc: Global) -> Result<(), Refusal>
         ensures { Meets result (sight B.heard self.old) (sight B.heard self.new) close_description_step }
     {
-        let is_open = self.is_item(alloc, Known::Dd)?;
+        let is_open = self.is_item(alloc, Known::DD)?;
         self.close_either(alloc, is_open)
     }
 
@@ -173,7 +183,7 @@ impl<'p, B: Below> View<'p, B> {
     pub fn end_form_in_template(&mut self, alloc: Global) -> Result<(), Refusal>
         ensures { Meets result (sight B.heard self.old) (sight B.heard self.new) end_form_in_template_step }
     {
-        let form = Kinds::Html(Name::of_known(Known::Form));
+        let form = Kinds::Html(Name::of_known(Known::FORM));
         if self.in_scope(alloc, Scope::Default, form)? {
             self.through_form(alloc)
         } else {
@@ -186,6 +196,6 @@ impl<'p, B: Below> View<'p, B> {
         ensures { Carries result (sight B.heard self.old) (sight B.heard self.new) through_form_plan }
     {
         self.implied(alloc)?;
-        self.through_named(alloc, Name::of_known(Known::Form))
+        self.through_named(alloc, Name::of_known(Known::FORM))
     }
 }

@@ -18,7 +18,7 @@ fn head_element(id: u64) -> OpenElement
     OpenElement {
         id,
         namespace: Namespace::Html,
-        name: Name::of_known(Known::Head),
+        name: Name::of_known(Known::HEAD),
         point: Point::No,
     }
 }

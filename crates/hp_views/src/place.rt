@@ -34,13 +34,13 @@ pub fn second_id(stack: &OpenElements) -> u64
 pub fn a_template() -> Kinds
     ensures { result ≡ spec_template }
 {
-    Kinds::Html(Name::of_known(Known::Template))
+    Kinds::Html(Name::of_known(Known::TEMPLATE))
 }
 
 pub fn a_table() -> Kinds
     ensures { result ≡ spec_table }
 {
-    Kinds::Html(Name::of_known(Known::Table))
+    Kinds::Html(Name::of_known(Known::TABLE))
 }
 
 ghost use Rattle.hp_views.specs.PlacePlans.{a_template as spec_template, a_table as spec_table};

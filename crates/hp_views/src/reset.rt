@@ -26,26 +26,26 @@ pub enum Decides {
 fn is_cell(element: &OpenElement) -> bool
     ensures { result ≡ spec_is_cell element.now }
 {
-    is_named(Known::Td, element) || is_named(Known::Th, element)
+    is_named(Known::TD, element) || is_named(Known::TH, element)
 }
 
 /// The mode of an element that decides one wherever it stands.
 fn mode_of(element: &OpenElement) -> Option<Mode>
     ensures { result ≡ spec_mode_of element.now }
 {
-    if is_named(Known::Tr, element) {
+    if is_named(Known::TR, element) {
         Some(Mode::InRow)
     } else if is_within(&Kinds::Set(SetName::TableSections), element) {
         Some(Mode::InTableBody)
-    } else if is_named(Known::Caption, element) {
+    } else if is_named(Known::CAPTION, element) {
         Some(Mode::InCaption)
-    } else if is_named(Known::Colgroup, element) {
+    } else if is_named(Known::COLGROUP, element) {
         Some(Mode::InColumnGroup)
-    } else if is_named(Known::Table, element) {
+    } else if is_named(Known::TABLE, element) {
         Some(Mode::InTable)
-    } else if is_named(Known::Body, element) {
+    } else if is_named(Known::BODY, element) {
         Some(Mode::InBody)
-    } else if is_named(Known::Frameset, element) {
+    } else if is_named(Known::FRAMESET, element) {
         Some(Mode::InFrameset)
     } else {
         None
@@ -100,19 +100,19 @@ fn decided(
 ) -> Decides
     ensures { result ≡ decided_by is_first has_head templates.now element.now }
 {
-    if is_named(Known::Select, element) {
+    if is_named(Known::SELECT, element) {
         return Decides::Select;
     }
     if is_cell(element) && !is_first {
         return Decides::To(Mode::InCell);
     }
-    if is_named(Known::Template, element) {
+    if is_named(Known::TEMPLATE, element) {
         return Decides::To(last_template_mode(templates));
     }
-    if is_named(Known::Head, element) && !is_first {
+    if is_named(Known::HEAD, element) && !is_first {
         return Decides::To(Mode::InHead);
     }
-    if is_named(Known::Html, element) {
+    if is_named(Known::HTML, element) {
         return Decides::To(html_mode(has_head));
     }
     mode_or_nothing(mode_of(element))

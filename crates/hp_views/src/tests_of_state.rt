@@ -34,7 +34,7 @@ fn second_is_body(stack: &OpenElements) -> bool
     ensures { result ≡ spec_second_is_body stack.now }
 {
     let count = stack.len();
-    count >= 2 && is_named(Known::Body, stack.at(count - 2))
+    count >= 2 && is_named(Known::BODY, stack.at(count - 2))
 }
 
 /// Whether the first element of the stack is an HTML `body`.
@@ -42,7 +42,7 @@ fn last_is_body(stack: &OpenElements) -> bool
     ensures { result ≡ spec_last_is_body stack.now }
 {
     let count = stack.len();
-    count >= 1 && is_named(Known::Body, stack.at(count - 1))
+    count >= 1 && is_named(Known::BODY, stack.at(count - 1))
 }
 
 ghost use Rattle.hp_control.specs.Walks.{second_is_body as spec_second_is_body};

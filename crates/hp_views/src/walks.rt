@@ -52,7 +52,7 @@ fn walk_to(end: WalkEnd) -> Walk
 
 ghost use Rattle.hp_elements.specs.Names.{text_of};
 ghost use Rattle.hp_elements.specs.declared.kinds.Kinds.TheVariants as kinds;
-ghost use Rattle.hp_elements.specs.declared.known.Known.TheVariants as known;
+ghost use Rattle.hp_elements.specs.KnownNames as known;
 ghost use Rattle.hp_elements.specs.declared.sets.SetName.TheVariants as sets;
 ghost use Rattle.hp_views.specs.Walks.{walk_to};
 

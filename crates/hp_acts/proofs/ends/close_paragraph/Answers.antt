@@ -1,6 +1,6 @@
 use Rattle.std.proofs.Common.{◌∙◌, ap, sym}
 use Rattle.hp_elements.specs.Names.{text_of}
-use Rattle.hp_elements.specs.declared.known.Known.TheVariants as known
+use Rattle.hp_elements.specs.KnownNames as known
 use Rattle.hp_elements.specs.declared.sets.SetName.TheVariants as set
 use Rattle.hp_views.specs.View.{sight}
 use Rattle.hp_acts.proofs.TopEnds.{paragraph_ended, top_there}

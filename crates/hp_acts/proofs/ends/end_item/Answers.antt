@@ -2,7 +2,7 @@ use Rattle.std.proofs.Common.{Bool, List, ℕ, subst, sym}
 use Rattle.hp_control.specs.Plan.{followed_by}
 use Rattle.hp_elements.specs.Names.{text_of}
 use Rattle.hp_elements.specs.declared.kinds.Kinds.TheVariants as kinds
-use Rattle.hp_elements.specs.declared.known.Known.TheVariants as known
+use Rattle.hp_elements.specs.KnownNames as known
 use Rattle.hp_views.specs.ClosingPlans.{implied_except_plan}
 use Rattle.hp_views.specs.StackPlans.{through_plan}
 use Rattle.hp_views.specs.View.{Carries, Sight, sight}

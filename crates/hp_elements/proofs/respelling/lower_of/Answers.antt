@@ -1,6 +1,5 @@
-use Rattle.std.proofs.Common.{◌≡◌, sym, ap, ◌∙◌, Some, None}
+use Rattle.std.proofs.Common.{◌≡◌, sym, ap, ◌∙◌}
 use Rattle.hp_elements.specs.Names.{text_of, lowered}
-use Rattle.hp_elements.specs.declared.known.Known.{Known}
 use Rattle.hp_elements.proofs.FindLemmas.{clash}
 use Rattle.hp_elements.proofs.NameLemmas.{some_none}
 use Rattle.hp_elements.proofs.RespellingLemmas.{lower_bytes, lower_chars_of, lower_meets, same_some}

@@ -3,7 +3,7 @@ use Rattle.std.specs.Prelude.{Some, not}
 use Rattle.std.specs.Str.{bytes_eq}
 use Rattle.hp_elements.specs.Names.{text_of, known_of, words, is_among}
 use Rattle.hp_elements.specs.declared.known.Known.{Known}
-use Rattle.hp_elements.specs.declared.known.Known.TheVariants as k
+use Rattle.hp_elements.specs.KnownNames as k
 use Rattle.hp_elements.proofs.NameLemmas.{known_of_text}
 use Rattle.hp_elements.proofs.SetLemmas.{differs}
 use Rattle.hp_predict.proofs.name.known_counts.Goals as goal

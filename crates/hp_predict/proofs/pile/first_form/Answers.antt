@@ -1,6 +1,6 @@
 use Rattle.std.proofs.Common.{ap, sym}
 use Rattle.std.specs.Prelude.{ℕ, Option, None, Some, if◌then◌else◌}
-use Rattle.hp_elements.specs.declared.known.Known.TheVariants as known
+use Rattle.hp_elements.specs.KnownNames as known
 use Rattle.hp_predict.specs.Guess.{first_of}
 use Rattle.hp_predict.specs.OpenNames.{is_name}
 use Rattle.hp_predict.proofs.pile.first_form.Goals as goal

@@ -2,7 +2,7 @@ use Rattle.std.proofs.Common.{◌≡◌, Bool, true, false, ap, sym, ◌∙◌}
 use Rattle.std.specs.Prelude.{not, ◌&&◌}
 use Rattle.std.specs.Option.{is_some}
 use Rattle.hp_elements.specs.RawText.{raw_text_of}
-use Rattle.hp_elements.specs.declared.known.Known.TheVariants as known
+use Rattle.hp_elements.specs.KnownNames as known
 use Rattle.hp_predict.specs.OpenNames.{is_name}
 use Rattle.hp_predict.proofs.prescan.is_text.Goals as goal
 

@@ -1,6 +1,6 @@
 use Rattle.std.specs.Prelude.{◌≤◌, ◌-◌, length, slice_index_or}
 use Rattle.std.proofs.Common.{arith, ap, ◌∙◌}
-use Rattle.hp_elements.specs.declared.known.Known.TheVariants.{Body}
+use Rattle.hp_elements.specs.KnownNames.{Body}
 use Rattle.hp_control.specs.States.{is_named}
 use Rattle.hp_views.proofs.Ends.{last_body_at}
 use Rattle.hp_views.proofs.tests_of_state.last_is_body.Goals as goal

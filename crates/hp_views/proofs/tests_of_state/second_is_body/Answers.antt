@@ -1,7 +1,7 @@
 use Rattle.std.specs.Prelude.{◌≤◌, ◌-◌, length, slice_index_or}
 use Rattle.std.proofs.Common.{arith, ap, ◌∙◌}
 use Rattle.std.proofs.lemmas.Bool.{lt-leb}
-use Rattle.hp_elements.specs.declared.known.Known.TheVariants.{Body}
+use Rattle.hp_elements.specs.KnownNames.{Body}
 use Rattle.hp_control.specs.States.{is_named}
 use Rattle.hp_views.proofs.Ends.{second_body_at, no_second_body}
 use Rattle.hp_views.proofs.tests_of_state.second_is_body.Goals as goal

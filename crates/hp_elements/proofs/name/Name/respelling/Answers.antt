@@ -1,4 +1,4 @@
-use Rattle.std.proofs.Common.{true, false, sym, ap, ◌∙◌}
+use Rattle.std.proofs.Common.{true, false, sym, ◌∙◌}
 use Rattle.hp_elements.proofs.RespellingLemmas.{no_respelling, is_respelling}
 use Rattle.hp_elements.proofs.name.Name.respelling.Goals as goal
 

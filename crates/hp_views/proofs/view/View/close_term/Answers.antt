@@ -1,6 +1,6 @@
 use Rattle.hp_elements.specs.Names.{text_of}
 use Rattle.hp_elements.specs.declared.kinds.Kinds.TheVariants as kinds
-use Rattle.hp_elements.specs.declared.known.Known.TheVariants as known
+use Rattle.hp_elements.specs.KnownNames as known
 use Rattle.hp_views.specs.ClosingPlans.{close_plan, either, is_item_plan, leaves_it}
 use Rattle.hp_views.specs.View.{sight}
 use Rattle.hp_views.proofs.Carrying.{carries_then}
