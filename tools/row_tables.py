@@ -13,13 +13,18 @@ import re
 import sys
 from pathlib import Path
 
+def constant(name):
+    """The constant of a name that specs/ write in camel case."""
+    return re.sub(r'(?<=[a-z0-9])(?=[A-Z])', '_', name.rstrip('_')).upper()
+
+
 def known_names(elements):
-    """The variants and texts of the known names, in their order."""
+    """The constants and texts of the known names, in their order."""
     text = (elements / 'specs' / 'Names.antt').read_text()
-    texts = dict(re.findall(r'^text_of k\.(\w+) = codes "([^"]*)"', text, re.M))
+    texts = dict(re.findall(r'^text_of \(\w+ \w+\.(\w+)\) = codes "([^"]*)"', text, re.M))
     every = re.search(r'^every =((?:.|\n)*?\[\])', text, re.M)
     order = re.findall(r'k\.(\w+)', every.group(1))
-    return [(variant, texts[variant]) for variant in order]
+    return [(constant(name), texts[name]) for name in order]
 
 
 def kinds(names):
@@ -165,7 +170,7 @@ ARGUMENTS = {
 
 def rust(term, kind):
     name = term[0]
-    text = name if kind == 'Act' else kind + '::' + name
+    text = name if kind == 'Act' else kind + '::' + (constant(name) if kind == 'Known' else name)
     if len(term) > 1:
         kinds_of = ARGUMENTS[name]
         assert len(kinds_of) == len(term) - 1, term

@@ -248,10 +248,10 @@ class Recorder:
 
     def end_optgroup(self):
         """The row of /optgroup in select: an option right above an optgroup, then an optgroup."""
-        if self.asks('Test::CurrentIs(Known::Option)'):
-            if self.asks('Test::BelowIs(Known::Optgroup)'):
+        if self.asks('Test::CurrentIs(Known::OPTION)'):
+            if self.asks('Test::BelowIs(Known::OPTGROUP)'):
                 self.pop()
-        if self.asks('Test::CurrentIs(Known::Optgroup)'):
+        if self.asks('Test::CurrentIs(Known::OPTGROUP)'):
             self.pop()
 
     def pop_to_html_or_point(self):
