@@ -12,7 +12,7 @@ ghost use Rattle.hp_acts.specs.Usual.{block_end_by, block_end_plan, description_
 
 use crate::inserts::insert_bare;
 use hp_control::{Below, OpenElement, OpenElements, Refusal, is_html, is_within};
-use hp_elements::{Kinds, Known, Name, Scope, SetName};
+use hp_elements::{ElementName, Kinds, Known, Name, Scope, SetName};
 use hp_views::View;
 use std::alloc::Global;
 
@@ -54,12 +54,10 @@ fn ends_known(stack: &OpenElements, known: Known, passed: SetName) -> bool
 fn ends_description(stack: &OpenElements, name: &Name) -> bool
     ensures { result ≡ true → EndsDescription name.now stack.now }
 {
-    if name.is(Known::DT) {
-        ends_top(stack, name, SetName::ImpliedButDt)
-    } else if name.is(Known::DD) {
-        ends_top(stack, name, SetName::ImpliedButDd)
-    } else {
-        false
+    match name.known() {
+        Some(Known::Element(ElementName::Dt)) => ends_top(stack, name, SetName::ImpliedButDt),
+        Some(Known::Element(ElementName::Dd)) => ends_top(stack, name, SetName::ImpliedButDd),
+        _ => false,
     }
 }
 

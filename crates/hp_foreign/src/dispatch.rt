@@ -6,7 +6,7 @@ ghost use Rattle.hp_views.specs.View.{sight, Answers, Learns};
 ghost use Rattle.hp_foreign.specs.Plans.{ask_element, goes_plan, older_goes, element_in};
 
 use hp_control::{Answer, Below, OpenElement, Question, Refusal, is_html};
-use hp_elements::{Kind, Kinds, Known, Namespace, NoMemory, Point, Token};
+use hp_elements::{ElementName, Kind, Kinds, Known, Namespace, NoMemory, Point, Token};
 use hp_views::{View, older_seen};
 use std::alloc::Global;
 
@@ -15,8 +15,8 @@ fn is_glyph(name: Option<Known>) -> bool
     ensures { result ≡ is_glyph name }
 {
     match name {
-        Some(known) => known == Known::MGLYPH || known == Known::MALIGNMARK,
-        None => false,
+        Some(Known::Element(ElementName::Mglyph | ElementName::Malignmark)) => true,
+        _ => false,
     }
 }
 
@@ -37,7 +37,7 @@ fn is_svg_start(kind: Kind) -> bool
     ensures { result ≡ is_svg_start kind }
 {
     match kind {
-        Kind::Start(Some(known)) => known == Known::SVG,
+        Kind::Start(Some(Known::Element(ElementName::Svg))) => true,
         _ => false,
     }
 }

@@ -14,35 +14,25 @@ ghost use Rattle.hp_views.specs.ClosingPlans.{close_plan, is_item_plan, close_te
 use crate::view::View;
 use crate::walks::{Walk, paragraph_walk};
 use hp_control::{Below, Refusal};
-use hp_elements::{Kinds, Known, Name, Scope, SetName};
+use hp_elements::{ElementName, Kinds, Known, Name, Scope, SetName};
 use std::alloc::Global;
 
 /// The elements whose end tags are implied, but that one.
 fn implied_but(name: Known) -> SetName
     ensures { result ≡ spec_implied_but name }
 {
-    if name == Known::DD {
-        SetName::ImpliedButDd
-    } else if name == Known::DT {
-        SetName::ImpliedButDt
-    } else if name == Known::LI {
-        SetName::ImpliedButLi
-    } else if name == Known::OPTGROUP {
-        SetName::ImpliedButOptgroup
-    } else if name == Known::OPTION {
-        SetName::ImpliedButOption
-    } else if name == Known::P {
-        SetName::ImpliedButP
-    } else if name == Known::RB {
-        SetName::ImpliedButRb
-    } else if name == Known::RP {
-        SetName::ImpliedButRp
-    } else if name == Known::RT {
-        SetName::ImpliedButRt
-    } else if name == Known::RTC {
-        SetName::ImpliedButRtc
-    } else {
-        SetName::Implied
+    match name {
+        Known::Element(ElementName::Dd) => SetName::ImpliedButDd,
+        Known::Element(ElementName::Dt) => SetName::ImpliedButDt,
+        Known::Element(ElementName::Li) => SetName::ImpliedButLi,
+        Known::Element(ElementName::Optgroup) => SetName::ImpliedButOptgroup,
+        Known::Element(ElementName::Option) => SetName::ImpliedButOption,
+        Known::Element(ElementName::P) => SetName::ImpliedButP,
+        Known::Element(ElementName::Rb) => SetName::ImpliedButRb,
+        Known::Element(ElementName::Rp) => SetName::ImpliedButRp,
+        Known::Element(ElementName::Rt) => SetName::ImpliedButRt,
+        Known::Element(ElementName::Rtc) => SetName::ImpliedButRtc,
+        _ => SetName::Implied,
     }
 }
 
