@@ -2,7 +2,6 @@
 """Prints what an independent reading of the standard's rules does, as the table that the rules crates' tests compare.
 
     tools/rule_table.py ORACLE crates/hp_rules_page > crates/hp_base_tests/src/rows/page.rt
-    tools/rule_table.py ORACLE crates/hp_elements > crates/hp_base_tests/src/rows/names.rt
     tools/rule_table.py ORACLE                        the same for all four crates, as text to be read
 
 ORACLE is the folder of the Python reference parser (builder.py, tables.py, lexer.py, tree.py), which was written from
@@ -448,12 +447,12 @@ def write(names, modes, tables):
     named = []
     for column, (starts, ends, _, _) in enumerate(tables):
         for word, groups in (('true', starts), ('false', ends)):
-            named += [(column, word, variant, group) for (variant, _), group in zip(names, groups) if group != groups[-1]]
+            named += [(column, word, number, group, text) for number, ((_, text), group) in enumerate(zip(names, groups)) if group != groups[-1]]
     print('/// The known names whose tag has another group than the tag of another name: the column of the mode, whether it is')
-    print('/// a start tag, the name, the group.')
-    print('pub(super) static NAMED: [(usize, bool, Known, u8); %d] = [' % len(named))
+    print('/// a start tag, the number of the name, the group.')
+    print('pub(super) static NAMED: [(usize, bool, usize, u8); %d] = [' % len(named))
     for entry in named:
-        print('    (%d, %s, Known::%s, %d),' % entry)
+        print('    (%d, %s, %d, %d), // %s' % entry)
     print('];')
     print()
     print('/// The groups of what has no known name, a row for each and a column a mode: %s.' % ', '.join(OTHERS))
@@ -487,24 +486,12 @@ def write(names, modes, tables):
     print('pub(super) static PLACES: [u8; %d] = [%s];' % (len(places), ', '.join(map(str, places))))
 
 
-def write_names(names):
-    print('//! All known names, in their order. `tools/rule_table.py` prints this file.')
-    print('use hp_elements::Known;')
-    print()
-    print('pub(super) static NAMES: [Known; %d] = [' % len(names))
-    for variant, _ in names:
-        print('    Known::%s,' % variant)
-    print('];')
-
-
 def main(oracle, crate=None):
     here = Path(__file__).resolve().parent.parent / 'crates'
     crates = [Path(crate).resolve().name] if crate else list(MODES)
     if crate:
         here = Path(crate).resolve().parent
     names = known_names(here / 'hp_elements')
-    if crates == ['hp_elements']:
-        return write_names(names)
     oracle = Oracle(oracle)
     for crate_name in crates:
         modes = MODES[crate_name].split(', ')

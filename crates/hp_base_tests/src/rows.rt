@@ -2,7 +2,6 @@
 //! and foreign content, with the start and end tag of every known name and of another one, each class of characters,
 //! a comment, a doctype and the end of input.
 mod body;
-mod names;
 mod numbers;
 mod page;
 mod rest;
@@ -12,7 +11,6 @@ use hp_elements::{
     Act, Chain, CharClass, Doctype, DoctypeParts, Known, Mode, Name, Namespace, Tag, Test, Text,
     Token,
 };
-use names::NAMES;
 use numbers::{is_act, is_test};
 use std::alloc::Global;
 use std::mem;
@@ -39,7 +37,7 @@ enum Part {
 struct Reading {
     part: Part,
     modes: &'static [Mode],
-    named: &'static [(usize, bool, Known, u8)],
+    named: &'static [(usize, bool, usize, u8)],
     nameless: &'static [&'static [u8]; 8],
     steps: &'static [Step],
     ways: &'static [(usize, u8, usize, usize)],
@@ -177,8 +175,10 @@ impl Reading {
 
     /// The group of a known name's tag, where it isn't that of another name's; else the other's.
     fn group(&self, column: usize, is_start: bool, own: Option<Known>, other: u8) -> u8 {
+        let Some(known) = own else { return other };
+        let number = known.index();
         for (mode, word, name, group) in self.named {
-            if *mode == column && *word == is_start && own == Some(*name) {
+            if *mode == column && *word == is_start && *name == number {
                 return *group;
             }
         }
@@ -204,10 +204,11 @@ impl Reading {
     }
 
     /// Compares the start tags, or the end tags, of all known names, given the groups of another name's.
-    fn compare_named(&self, rt: &impl Abort, is_start: bool, names: &[Known], others: &[u8]) {
-        for known in names {
-            let token = tag(is_start, Name::of_known(*known));
-            self.compare_token(rt, is_start, Some(*known), &token, others);
+    fn compare_named(&self, rt: &impl Abort, is_start: bool, others: &[u8]) {
+        for number in 0..240 {
+            let known = Known::at(number).expect(rt, "there are 240 names");
+            let token = tag(is_start, Name::of_known(known));
+            self.compare_token(rt, is_start, Some(known), &token, others);
             mem::forget(token);
         }
     }
@@ -219,8 +220,8 @@ impl Reading {
             self.compare_token(rt, kind == 0, None, &token, *groups);
             mem::forget(token);
         }
-        self.compare_named(rt, true, &NAMES, self.nameless[0]);
-        self.compare_named(rt, false, &NAMES, self.nameless[1]);
+        self.compare_named(rt, true, self.nameless[0]);
+        self.compare_named(rt, false, self.nameless[1]);
     }
 }
 

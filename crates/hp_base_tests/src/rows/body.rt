@@ -4,173 +4,173 @@ use super::Step::{self, Asked, Does};
 use hp_elements::{Act, Known, Mode, Rest, Scope, SetName, Test, Which};
 
 /// The known names whose tag has another group than the tag of another name: the column of the mode, whether it is
-/// a start tag, the name, the group.
-pub(super) static NAMED: [(usize, bool, Known, u8); 165] = [
-    (0, true, Known::A, 0),
-    (0, true, Known::ADDRESS, 1),
-    (0, true, Known::APPLET, 3),
-    (0, true, Known::AREA, 4),
-    (0, true, Known::ARTICLE, 1),
-    (0, true, Known::ASIDE, 1),
-    (0, true, Known::B, 5),
-    (0, true, Known::BASE, 6),
-    (0, true, Known::BASEFONT, 6),
-    (0, true, Known::BGSOUND, 6),
-    (0, true, Known::BIG, 5),
-    (0, true, Known::BLOCKQUOTE, 1),
-    (0, true, Known::BODY, 7),
-    (0, true, Known::BR, 4),
-    (0, true, Known::BUTTON, 8),
-    (0, true, Known::CAPTION, 9),
-    (0, true, Known::CENTER, 1),
-    (0, true, Known::CODE, 5),
-    (0, true, Known::COL, 9),
-    (0, true, Known::COLGROUP, 9),
-    (0, true, Known::DD, 10),
-    (0, true, Known::DETAILS, 1),
-    (0, true, Known::DIALOG, 1),
-    (0, true, Known::DIR, 1),
-    (0, true, Known::DIV, 1),
-    (0, true, Known::DL, 1),
-    (0, true, Known::DT, 10),
-    (0, true, Known::EM, 5),
-    (0, true, Known::EMBED, 4),
-    (0, true, Known::FIELDSET, 1),
-    (0, true, Known::FIGCAPTION, 1),
-    (0, true, Known::FIGURE, 1),
-    (0, true, Known::FONT, 5),
-    (0, true, Known::FOOTER, 1),
-    (0, true, Known::FORM, 11),
-    (0, true, Known::FRAME, 9),
-    (0, true, Known::FRAMESET, 12),
-    (0, true, Known::H1, 13),
-    (0, true, Known::H2, 13),
-    (0, true, Known::H3, 13),
-    (0, true, Known::H4, 13),
-    (0, true, Known::H5, 13),
-    (0, true, Known::H6, 13),
-    (0, true, Known::HEAD, 9),
-    (0, true, Known::HEADER, 1),
-    (0, true, Known::HGROUP, 1),
-    (0, true, Known::HR, 14),
-    (0, true, Known::HTML, 15),
-    (0, true, Known::I, 5),
-    (0, true, Known::IFRAME, 16),
-    (0, true, Known::IMAGE, 17),
-    (0, true, Known::IMG, 4),
-    (0, true, Known::INPUT, 18),
-    (0, true, Known::KEYGEN, 4),
-    (0, true, Known::LI, 19),
-    (0, true, Known::LINK, 6),
-    (0, true, Known::LISTING, 20),
-    (0, true, Known::MAIN, 1),
-    (0, true, Known::MARQUEE, 3),
-    (0, true, Known::MATH, 21),
-    (0, true, Known::MENU, 1),
-    (0, true, Known::META, 6),
-    (0, true, Known::NAV, 1),
-    (0, true, Known::NOBR, 22),
-    (0, true, Known::NOEMBED, 23),
-    (0, true, Known::NOFRAMES, 6),
-    (0, true, Known::OBJECT, 3),
-    (0, true, Known::OL, 1),
-    (0, true, Known::OPTGROUP, 24),
-    (0, true, Known::OPTION, 24),
-    (0, true, Known::P, 1),
-    (0, true, Known::PARAM, 25),
-    (0, true, Known::PLAINTEXT, 26),
-    (0, true, Known::PRE, 20),
-    (0, true, Known::RB, 27),
-    (0, true, Known::RP, 28),
-    (0, true, Known::RT, 28),
-    (0, true, Known::RTC, 27),
-    (0, true, Known::S, 5),
-    (0, true, Known::SCRIPT, 6),
-    (0, true, Known::SEARCH, 1),
-    (0, true, Known::SECTION, 1),
-    (0, true, Known::SELECT, 29),
-    (0, true, Known::SMALL, 5),
-    (0, true, Known::SOURCE, 25),
-    (0, true, Known::STRIKE, 5),
-    (0, true, Known::STRONG, 5),
-    (0, true, Known::STYLE, 6),
-    (0, true, Known::SUMMARY, 1),
-    (0, true, Known::SVG, 21),
-    (0, true, Known::TABLE, 30),
-    (0, true, Known::TBODY, 9),
-    (0, true, Known::TD, 9),
-    (0, true, Known::TEMPLATE, 6),
-    (0, true, Known::TEXTAREA, 31),
-    (0, true, Known::TFOOT, 9),
-    (0, true, Known::TH, 9),
-    (0, true, Known::THEAD, 9),
-    (0, true, Known::TITLE, 6),
-    (0, true, Known::TR, 9),
-    (0, true, Known::TRACK, 25),
-    (0, true, Known::TT, 5),
-    (0, true, Known::U, 5),
-    (0, true, Known::UL, 1),
-    (0, true, Known::WBR, 4),
-    (0, true, Known::XMP, 32),
-    (0, false, Known::A, 33),
-    (0, false, Known::ADDRESS, 34),
-    (0, false, Known::APPLET, 36),
-    (0, false, Known::ARTICLE, 34),
-    (0, false, Known::ASIDE, 34),
-    (0, false, Known::B, 33),
-    (0, false, Known::BIG, 33),
-    (0, false, Known::BLOCKQUOTE, 34),
-    (0, false, Known::BODY, 37),
-    (0, false, Known::BR, 38),
-    (0, false, Known::BUTTON, 34),
-    (0, false, Known::CENTER, 34),
-    (0, false, Known::CODE, 33),
-    (0, false, Known::DD, 39),
-    (0, false, Known::DETAILS, 34),
-    (0, false, Known::DIALOG, 34),
-    (0, false, Known::DIR, 34),
-    (0, false, Known::DIV, 34),
-    (0, false, Known::DL, 34),
-    (0, false, Known::DT, 39),
-    (0, false, Known::EM, 33),
-    (0, false, Known::FIELDSET, 34),
-    (0, false, Known::FIGCAPTION, 34),
-    (0, false, Known::FIGURE, 34),
-    (0, false, Known::FONT, 33),
-    (0, false, Known::FOOTER, 34),
-    (0, false, Known::FORM, 40),
-    (0, false, Known::H1, 41),
-    (0, false, Known::H2, 41),
-    (0, false, Known::H3, 41),
-    (0, false, Known::H4, 41),
-    (0, false, Known::H5, 41),
-    (0, false, Known::H6, 41),
-    (0, false, Known::HEADER, 34),
-    (0, false, Known::HGROUP, 34),
-    (0, false, Known::HTML, 42),
-    (0, false, Known::I, 33),
-    (0, false, Known::LI, 43),
-    (0, false, Known::LISTING, 34),
-    (0, false, Known::MAIN, 34),
-    (0, false, Known::MARQUEE, 36),
-    (0, false, Known::MENU, 34),
-    (0, false, Known::NAV, 34),
-    (0, false, Known::NOBR, 33),
-    (0, false, Known::OBJECT, 36),
-    (0, false, Known::OL, 34),
-    (0, false, Known::P, 44),
-    (0, false, Known::PRE, 34),
-    (0, false, Known::S, 33),
-    (0, false, Known::SEARCH, 34),
-    (0, false, Known::SECTION, 34),
-    (0, false, Known::SMALL, 33),
-    (0, false, Known::STRIKE, 33),
-    (0, false, Known::STRONG, 33),
-    (0, false, Known::SUMMARY, 34),
-    (0, false, Known::TEMPLATE, 6),
-    (0, false, Known::TT, 33),
-    (0, false, Known::U, 33),
-    (0, false, Known::UL, 34),
+/// a start tag, the number of the name, the group.
+pub(super) static NAMED: [(usize, bool, usize, u8); 165] = [
+    (0, true, 0, 0), // a
+    (0, true, 1, 1), // address
+    (0, true, 9, 3), // applet
+    (0, true, 10, 4), // area
+    (0, true, 11, 1), // article
+    (0, true, 12, 1), // aside
+    (0, true, 13, 5), // b
+    (0, true, 14, 6), // base
+    (0, true, 15, 6), // basefont
+    (0, true, 16, 6), // bgsound
+    (0, true, 17, 5), // big
+    (0, true, 18, 1), // blockquote
+    (0, true, 19, 7), // body
+    (0, true, 20, 4), // br
+    (0, true, 21, 8), // button
+    (0, true, 22, 9), // caption
+    (0, true, 23, 1), // center
+    (0, true, 25, 5), // code
+    (0, true, 26, 9), // col
+    (0, true, 27, 9), // colgroup
+    (0, true, 28, 10), // dd
+    (0, true, 30, 1), // details
+    (0, true, 31, 1), // dialog
+    (0, true, 32, 1), // dir
+    (0, true, 33, 1), // div
+    (0, true, 34, 1), // dl
+    (0, true, 35, 10), // dt
+    (0, true, 36, 5), // em
+    (0, true, 37, 4), // embed
+    (0, true, 63, 1), // fieldset
+    (0, true, 64, 1), // figcaption
+    (0, true, 65, 1), // figure
+    (0, true, 66, 5), // font
+    (0, true, 67, 1), // footer
+    (0, true, 69, 11), // form
+    (0, true, 70, 9), // frame
+    (0, true, 71, 12), // frameset
+    (0, true, 73, 13), // h1
+    (0, true, 74, 13), // h2
+    (0, true, 75, 13), // h3
+    (0, true, 76, 13), // h4
+    (0, true, 77, 13), // h5
+    (0, true, 78, 13), // h6
+    (0, true, 79, 9), // head
+    (0, true, 80, 1), // header
+    (0, true, 81, 1), // hgroup
+    (0, true, 82, 14), // hr
+    (0, true, 83, 15), // html
+    (0, true, 84, 5), // i
+    (0, true, 85, 16), // iframe
+    (0, true, 86, 17), // image
+    (0, true, 87, 4), // img
+    (0, true, 88, 18), // input
+    (0, true, 89, 4), // keygen
+    (0, true, 90, 19), // li
+    (0, true, 92, 6), // link
+    (0, true, 93, 20), // listing
+    (0, true, 94, 1), // main
+    (0, true, 96, 3), // marquee
+    (0, true, 97, 21), // math
+    (0, true, 98, 1), // menu
+    (0, true, 99, 6), // meta
+    (0, true, 106, 1), // nav
+    (0, true, 107, 22), // nobr
+    (0, true, 108, 23), // noembed
+    (0, true, 109, 6), // noframes
+    (0, true, 111, 3), // object
+    (0, true, 112, 1), // ol
+    (0, true, 113, 24), // optgroup
+    (0, true, 114, 24), // option
+    (0, true, 115, 1), // p
+    (0, true, 116, 25), // param
+    (0, true, 117, 26), // plaintext
+    (0, true, 118, 20), // pre
+    (0, true, 120, 27), // rb
+    (0, true, 121, 28), // rp
+    (0, true, 122, 28), // rt
+    (0, true, 123, 27), // rtc
+    (0, true, 125, 5), // s
+    (0, true, 126, 6), // script
+    (0, true, 127, 1), // search
+    (0, true, 128, 1), // section
+    (0, true, 129, 29), // select
+    (0, true, 130, 5), // small
+    (0, true, 131, 25), // source
+    (0, true, 133, 5), // strike
+    (0, true, 134, 5), // strong
+    (0, true, 135, 6), // style
+    (0, true, 137, 1), // summary
+    (0, true, 139, 21), // svg
+    (0, true, 140, 30), // table
+    (0, true, 141, 9), // tbody
+    (0, true, 142, 9), // td
+    (0, true, 143, 6), // template
+    (0, true, 145, 31), // textarea
+    (0, true, 146, 9), // tfoot
+    (0, true, 147, 9), // th
+    (0, true, 148, 9), // thead
+    (0, true, 149, 6), // title
+    (0, true, 150, 9), // tr
+    (0, true, 151, 25), // track
+    (0, true, 152, 5), // tt
+    (0, true, 153, 5), // u
+    (0, true, 154, 1), // ul
+    (0, true, 156, 4), // wbr
+    (0, true, 157, 32), // xmp
+    (0, false, 0, 33), // a
+    (0, false, 1, 34), // address
+    (0, false, 9, 36), // applet
+    (0, false, 11, 34), // article
+    (0, false, 12, 34), // aside
+    (0, false, 13, 33), // b
+    (0, false, 17, 33), // big
+    (0, false, 18, 34), // blockquote
+    (0, false, 19, 37), // body
+    (0, false, 20, 38), // br
+    (0, false, 21, 34), // button
+    (0, false, 23, 34), // center
+    (0, false, 25, 33), // code
+    (0, false, 28, 39), // dd
+    (0, false, 30, 34), // details
+    (0, false, 31, 34), // dialog
+    (0, false, 32, 34), // dir
+    (0, false, 33, 34), // div
+    (0, false, 34, 34), // dl
+    (0, false, 35, 39), // dt
+    (0, false, 36, 33), // em
+    (0, false, 63, 34), // fieldset
+    (0, false, 64, 34), // figcaption
+    (0, false, 65, 34), // figure
+    (0, false, 66, 33), // font
+    (0, false, 67, 34), // footer
+    (0, false, 69, 40), // form
+    (0, false, 73, 41), // h1
+    (0, false, 74, 41), // h2
+    (0, false, 75, 41), // h3
+    (0, false, 76, 41), // h4
+    (0, false, 77, 41), // h5
+    (0, false, 78, 41), // h6
+    (0, false, 80, 34), // header
+    (0, false, 81, 34), // hgroup
+    (0, false, 83, 42), // html
+    (0, false, 84, 33), // i
+    (0, false, 90, 43), // li
+    (0, false, 93, 34), // listing
+    (0, false, 94, 34), // main
+    (0, false, 96, 36), // marquee
+    (0, false, 98, 34), // menu
+    (0, false, 106, 34), // nav
+    (0, false, 107, 33), // nobr
+    (0, false, 111, 36), // object
+    (0, false, 112, 34), // ol
+    (0, false, 115, 44), // p
+    (0, false, 118, 34), // pre
+    (0, false, 125, 33), // s
+    (0, false, 127, 34), // search
+    (0, false, 128, 34), // section
+    (0, false, 130, 33), // small
+    (0, false, 133, 33), // strike
+    (0, false, 134, 33), // strong
+    (0, false, 137, 34), // summary
+    (0, false, 143, 6), // template
+    (0, false, 152, 33), // tt
+    (0, false, 153, 33), // u
+    (0, false, 154, 34), // ul
 ];
 
 /// The groups of what has no known name, a row for each and a column a mode: other start, other end, white, nul, other, comment, doctype, end of input.

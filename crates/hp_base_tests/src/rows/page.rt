@@ -4,79 +4,79 @@ use super::Step::{self, Asked, Does};
 use hp_elements::{Act, Known, Mode, Rest, Scope, SetName, Test, Which};
 
 /// The known names whose tag has another group than the tag of another name: the column of the mode, whether it is
-/// a start tag, the name, the group.
-pub(super) static NAMED: [(usize, bool, Known, u8); 71] = [
-    (1, true, Known::HTML, 1),
-    (1, false, Known::BODY, 0),
-    (1, false, Known::BR, 0),
-    (1, false, Known::HEAD, 0),
-    (1, false, Known::HTML, 0),
-    (2, true, Known::HEAD, 1),
-    (2, true, Known::HTML, 2),
-    (2, false, Known::BODY, 0),
-    (2, false, Known::BR, 0),
-    (2, false, Known::HEAD, 0),
-    (2, false, Known::HTML, 0),
-    (3, true, Known::BASE, 1),
-    (3, true, Known::BASEFONT, 1),
-    (3, true, Known::BGSOUND, 1),
-    (3, true, Known::HEAD, 2),
-    (3, true, Known::HTML, 3),
-    (3, true, Known::LINK, 1),
-    (3, true, Known::META, 1),
-    (3, true, Known::NOFRAMES, 4),
-    (3, true, Known::NOSCRIPT, 5),
-    (3, true, Known::SCRIPT, 6),
-    (3, true, Known::STYLE, 4),
-    (3, true, Known::TEMPLATE, 7),
-    (3, true, Known::TITLE, 8),
-    (3, false, Known::BODY, 0),
-    (3, false, Known::BR, 0),
-    (3, false, Known::HEAD, 9),
-    (3, false, Known::HTML, 0),
-    (3, false, Known::TEMPLATE, 10),
-    (4, true, Known::BASEFONT, 1),
-    (4, true, Known::BGSOUND, 1),
-    (4, true, Known::HEAD, 2),
-    (4, true, Known::HTML, 3),
-    (4, true, Known::LINK, 1),
-    (4, true, Known::META, 1),
-    (4, true, Known::NOFRAMES, 1),
-    (4, true, Known::NOSCRIPT, 2),
-    (4, true, Known::STYLE, 1),
-    (4, false, Known::BR, 0),
-    (4, false, Known::NOSCRIPT, 4),
-    (5, true, Known::BASE, 1),
-    (5, true, Known::BASEFONT, 1),
-    (5, true, Known::BGSOUND, 1),
-    (5, true, Known::BODY, 2),
-    (5, true, Known::FRAMESET, 3),
-    (5, true, Known::HEAD, 4),
-    (5, true, Known::HTML, 5),
-    (5, true, Known::LINK, 1),
-    (5, true, Known::META, 1),
-    (5, true, Known::NOFRAMES, 1),
-    (5, true, Known::SCRIPT, 1),
-    (5, true, Known::STYLE, 1),
-    (5, true, Known::TEMPLATE, 1),
-    (5, true, Known::TITLE, 1),
-    (5, false, Known::BODY, 0),
-    (5, false, Known::BR, 0),
-    (5, false, Known::HTML, 0),
-    (5, false, Known::TEMPLATE, 6),
-    (6, true, Known::HTML, 1),
-    (6, false, Known::HTML, 2),
-    (7, true, Known::FRAME, 1),
-    (7, true, Known::FRAMESET, 2),
-    (7, true, Known::HTML, 3),
-    (7, true, Known::NOFRAMES, 4),
-    (7, false, Known::FRAMESET, 5),
-    (8, true, Known::HTML, 1),
-    (8, true, Known::NOFRAMES, 2),
-    (8, false, Known::HTML, 3),
-    (9, true, Known::HTML, 1),
-    (10, true, Known::HTML, 1),
-    (10, true, Known::NOFRAMES, 2),
+/// a start tag, the number of the name, the group.
+pub(super) static NAMED: [(usize, bool, usize, u8); 71] = [
+    (1, true, 83, 1), // html
+    (1, false, 19, 0), // body
+    (1, false, 20, 0), // br
+    (1, false, 79, 0), // head
+    (1, false, 83, 0), // html
+    (2, true, 79, 1), // head
+    (2, true, 83, 2), // html
+    (2, false, 19, 0), // body
+    (2, false, 20, 0), // br
+    (2, false, 79, 0), // head
+    (2, false, 83, 0), // html
+    (3, true, 14, 1), // base
+    (3, true, 15, 1), // basefont
+    (3, true, 16, 1), // bgsound
+    (3, true, 79, 2), // head
+    (3, true, 83, 3), // html
+    (3, true, 92, 1), // link
+    (3, true, 99, 1), // meta
+    (3, true, 109, 4), // noframes
+    (3, true, 110, 5), // noscript
+    (3, true, 126, 6), // script
+    (3, true, 135, 4), // style
+    (3, true, 143, 7), // template
+    (3, true, 149, 8), // title
+    (3, false, 19, 0), // body
+    (3, false, 20, 0), // br
+    (3, false, 79, 9), // head
+    (3, false, 83, 0), // html
+    (3, false, 143, 10), // template
+    (4, true, 15, 1), // basefont
+    (4, true, 16, 1), // bgsound
+    (4, true, 79, 2), // head
+    (4, true, 83, 3), // html
+    (4, true, 92, 1), // link
+    (4, true, 99, 1), // meta
+    (4, true, 109, 1), // noframes
+    (4, true, 110, 2), // noscript
+    (4, true, 135, 1), // style
+    (4, false, 20, 0), // br
+    (4, false, 110, 4), // noscript
+    (5, true, 14, 1), // base
+    (5, true, 15, 1), // basefont
+    (5, true, 16, 1), // bgsound
+    (5, true, 19, 2), // body
+    (5, true, 71, 3), // frameset
+    (5, true, 79, 4), // head
+    (5, true, 83, 5), // html
+    (5, true, 92, 1), // link
+    (5, true, 99, 1), // meta
+    (5, true, 109, 1), // noframes
+    (5, true, 126, 1), // script
+    (5, true, 135, 1), // style
+    (5, true, 143, 1), // template
+    (5, true, 149, 1), // title
+    (5, false, 19, 0), // body
+    (5, false, 20, 0), // br
+    (5, false, 83, 0), // html
+    (5, false, 143, 6), // template
+    (6, true, 83, 1), // html
+    (6, false, 83, 2), // html
+    (7, true, 70, 1), // frame
+    (7, true, 71, 2), // frameset
+    (7, true, 83, 3), // html
+    (7, true, 109, 4), // noframes
+    (7, false, 71, 5), // frameset
+    (8, true, 83, 1), // html
+    (8, true, 109, 2), // noframes
+    (8, false, 83, 3), // html
+    (9, true, 83, 1), // html
+    (10, true, 83, 1), // html
+    (10, true, 109, 2), // noframes
 ];
 
 /// The groups of what has no known name, a row for each and a column a mode: other start, other end, white, nul, other, comment, doctype, end of input.

@@ -4,105 +4,105 @@ use super::Step::{self, Asked, Does};
 use hp_elements::{Act, Known, Mode, Rest, Scope, SetName, Test, Which};
 
 /// The known names whose tag has another group than the tag of another name: the column of the mode, whether it is
-/// a start tag, the name, the group.
-pub(super) static NAMED: [(usize, bool, Known, u8); 97] = [
-    (0, true, Known::HR, 1),
-    (0, true, Known::HTML, 2),
-    (0, true, Known::INPUT, 3),
-    (0, true, Known::KEYGEN, 3),
-    (0, true, Known::OPTGROUP, 4),
-    (0, true, Known::OPTION, 5),
-    (0, true, Known::SCRIPT, 6),
-    (0, true, Known::SELECT, 7),
-    (0, true, Known::TEMPLATE, 6),
-    (0, true, Known::TEXTAREA, 3),
-    (0, false, Known::OPTGROUP, 8),
-    (0, false, Known::OPTION, 9),
-    (0, false, Known::SELECT, 7),
-    (0, false, Known::TEMPLATE, 6),
-    (1, true, Known::CAPTION, 1),
-    (1, true, Known::TABLE, 1),
-    (1, true, Known::TBODY, 1),
-    (1, true, Known::TD, 1),
-    (1, true, Known::TFOOT, 1),
-    (1, true, Known::TH, 1),
-    (1, true, Known::THEAD, 1),
-    (1, true, Known::TR, 1),
-    (1, false, Known::CAPTION, 2),
-    (1, false, Known::TABLE, 2),
-    (1, false, Known::TBODY, 2),
-    (1, false, Known::TD, 2),
-    (1, false, Known::TFOOT, 2),
-    (1, false, Known::TH, 2),
-    (1, false, Known::THEAD, 2),
-    (1, false, Known::TR, 2),
-    (2, true, Known::BASE, 1),
-    (2, true, Known::BASEFONT, 1),
-    (2, true, Known::BGSOUND, 1),
-    (2, true, Known::CAPTION, 2),
-    (2, true, Known::COL, 3),
-    (2, true, Known::COLGROUP, 2),
-    (2, true, Known::LINK, 1),
-    (2, true, Known::META, 1),
-    (2, true, Known::NOFRAMES, 1),
-    (2, true, Known::SCRIPT, 1),
-    (2, true, Known::STYLE, 1),
-    (2, true, Known::TBODY, 2),
-    (2, true, Known::TD, 4),
-    (2, true, Known::TEMPLATE, 1),
-    (2, true, Known::TFOOT, 2),
-    (2, true, Known::TH, 4),
-    (2, true, Known::THEAD, 2),
-    (2, true, Known::TITLE, 1),
-    (2, true, Known::TR, 5),
-    (2, false, Known::TEMPLATE, 1),
-    (3, true, Known::B, 1),
-    (3, true, Known::BIG, 1),
-    (3, true, Known::BLOCKQUOTE, 1),
-    (3, true, Known::BODY, 1),
-    (3, true, Known::BR, 1),
-    (3, true, Known::CENTER, 1),
-    (3, true, Known::CODE, 1),
-    (3, true, Known::DD, 1),
-    (3, true, Known::DIV, 1),
-    (3, true, Known::DL, 1),
-    (3, true, Known::DT, 1),
-    (3, true, Known::EM, 1),
-    (3, true, Known::EMBED, 1),
-    (3, true, Known::FONT, 2),
-    (3, true, Known::H1, 1),
-    (3, true, Known::H2, 1),
-    (3, true, Known::H3, 1),
-    (3, true, Known::H4, 1),
-    (3, true, Known::H5, 1),
-    (3, true, Known::H6, 1),
-    (3, true, Known::HEAD, 1),
-    (3, true, Known::HR, 1),
-    (3, true, Known::I, 1),
-    (3, true, Known::IMG, 1),
-    (3, true, Known::LI, 1),
-    (3, true, Known::LISTING, 1),
-    (3, true, Known::MENU, 1),
-    (3, true, Known::META, 1),
-    (3, true, Known::NOBR, 1),
-    (3, true, Known::OL, 1),
-    (3, true, Known::P, 1),
-    (3, true, Known::PRE, 1),
-    (3, true, Known::RUBY, 1),
-    (3, true, Known::S, 1),
-    (3, true, Known::SMALL, 1),
-    (3, true, Known::SPAN, 1),
-    (3, true, Known::STRIKE, 1),
-    (3, true, Known::STRONG, 1),
-    (3, true, Known::SUB, 1),
-    (3, true, Known::SUP, 1),
-    (3, true, Known::TABLE, 1),
-    (3, true, Known::TT, 1),
-    (3, true, Known::U, 1),
-    (3, true, Known::UL, 1),
-    (3, true, Known::VAR, 1),
-    (3, false, Known::BR, 1),
-    (3, false, Known::P, 1),
+/// a start tag, the number of the name, the group.
+pub(super) static NAMED: [(usize, bool, usize, u8); 97] = [
+    (0, true, 82, 1), // hr
+    (0, true, 83, 2), // html
+    (0, true, 88, 3), // input
+    (0, true, 89, 3), // keygen
+    (0, true, 113, 4), // optgroup
+    (0, true, 114, 5), // option
+    (0, true, 126, 6), // script
+    (0, true, 129, 7), // select
+    (0, true, 143, 6), // template
+    (0, true, 145, 3), // textarea
+    (0, false, 113, 8), // optgroup
+    (0, false, 114, 9), // option
+    (0, false, 129, 7), // select
+    (0, false, 143, 6), // template
+    (1, true, 22, 1), // caption
+    (1, true, 140, 1), // table
+    (1, true, 141, 1), // tbody
+    (1, true, 142, 1), // td
+    (1, true, 146, 1), // tfoot
+    (1, true, 147, 1), // th
+    (1, true, 148, 1), // thead
+    (1, true, 150, 1), // tr
+    (1, false, 22, 2), // caption
+    (1, false, 140, 2), // table
+    (1, false, 141, 2), // tbody
+    (1, false, 142, 2), // td
+    (1, false, 146, 2), // tfoot
+    (1, false, 147, 2), // th
+    (1, false, 148, 2), // thead
+    (1, false, 150, 2), // tr
+    (2, true, 14, 1), // base
+    (2, true, 15, 1), // basefont
+    (2, true, 16, 1), // bgsound
+    (2, true, 22, 2), // caption
+    (2, true, 26, 3), // col
+    (2, true, 27, 2), // colgroup
+    (2, true, 92, 1), // link
+    (2, true, 99, 1), // meta
+    (2, true, 109, 1), // noframes
+    (2, true, 126, 1), // script
+    (2, true, 135, 1), // style
+    (2, true, 141, 2), // tbody
+    (2, true, 142, 4), // td
+    (2, true, 143, 1), // template
+    (2, true, 146, 2), // tfoot
+    (2, true, 147, 4), // th
+    (2, true, 148, 2), // thead
+    (2, true, 149, 1), // title
+    (2, true, 150, 5), // tr
+    (2, false, 143, 1), // template
+    (3, true, 13, 1), // b
+    (3, true, 17, 1), // big
+    (3, true, 18, 1), // blockquote
+    (3, true, 19, 1), // body
+    (3, true, 20, 1), // br
+    (3, true, 23, 1), // center
+    (3, true, 25, 1), // code
+    (3, true, 28, 1), // dd
+    (3, true, 33, 1), // div
+    (3, true, 34, 1), // dl
+    (3, true, 35, 1), // dt
+    (3, true, 36, 1), // em
+    (3, true, 37, 1), // embed
+    (3, true, 66, 2), // font
+    (3, true, 73, 1), // h1
+    (3, true, 74, 1), // h2
+    (3, true, 75, 1), // h3
+    (3, true, 76, 1), // h4
+    (3, true, 77, 1), // h5
+    (3, true, 78, 1), // h6
+    (3, true, 79, 1), // head
+    (3, true, 82, 1), // hr
+    (3, true, 84, 1), // i
+    (3, true, 87, 1), // img
+    (3, true, 90, 1), // li
+    (3, true, 93, 1), // listing
+    (3, true, 98, 1), // menu
+    (3, true, 99, 1), // meta
+    (3, true, 107, 1), // nobr
+    (3, true, 112, 1), // ol
+    (3, true, 115, 1), // p
+    (3, true, 118, 1), // pre
+    (3, true, 124, 1), // ruby
+    (3, true, 125, 1), // s
+    (3, true, 130, 1), // small
+    (3, true, 132, 1), // span
+    (3, true, 133, 1), // strike
+    (3, true, 134, 1), // strong
+    (3, true, 136, 1), // sub
+    (3, true, 138, 1), // sup
+    (3, true, 140, 1), // table
+    (3, true, 152, 1), // tt
+    (3, true, 153, 1), // u
+    (3, true, 154, 1), // ul
+    (3, true, 155, 1), // var
+    (3, false, 20, 1), // br
+    (3, false, 115, 1), // p
 ];
 
 /// The groups of what has no known name, a row for each and a column a mode: other start, other end, white, nul, other, comment, doctype, end of input.

@@ -4,126 +4,126 @@ use super::Step::{self, Asked, Does};
 use hp_elements::{Act, Known, Mode, Rest, Scope, SetName, Test, Which};
 
 /// The known names whose tag has another group than the tag of another name: the column of the mode, whether it is
-/// a start tag, the name, the group.
-pub(super) static NAMED: [(usize, bool, Known, u8); 118] = [
-    (0, true, Known::CAPTION, 1),
-    (0, true, Known::COL, 2),
-    (0, true, Known::COLGROUP, 3),
-    (0, true, Known::FORM, 4),
-    (0, true, Known::INPUT, 5),
-    (0, true, Known::SCRIPT, 6),
-    (0, true, Known::STYLE, 6),
-    (0, true, Known::TABLE, 7),
-    (0, true, Known::TBODY, 8),
-    (0, true, Known::TD, 9),
-    (0, true, Known::TEMPLATE, 6),
-    (0, true, Known::TFOOT, 8),
-    (0, true, Known::TH, 9),
-    (0, true, Known::THEAD, 8),
-    (0, true, Known::TR, 9),
-    (0, false, Known::BODY, 10),
-    (0, false, Known::CAPTION, 10),
-    (0, false, Known::COL, 10),
-    (0, false, Known::COLGROUP, 10),
-    (0, false, Known::HTML, 10),
-    (0, false, Known::TABLE, 11),
-    (0, false, Known::TBODY, 10),
-    (0, false, Known::TD, 10),
-    (0, false, Known::TEMPLATE, 6),
-    (0, false, Known::TFOOT, 10),
-    (0, false, Known::TH, 10),
-    (0, false, Known::THEAD, 10),
-    (0, false, Known::TR, 10),
-    (2, true, Known::CAPTION, 1),
-    (2, true, Known::COL, 2),
-    (2, true, Known::COLGROUP, 2),
-    (2, true, Known::TBODY, 2),
-    (2, true, Known::TD, 2),
-    (2, true, Known::TFOOT, 2),
-    (2, true, Known::TH, 2),
-    (2, true, Known::THEAD, 2),
-    (2, true, Known::TR, 2),
-    (2, false, Known::BODY, 3),
-    (2, false, Known::CAPTION, 4),
-    (2, false, Known::COL, 3),
-    (2, false, Known::COLGROUP, 3),
-    (2, false, Known::HTML, 3),
-    (2, false, Known::TABLE, 2),
-    (2, false, Known::TBODY, 3),
-    (2, false, Known::TD, 3),
-    (2, false, Known::TFOOT, 3),
-    (2, false, Known::TH, 3),
-    (2, false, Known::THEAD, 3),
-    (2, false, Known::TR, 3),
-    (3, true, Known::COL, 1),
-    (3, true, Known::HTML, 2),
-    (3, true, Known::TEMPLATE, 3),
-    (3, false, Known::COL, 4),
-    (3, false, Known::COLGROUP, 5),
-    (3, false, Known::TEMPLATE, 3),
-    (4, true, Known::CAPTION, 1),
-    (4, true, Known::COL, 1),
-    (4, true, Known::COLGROUP, 1),
-    (4, true, Known::TBODY, 1),
-    (4, true, Known::TD, 2),
-    (4, true, Known::TFOOT, 1),
-    (4, true, Known::TH, 2),
-    (4, true, Known::THEAD, 1),
-    (4, true, Known::TR, 3),
-    (4, false, Known::BODY, 4),
-    (4, false, Known::CAPTION, 4),
-    (4, false, Known::COL, 4),
-    (4, false, Known::COLGROUP, 4),
-    (4, false, Known::HTML, 4),
-    (4, false, Known::TABLE, 1),
-    (4, false, Known::TBODY, 5),
-    (4, false, Known::TD, 4),
-    (4, false, Known::TFOOT, 5),
-    (4, false, Known::TH, 4),
-    (4, false, Known::THEAD, 5),
-    (4, false, Known::TR, 4),
-    (5, true, Known::CAPTION, 1),
-    (5, true, Known::COL, 1),
-    (5, true, Known::COLGROUP, 1),
-    (5, true, Known::TBODY, 1),
-    (5, true, Known::TD, 2),
-    (5, true, Known::TFOOT, 1),
-    (5, true, Known::TH, 2),
-    (5, true, Known::THEAD, 1),
-    (5, true, Known::TR, 3),
-    (5, false, Known::BODY, 4),
-    (5, false, Known::CAPTION, 4),
-    (5, false, Known::COL, 4),
-    (5, false, Known::COLGROUP, 4),
-    (5, false, Known::HTML, 4),
-    (5, false, Known::TABLE, 1),
-    (5, false, Known::TBODY, 5),
-    (5, false, Known::TD, 4),
-    (5, false, Known::TFOOT, 5),
-    (5, false, Known::TH, 4),
-    (5, false, Known::THEAD, 5),
-    (5, false, Known::TR, 6),
-    (6, true, Known::CAPTION, 1),
-    (6, true, Known::COL, 1),
-    (6, true, Known::COLGROUP, 1),
-    (6, true, Known::TBODY, 1),
-    (6, true, Known::TD, 1),
-    (6, true, Known::TFOOT, 1),
-    (6, true, Known::TH, 1),
-    (6, true, Known::THEAD, 1),
-    (6, true, Known::TR, 1),
-    (6, false, Known::BODY, 2),
-    (6, false, Known::CAPTION, 2),
-    (6, false, Known::COL, 2),
-    (6, false, Known::COLGROUP, 2),
-    (6, false, Known::HTML, 2),
-    (6, false, Known::TABLE, 3),
-    (6, false, Known::TBODY, 3),
-    (6, false, Known::TD, 4),
-    (6, false, Known::TFOOT, 3),
-    (6, false, Known::TH, 4),
-    (6, false, Known::THEAD, 3),
-    (6, false, Known::TR, 3),
+/// a start tag, the number of the name, the group.
+pub(super) static NAMED: [(usize, bool, usize, u8); 118] = [
+    (0, true, 22, 1), // caption
+    (0, true, 26, 2), // col
+    (0, true, 27, 3), // colgroup
+    (0, true, 69, 4), // form
+    (0, true, 88, 5), // input
+    (0, true, 126, 6), // script
+    (0, true, 135, 6), // style
+    (0, true, 140, 7), // table
+    (0, true, 141, 8), // tbody
+    (0, true, 142, 9), // td
+    (0, true, 143, 6), // template
+    (0, true, 146, 8), // tfoot
+    (0, true, 147, 9), // th
+    (0, true, 148, 8), // thead
+    (0, true, 150, 9), // tr
+    (0, false, 19, 10), // body
+    (0, false, 22, 10), // caption
+    (0, false, 26, 10), // col
+    (0, false, 27, 10), // colgroup
+    (0, false, 83, 10), // html
+    (0, false, 140, 11), // table
+    (0, false, 141, 10), // tbody
+    (0, false, 142, 10), // td
+    (0, false, 143, 6), // template
+    (0, false, 146, 10), // tfoot
+    (0, false, 147, 10), // th
+    (0, false, 148, 10), // thead
+    (0, false, 150, 10), // tr
+    (2, true, 22, 1), // caption
+    (2, true, 26, 2), // col
+    (2, true, 27, 2), // colgroup
+    (2, true, 141, 2), // tbody
+    (2, true, 142, 2), // td
+    (2, true, 146, 2), // tfoot
+    (2, true, 147, 2), // th
+    (2, true, 148, 2), // thead
+    (2, true, 150, 2), // tr
+    (2, false, 19, 3), // body
+    (2, false, 22, 4), // caption
+    (2, false, 26, 3), // col
+    (2, false, 27, 3), // colgroup
+    (2, false, 83, 3), // html
+    (2, false, 140, 2), // table
+    (2, false, 141, 3), // tbody
+    (2, false, 142, 3), // td
+    (2, false, 146, 3), // tfoot
+    (2, false, 147, 3), // th
+    (2, false, 148, 3), // thead
+    (2, false, 150, 3), // tr
+    (3, true, 26, 1), // col
+    (3, true, 83, 2), // html
+    (3, true, 143, 3), // template
+    (3, false, 26, 4), // col
+    (3, false, 27, 5), // colgroup
+    (3, false, 143, 3), // template
+    (4, true, 22, 1), // caption
+    (4, true, 26, 1), // col
+    (4, true, 27, 1), // colgroup
+    (4, true, 141, 1), // tbody
+    (4, true, 142, 2), // td
+    (4, true, 146, 1), // tfoot
+    (4, true, 147, 2), // th
+    (4, true, 148, 1), // thead
+    (4, true, 150, 3), // tr
+    (4, false, 19, 4), // body
+    (4, false, 22, 4), // caption
+    (4, false, 26, 4), // col
+    (4, false, 27, 4), // colgroup
+    (4, false, 83, 4), // html
+    (4, false, 140, 1), // table
+    (4, false, 141, 5), // tbody
+    (4, false, 142, 4), // td
+    (4, false, 146, 5), // tfoot
+    (4, false, 147, 4), // th
+    (4, false, 148, 5), // thead
+    (4, false, 150, 4), // tr
+    (5, true, 22, 1), // caption
+    (5, true, 26, 1), // col
+    (5, true, 27, 1), // colgroup
+    (5, true, 141, 1), // tbody
+    (5, true, 142, 2), // td
+    (5, true, 146, 1), // tfoot
+    (5, true, 147, 2), // th
+    (5, true, 148, 1), // thead
+    (5, true, 150, 3), // tr
+    (5, false, 19, 4), // body
+    (5, false, 22, 4), // caption
+    (5, false, 26, 4), // col
+    (5, false, 27, 4), // colgroup
+    (5, false, 83, 4), // html
+    (5, false, 140, 1), // table
+    (5, false, 141, 5), // tbody
+    (5, false, 142, 4), // td
+    (5, false, 146, 5), // tfoot
+    (5, false, 147, 4), // th
+    (5, false, 148, 5), // thead
+    (5, false, 150, 6), // tr
+    (6, true, 22, 1), // caption
+    (6, true, 26, 1), // col
+    (6, true, 27, 1), // colgroup
+    (6, true, 141, 1), // tbody
+    (6, true, 142, 1), // td
+    (6, true, 146, 1), // tfoot
+    (6, true, 147, 1), // th
+    (6, true, 148, 1), // thead
+    (6, true, 150, 1), // tr
+    (6, false, 19, 2), // body
+    (6, false, 22, 2), // caption
+    (6, false, 26, 2), // col
+    (6, false, 27, 2), // colgroup
+    (6, false, 83, 2), // html
+    (6, false, 140, 3), // table
+    (6, false, 141, 3), // tbody
+    (6, false, 142, 4), // td
+    (6, false, 146, 3), // tfoot
+    (6, false, 147, 4), // th
+    (6, false, 148, 3), // thead
+    (6, false, 150, 3), // tr
 ];
 
 /// The groups of what has no known name, a row for each and a column a mode: other start, other end, white, nul, other, comment, doctype, end of input.
