@@ -3,7 +3,7 @@ ghost use Rattle.std.specs.Prelude.{◌≡◌, OnOk, IfOk};
 
 use crate::NoMemory;
 use crate::owned::OwnedText;
-use hp_elements::{Attribute, AttributeSpace, Chain, Name};
+use hp_elements::{Attribute, AttributeSpace, Chain, Name, copied_attributes};
 use std::alloc::Global;
 use std::mem;
 
@@ -94,13 +94,13 @@ impl Building {
     pub fn copy(&self, alloc: Global) -> Result<Building, NoMemory>
         ensures { IfOk result (λ copy. copy ≡ self.now) }
     {
-        match self {
-            Building::Nothing => Ok(Building::Nothing),
-            Building::StartTag(tag) => Ok(Building::StartTag(copied_tag(alloc, tag)?)),
-            Building::EndTag(name) => Ok(Building::EndTag(name.copy(alloc)?)),
-            Building::Comment(text) => Ok(Building::Comment(text.copy(alloc)?)),
-            Building::Doctype(doctype) => Ok(Building::Doctype(copied_doctype(alloc, doctype)?)),
-        }
+        Ok(match self {
+            Building::Nothing => Building::Nothing,
+            Building::StartTag(tag) => Building::StartTag(copied_tag(alloc, tag)?),
+            Building::EndTag(name) => Building::EndTag(name.copy(alloc)?),
+            Building::Comment(text) => Building::Comment(text.copy(alloc)?),
+            Building::Doctype(doctype) => Building::Doctype(copied_doctype(alloc, doctype)?),
+        })
     }
 
     /// Begins a new attribute of a start tag, behind the one under construction. One whose name the tag has already is
@@ -254,10 +254,19 @@ fn finished_attribute(alloc: Global, attribute: &mut NewAttribute) -> Result<Att
 fn copied_tag(alloc: Global, tag: &NewTag) -> Result<NewTag, NoMemory>
     ensures { IfOk result (λ copy. copy ≡ tag.now) }
 {
+    let Ok(attributes) = copied_attributes(alloc, &tag.attributes) else {
+        return Err(NoMemory);
+    };
+    let Ok(name) = tag.name.copy(alloc) else {
+        return Err(NoMemory);
+    };
+    let Ok(attribute) = copied_attribute(alloc, &tag.attribute) else {
+        return Err(NoMemory);
+    };
     Ok(NewTag {
-        attributes: copied_attributes(alloc, &tag.attributes)?,
-        name: tag.name.copy(alloc)?,
-        attribute: copied_attribute(alloc, &tag.attribute)?,
+        name,
+        attributes,
+        attribute,
         self_closing: tag.self_closing,
     })
 }
@@ -277,26 +286,22 @@ fn copied_attribute(
     }
 }
 
-fn copied_attributes(
-    alloc: Global,
-    attributes: &Chain<Attribute>,
-) -> Result<Chain<Attribute>, NoMemory>
-    ensures { IfOk result (λ copy. copy ≡ attributes.now) }
-{
-    let mut copy = Chain::new();
-    for attribute in attributes.iter() {
-        copy.push(alloc, attribute.copy(alloc)?)?;
-    }
-    Ok(copy)
-}
-
 fn copied_doctype(alloc: Global, doctype: &NewDoctype) -> Result<NewDoctype, NoMemory>
     ensures { IfOk result (λ copy. copy ≡ doctype.now) }
 {
+    let Ok(name) = copied_part(alloc, &doctype.name) else {
+        return Err(NoMemory);
+    };
+    let Ok(public) = copied_part(alloc, &doctype.public) else {
+        return Err(NoMemory);
+    };
+    let Ok(system) = copied_part(alloc, &doctype.system) else {
+        return Err(NoMemory);
+    };
     Ok(NewDoctype {
-        name: copied_part(alloc, &doctype.name)?,
-        public: copied_part(alloc, &doctype.public)?,
-        system: copied_part(alloc, &doctype.system)?,
+        name,
+        public,
+        system,
         force_quirks: doctype.force_quirks,
     })
 }

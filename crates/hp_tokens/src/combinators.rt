@@ -6,7 +6,7 @@ ghost use Rattle.hp_tokens.specs.Rows.{Follows, is_blank as spec_is_blank, repla
 
 use crate::NoMemory;
 use crate::building::Part;
-use crate::machine::{Machine, push_char, push_text};
+use crate::machine::{Machine, push_char, push_text, push_token};
 use crate::rows::Reads;
 use crate::state::State;
 use hp_elements::{Token, Tokens};
@@ -77,7 +77,7 @@ pub fn ended(
 ) -> Result<Reads, NoMemory>
     ensures { IfOk result (Follows (spec_ended machine.old) tokens.old machine.new tokens.new) }
 {
-    tokens.push(alloc, Token::EndOfInput)?;
+    push_token(alloc, tokens, Token::EndOfInput)?;
     machine.enter(State::Data);
     Ok(Reads::End)
 }

@@ -53,13 +53,22 @@ impl Machine {
     pub fn copy(&self, alloc: Global) -> Result<Machine, NoMemory>
         ensures { IfOk result (λ copy. copy ≡ self.now) }
     {
+        let Ok(buffer) = self.buffer.copy(alloc) else {
+            return Err(NoMemory);
+        };
+        let Ok(last_tag) = copied_part(alloc, &self.last_tag) else {
+            return Err(NoMemory);
+        };
+        let Ok(building) = self.building.copy(alloc) else {
+            return Err(NoMemory);
+        };
         Ok(Machine {
             state: self.state,
-            buffer: self.buffer.copy(alloc)?,
+            building,
+            buffer,
             return_to: self.return_to,
             value: self.value,
-            last_tag: copied_part(alloc, &self.last_tag)?,
-            building: self.building.copy(alloc)?,
+            last_tag,
             after_cr: self.after_cr,
         })
     }
@@ -165,10 +174,10 @@ impl Machine {
     {
         let built = built_token(alloc, &mut self.building, &mut self.last_tag)?;
         self.build_nothing();
-        if let Some(token) = built {
-            tokens.push(alloc, token)?;
+        match built {
+            None => Ok(()),
+            Some(token) => push_token(alloc, tokens, token),
         }
-        Ok(())
     }
 
     /// The buffer goes into the attribute's value, where the character reference stands in one; otherwise its code points
@@ -251,10 +260,19 @@ ghost use Rattle.hp_tokens.specs.Parts.{finished_doctype as spec_doctype};
 fn finished_doctype<'p>(alloc: Global, doctype: &mut NewDoctype) -> Result<Doctype<'p>, NoMemory>
     ensures { IfOk result (λ finished. finished ≡ spec_doctype doctype.old) }
 {
+    let Ok(name) = finished_part(alloc, &mut doctype.name) else {
+        return Err(NoMemory);
+    };
+    let Ok(public) = finished_part(alloc, &mut doctype.public) else {
+        return Err(NoMemory);
+    };
+    let Ok(system) = finished_part(alloc, &mut doctype.system) else {
+        return Err(NoMemory);
+    };
     let parts = DoctypeParts {
-        name: finished_part(alloc, &mut doctype.name)?,
-        public: finished_part(alloc, &mut doctype.public)?,
-        system: finished_part(alloc, &mut doctype.system)?,
+        name,
+        public,
+        system,
         force_quirks: doctype.force_quirks,
     };
     Doctype::new(alloc, parts)
@@ -272,6 +290,19 @@ fn finished_part<'p>(
     }
 }
 
+/// Appends a token.
+#[inline(always)]
+pub(crate) fn push_token<'p>(
+    alloc: Global,
+    tokens: &mut Tokens<'p>,
+    token: Token<'p>,
+) -> Result<(), NoMemory>
+    ensures { OnOk result (tokens.new ≡ tokens.old ++ token.entry ∷ []) }
+{
+    tokens.push(alloc, token)?;
+    Ok(())
+}
+
 /// Appends a code point to the tokens.
 pub fn push_char(alloc: Global, tokens: &mut Tokens<'_>, c: char) -> Result<(), NoMemory>
     ensures { OnOk result (tokens.new ≡ tokens.old ++ character c ∷ []) }
@@ -280,8 +311,7 @@ pub fn push_char(alloc: Global, tokens: &mut Tokens<'_>, c: char) -> Result<(), 
         class: CharClass::of(c),
         text: Text::of_char(c),
     };
-    tokens.push(alloc, token)?;
-    Ok(())
+    push_token(alloc, tokens, token)
 }
 
 /// Appends the code points of a text to the tokens, each in a token of its own.

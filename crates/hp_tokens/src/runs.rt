@@ -15,6 +15,7 @@ use crate::NoMemory;
 use crate::building::Part;
 use crate::cursor::{Cursor, Run};
 use crate::lexing::LexState;
+use crate::machine::push_token;
 use crate::rows::Step;
 use crate::steps::{Table, step_by_row};
 use hp_elements::{CharClass, Text, Token, Tokens};
@@ -97,11 +98,10 @@ pub fn step_in_text<'p, T: Table, R: TextRun>(
     ensures held { IfOk result (λ step. held state.new ≤ input.new.place) }
 {
     if let Some(token) = text_run::<T, R>(state, input) {
-        tokens.push(alloc, token)?;
+        push_token(alloc, tokens, token)?;
         return Ok(Step::Made { emitted: true });
     }
-    let step = step_by_row::<T>(alloc, state, input, tokens)?;
-    Ok(step)
+    step_by_row::<T>(alloc, state, input, tokens)
 }
 
 /// Appends the run at the front to a part of what is built, and answers whether there is one.
@@ -148,8 +148,7 @@ pub fn step_in_part<T: Table, R: Run>(
     if ran {
         return Ok(Step::Made { emitted: false });
     }
-    let step = step_by_row::<T>(alloc, state, input, tokens)?;
-    Ok(step)
+    step_by_row::<T>(alloc, state, input, tokens)
 }
 
 /// The run of text at the front as one token, in a resting state, where `rested` becomes the place of its start; `None` where

@@ -6,7 +6,7 @@ use crate::lexing::LexState;
 use crate::machine::Machine;
 use crate::owned::OwnedText;
 use crate::state::{Return, State};
-use hp_elements::{Attribute, AttributeSpace, Chain};
+use hp_elements::same_attributes;
 
 impl LexState {
     /// Whether two states of the lexer are the same.
@@ -60,12 +60,6 @@ fn same_return(one: Return, two: Return) -> bool
     one == two
 }
 
-fn same_space(one: AttributeSpace, two: AttributeSpace) -> bool
-    ensures { IsTrue result ↔ (one ≡ two) }
-{
-    one == two
-}
-
 fn same_part(one: &Option<OwnedText>, two: &Option<OwnedText>) -> bool
     ensures { IsTrue result ↔ (one.now ≡ two.now) }
 {
@@ -102,27 +96,4 @@ fn same_doctype(one: &NewDoctype, two: &NewDoctype) -> bool
         && same_part(&one.name, &two.name)
         && same_part(&one.public, &two.public)
         && same_part(&one.system, &two.system)
-}
-
-fn same_attribute(one: &Attribute, two: &Attribute) -> bool
-    ensures { IsTrue result ↔ (one.now ≡ two.now) }
-{
-    same_space(one.space, two.space) && one.name.same(&two.name) && one.value.same(&two.value)
-}
-
-fn same_attributes(one: &Chain<Attribute>, two: &Chain<Attribute>) -> bool
-    ensures { IsTrue result ↔ (one.now ≡ two.now) }
-{
-    let mut others = two.iter();
-    for attribute in one.iter() {
-        match others.next() {
-            Some(other) => {
-                if !same_attribute(attribute, other) {
-                    return false;
-                }
-            }
-            None => return false,
-        }
-    }
-    others.next().is_none()
 }

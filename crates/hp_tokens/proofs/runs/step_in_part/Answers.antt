@@ -1,9 +1,9 @@
 use Rattle.std.proofs.Common.{◌≡◌, Bool, sym, subst}
-use Rattle.std.specs.Prelude.{IsTrue}
+use Rattle.std.specs.Prelude.{IfOk, IsTrue}
 use Rattle.hp_tokens.specs.declared.lexing.LexState.{LexState}
 use Rattle.hp_tokens.specs.Reading.{Unread}
-use Rattle.hp_tokens.specs.Moves.{move}
-use Rattle.hp_tokens.specs.Advancing.{Steps}
+use Rattle.hp_tokens.specs.Moves.{Rules, move}
+use Rattle.hp_tokens.specs.Advancing.{HasRows, Steps}
 use Rattle.hp_tokens.specs.Plain.{PutRan}
 use Rattle.hp_tokens.proofs.Stepping.{by_rows}
 use Rattle.hp_tokens.proofs.runs.step_in_part.Goals as goal
@@ -20,9 +20,10 @@ step_by_row-requires-clause-row g c =
     subst Q (sym ((subst P c.if-ran.false c.in_ok-ran.ensures.ran).0)) c.requires.row
 
 pub returns-clause-step : goal.returns-clause-step
-returns-clause-step g c = λ rules rows.
+returns-clause-step g c =
     let P : Bool → Type 0 = λ b. PutRan g.T.Table.has_row g.T.Table.row_of c.args.state.now c.args.input.now c.put_run.new.state c.put_run.new.input b in
     let same : (c.put_run.new.state ≡ c.args.state.now) × (c.put_run.new.input ≡ c.args.input.now) = subst P c.if-ran.false c.in_ok-ran.ensures.ran in
-    let Q : LexState → Type 0 = λ s. Steps (move rules) s c.args.input.now c.args.tokens.now c.step_by_row.new.state c.step_by_row.new.input c.step_by_row.new.tokens c.in_ok-step.step in
-    let R : Unread → Type 0 = λ u. Steps (move rules) c.put_run.new.state u c.args.tokens.now c.step_by_row.new.state c.step_by_row.new.input c.step_by_row.new.tokens c.in_ok-step.step in
-    subst Q same.0 (subst R same.1 (c.in_ok-step.ensures.step rules rows))
+    let Q : LexState → Unread → Type 0 = λ s u.
+    IfOk c.step_by_row.result (λ step. (rules : Rules) → HasRows rules g.T.Table.has_row g.T.Table.row_of
+    → Steps (move rules) s u c.args.tokens.now c.step_by_row.new.state c.step_by_row.new.input c.step_by_row.new.tokens step) in
+    subst (λ s. Q s c.args.input.now) same.0 (subst (Q c.put_run.new.state) same.1 c.step_by_row.ensures.step)
