@@ -36,6 +36,6 @@ pub use name::Name;
 pub use respelling::{ForeignAttribute, Respelling};
 pub use sets::{Namespace, SetName, is_in};
 pub use std::alloc::AllocError as NoMemory;
-pub use tag::{Attribute, AttributeSpace, Tag};
+pub use tag::{Attribute, AttributeSpace, Tag, copied_attributes, same_attributes};
 pub use text::Text;
 pub use token::{CharClass, Doctype, DoctypeParts, Kind, Mode, Rest, Token, Tokens};

@@ -84,7 +84,7 @@ impl Tag {
         let Ok(name) = self.name.copy(alloc) else {
             return Err(AllocError);
         };
-        let Ok(attributes) = copied(alloc, &self.attributes) else {
+        let Ok(attributes) = copied_attributes(alloc, &self.attributes) else {
             return Err(AllocError);
         };
         Ok(Tag {
@@ -100,12 +100,15 @@ impl Tag {
     {
         self.namespace == other.namespace
             && self.name.same(&other.name)
-            && are_same(&self.attributes, &other.attributes)
+            && same_attributes(&self.attributes, &other.attributes)
     }
 }
 
 /// Attributes that equal these.
-fn copied(alloc: Global, attributes: &Chain<Attribute>) -> Result<Chain<Attribute>, AllocError>
+pub fn copied_attributes(
+    alloc: Global,
+    attributes: &Chain<Attribute>,
+) -> Result<Chain<Attribute>, AllocError>
     ensures { IfOk result (λ copy. copy ≡ attributes.now) }
 {
     let mut copy = Chain::new();
@@ -116,7 +119,7 @@ fn copied(alloc: Global, attributes: &Chain<Attribute>) -> Result<Chain<Attribut
 }
 
 /// Whether the attributes are the same, in the same order.
-fn are_same(some: &Chain<Attribute>, others: &Chain<Attribute>) -> bool
+pub fn same_attributes(some: &Chain<Attribute>, others: &Chain<Attribute>) -> bool
     ensures { IsTrue result ↔ (some.now ≡ others.now) }
 {
     let mut others = others.iter();

@@ -1,5 +1,5 @@
 use Rattle.std.proofs.Common.{◌≡◌, ◌++◌}
-use Rattle.hp_elements.proofs.tag.copied.Given as goal
+use Rattle.hp_elements.proofs.tag.copied_attributes.Given as goal
 
 abbrev pub invariant-loop-attribute : goal.invariant-loop-attribute
 invariant-loop-attribute l = l.copy ++ l.attribute-iterator ≡ l.attributes
