@@ -5,7 +5,6 @@ use crate::NoMemory;
 use crate::owned::OwnedText;
 use hp_elements::{Attribute, AttributeSpace, Chain, Name, copied_attributes};
 use std::alloc::Global;
-use std::mem;
 
 /// A part of the token under construction, to which text is appended.
 #[derive(Clone, Copy)]
@@ -137,8 +136,7 @@ impl Building {
     }
 }
 
-ghost use Rattle.std.specs.Str.{chars, bytes_eq};
-ghost use Rattle.std.specs.Prelude.{Some};
+ghost use Rattle.std.specs.Str.{chars};
 ghost use Rattle.hp_elements.specs.declared.tag.AttributeSpace.TheVariants as spaces;
 ghost use Rattle.hp_tokens.specs.Parts.{put_in_tag, put_in_doctype, longer_name, longer_value, appended, added, has_name};
 
@@ -190,20 +188,6 @@ fn append(alloc: Global, part: &mut Option<OwnedText>, text: &str) -> Result<(),
     }
 }
 
-/// Whether the attribute has that name.
-fn is_named(attribute: &Attribute, name: &OwnedText) -> bool
-    ensures { result ≡ bytes_eq attribute.now.name name.now }
-{
-    attribute.name.as_str() == name.as_str()
-}
-
-/// Whether one of the attributes has that name.
-fn names(attributes: &Chain<Attribute>, name: &OwnedText) -> bool
-    ensures { result ≡ has_name name.now attributes.now }
-{
-    attributes.iter().any(|attribute| is_named(attribute, name))
-}
-
 /// The attribute under construction goes behind the finished ones, unless the tag has its name already.
 pub(crate) fn finish(
     alloc: Global,
@@ -215,34 +199,17 @@ pub(crate) fn finish(
     match attribute {
         None => Ok(()),
         Some(attribute) => {
-            let mut attribute = attribute;
-            finish_one(alloc, attributes, &mut attribute)
+            let finished = finished_attribute(alloc, attribute)?;
+            add(alloc, attributes, finished)
         }
     }
 }
 
-/// The same of one that is there. Its value is taken.
-fn finish_one(
-    alloc: Global,
-    attributes: &mut Chain<Attribute>,
-    attribute: &mut NewAttribute,
-) -> Result<(), NoMemory>
-    ensures { OnOk result (attributes.new ≡ added attributes.old (Some attribute.old)) }
+/// The attribute that was built.
+fn finished_attribute(alloc: Global, attribute: NewAttribute) -> Result<Attribute, NoMemory>
+    ensures { IfOk result (λ finished. finished ≡ record { space = spaces.Plain; name = attribute.name; value = attribute.value }) }
 {
-    if names(attributes, &attribute.name) {
-        return Ok(());
-    }
-    let finished = finished_attribute(alloc, attribute)?;
-    attributes.push(alloc, finished)?;
-    Ok(())
-}
-
-/// The attribute that was built. Its value is taken.
-fn finished_attribute(alloc: Global, attribute: &mut NewAttribute) -> Result<Attribute, NoMemory>
-    ensures { IfOk result (λ finished. finished ≡ record { space = spaces.Plain; name = attribute.old.name; value = attribute.old.value }) }
-{
-    let value = mem::replace(&mut attribute.value, OwnedText::new());
-    let value = value.into_text(alloc)?;
+    let value = attribute.value.into_text(alloc)?;
     let name = Name::from_text(alloc, attribute.name.as_str())?;
     Ok(Attribute {
         space: AttributeSpace::Plain,
