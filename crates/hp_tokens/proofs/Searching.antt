@@ -1,13 +1,12 @@
 -- What ends a text that is searched by whole vectors.
-use Rattle.std.proofs.Common.{◌≡◌, ℕ, ◌<◌, ◌≤◌, List, [], ◌∷◌, suc, zero, length, take, drop, get_or, get_or-take, length-take, min, refl, sym, ◌∙◌, ap, subst, arith, Bool, true, false, ◌&&◌, ◌||◌, not, Option, None, Some, inl, inr}
+use Rattle.std.proofs.Common.{◌≡◌, ℕ, ◌<◌, ◌≤◌, List, [], ◌∷◌, suc, zero, length, take, drop, get_or, refl, sym, ◌∙◌, ap, subst, arith, Bool, true, false, ◌&&◌, ◌||◌, not, Option, None, Some}
 use Rattle.std.specs.Prelude.{◌==◌}
 use Rattle.std.specs.Option.{unwrap_or}
 use Rattle.std.specs.List.{list_all}
-use Rattle.std.proofs.lemmas.Bool.{cases_lt, and_from}
-use Rattle.std.proofs.lemmas.List.{length-take-le}
-use Rattle.memchr.specs.Find.{IsFirstByte, is_byte, is_byte3}
+use Rattle.std.proofs.lemmas.Bool.{and_from}
+use Rattle.memchr.specs.Find.{IsFirstByte, is_byte3}
 use Rattle.hp_tokens.specs.Reading.{PassesFrom}
-use Rattle.hp_tokens.specs.Plain.{none_of, whole_data_stops, whole_raw_stops}
+use Rattle.hp_tokens.specs.Plain.{none_of, whole_raw_stops}
 
 -- n bytes fail the test, and there the list ends or a byte that passes stands
 record StopsAt (test : ℕ → Bool) (xs : List ℕ) (n : ℕ) : Type 0 where
