@@ -8,9 +8,15 @@ use std::alloc::Global;
 use std::marker::Model;
 
 /// A text that owns its code points. A short one takes no memory.
-#[derive(Drop)]
 pub struct OwnedText {
     store: Store,
+}
+
+impl Drop for OwnedText {
+    #[inline]
+    fn drop(self) {
+        let OwnedText { store: _ } = self;
+    }
 }
 
 #[derive(Drop)]
@@ -184,7 +190,8 @@ impl OwnedText {
     pub fn into_text<'p>(self, alloc: Global) -> Result<Text<'p>, NoMemory>
         ensures { IfOk result (λ text. text ≡ self) }
     {
-        match self.store {
+        let OwnedText { store } = self;
+        match store {
             Store::Few(bytes) => {
                 let text = unsafe { std::str::from_utf8_unchecked(bytes.as_slice()) };
                 Text::from_str(alloc, text)
