@@ -22,9 +22,15 @@ enum Spelling {
 }
 
 /// A name: a known one, or another text. A contract sees its code points. A known name and a short one take no heap.
-#[derive(Drop)]
 pub struct Name {
     spelling: Spelling,
+}
+
+impl Drop for Name {
+    #[inline(always)]
+    fn drop(self) {
+        let Name { spelling: _ } = self;
+    }
 }
 
 impl Model for Name {

@@ -22,9 +22,15 @@ enum Place<'p> {
 }
 
 /// A text: a part of the page, or code points of its own. A `Text<'static>` owns them.
-#[derive(Drop)]
 pub struct Text<'p> {
     place: Place<'p>,
+}
+
+impl<'p> Drop for Text<'p> {
+    #[inline(always)]
+    fn drop(self) {
+        let Text { place: _ } = self;
+    }
 }
 
 impl<'p> Model for Text<'p> {
