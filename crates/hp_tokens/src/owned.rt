@@ -13,7 +13,7 @@ pub struct OwnedText {
 }
 
 impl Drop for OwnedText {
-    #[inline]
+    #[inline(always)]
     fn drop(self) {
         let OwnedText { store: _ } = self;
     }
