@@ -77,9 +77,15 @@ impl Control {
     pub fn copy(&self, alloc: Global) -> Result<Control, NoMemory>
         ensures { IfOk result (λ copy. copy ≡ self.now) }
     {
-        let pending = self.pending.copy(alloc)?;
-        let lists = copy_lists(alloc, self)?;
-        let lex = self.lex.copy(alloc)?;
+        let Ok(pending) = self.pending.copy(alloc) else {
+            return Err(NoMemory);
+        };
+        let Ok(lists) = copy_lists(alloc, self) else {
+            return Err(NoMemory);
+        };
+        let Ok(lex) = self.lex.copy(alloc) else {
+            return Err(NoMemory);
+        };
         Ok(Control {
             lex,
             mode: self.mode,

@@ -71,8 +71,7 @@ impl<T: Drop> Stack<T> {
         ensures ok { OnOk result (self.new ≡ item ∷ self.old) }
         ensures err { OnErr result (self.new ≡ self.old) }
     {
-        self.items.add(alloc, item)?;
-        Ok(())
+        self.items.add(alloc, item)
     }
 
     /// Takes the top `count` items off.
