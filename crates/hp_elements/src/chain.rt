@@ -8,9 +8,15 @@ use std::marker::Model;
 use std::mem;
 
 /// A list of linked cells. An empty one that nothing was pushed to has no allocator.
-#[derive(Drop)]
 pub struct Chain<T> {
     cells: Option<LinkedList<T>>,
+}
+
+impl<T: Drop> Drop for Chain<T> {
+    #[inline(always)]
+    fn drop(self) {
+        let Chain { cells: _ } = self;
+    }
 }
 
 impl<T> Model for Chain<T> {
@@ -110,7 +116,8 @@ impl<T: Drop> Chain<T> {
         requires { length self.old + length other < 2 ^ 63 }
         ensures { self.new ≡ self.old ++ other }
     {
-        match other.cells {
+        let Chain { cells } = other;
+        match cells {
             None => {}
             Some(mut more) => match &mut self.cells {
                 None => self.cells = Some(more),

@@ -99,9 +99,15 @@ pub struct DoctypeParts<'p> {
 }
 
 /// A doctype, kept on the heap, so that tokens stay small. A contract sees its parts.
-#[derive(Drop)]
 pub struct Doctype<'p> {
     parts: Box<DoctypeParts<'p>>,
+}
+
+impl<'p> Drop for Doctype<'p> {
+    #[inline(always)]
+    fn drop(self) {
+        let Doctype { parts: _ } = self;
+    }
 }
 
 impl<'p> Model for Doctype<'p> {
@@ -155,7 +161,8 @@ impl<'p> Doctype<'p> {
     pub fn into_parts(self) -> DoctypeParts<'p>
         ensures { result ≡ self.entry }
     {
-        Box::into_inner(self.parts)
+        let Doctype { parts } = self;
+        Box::into_inner(parts)
     }
 }
 
