@@ -110,8 +110,8 @@ fn go_back(alloc: Global, machine: &mut Machine, tokens: &mut Tokens<'_>) -> Res
     ensures machine { OnOk result (machine.new ≡ gone_back machine.old) }
     ensures tokens { OnOk result (tokens.new ≡ tokens.old ++ flushed_tokens machine.old) }
 {
-    machine.flush(alloc, tokens)?;
     let back = machine.return_to.state();
+    machine.flush(alloc, tokens)?;
     machine.enter(back);
     Ok(())
 }
@@ -140,8 +140,7 @@ fn put_found(
     let name = take_front(alloc, &mut state.ahead, found.length)?;
     let kept = is_no_reference(found, &state.machine, state.peek(input));
     read_into(alloc, &mut state.machine.buffer, found, kept, &name)?;
-    go_back(alloc, &mut state.machine, tokens)?;
-    Ok(())
+    go_back(alloc, &mut state.machine, tokens)
 }
 
 /// What the longest name stands for goes where it goes; the name is dropped from what was read ahead.
@@ -155,14 +154,8 @@ fn decide(
     ensures { OnOk result (Decides (spec_longest names.now state.old.ahead) state.old input.now tokens.old state.new tokens.new) }
 {
     match longest(&state.ahead, names) {
-        None => {
-            unfound(alloc, &mut state.machine, tokens)?;
-            Ok(())
-        }
-        Some(found) => {
-            put_found(alloc, &found, state, input, tokens)?;
-            Ok(())
-        }
+        None => unfound(alloc, &mut state.machine, tokens),
+        Some(found) => put_found(alloc, &found, state, input, tokens),
     }
 }
 

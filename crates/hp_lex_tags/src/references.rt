@@ -5,7 +5,9 @@ ghost use Rattle.hp_lex_tags.specs.Rows as rows;
 
 use hp_elements::Tokens;
 use hp_names::numeric;
-use hp_tokens::{Machine, NoMemory, Part, Reads, State, again, back, flushed, go, push_char};
+use hp_tokens::{
+    Machine, NoMemory, Part, Reads, State, again, back, emitted_char, flushed, go, put,
+};
 use std::alloc::Global;
 
 pub fn character_reference(
@@ -41,11 +43,10 @@ pub fn ambiguous_ampersand(
     match symbol {
         Some(c) if c.is_ascii_alphanumeric() => {
             if machine.return_to.is_in_value() {
-                machine.put(alloc, Part::Value, c)?;
+                put(alloc, machine, Part::Value, c)
             } else {
-                push_char(alloc, tokens, c)?;
+                emitted_char(alloc, machine, tokens, c)
             }
-            Ok(Reads::Consume)
         }
         Some(_) | None => Ok(back(machine)),
     }

@@ -1,14 +1,27 @@
 // The rows of text and tags, one function a state.
 ghost use Rattle.std.specs.Prelude.{◌≡◌, IfOk, Option};
-ghost use Rattle.hp_tokens.specs.Rows.{Follows};
+ghost use Rattle.hp_tokens.specs.Rows.{Follows, plus, ended as spec_ended};
 ghost use Rattle.hp_lex_tags.specs.Rows as rows;
 
 use hp_elements::Tokens;
 use hp_tokens::{
-    Machine, NoMemory, Part, Reads, Return, State, again, emitted, ended, go, is_blank, push_char,
-    put, put_lowered,
+    Machine, NoMemory, Part, Reads, Return, State, again, emitted, emitted_char, ended, go,
+    is_blank, push_char, put, put_lowered,
 };
 use std::alloc::Global;
+
+/// A code point is emitted, and behind it the end of input.
+fn char_at_end(
+    alloc: Global,
+    machine: &mut Machine,
+    c: char,
+    tokens: &mut Tokens<'_>,
+) -> Result<Reads, NoMemory>
+    ensures { IfOk result (Follows (plus c (spec_ended machine.old)) tokens.old machine.new tokens.new) }
+{
+    push_char(alloc, tokens, c)?;
+    ended(alloc, machine, tokens)
+}
 
 pub fn data(
     alloc: Global,
@@ -25,10 +38,7 @@ pub fn data(
             Ok(go(machine, State::CharacterReference))
         }
         Some('<') => Ok(go(machine, State::TagOpen)),
-        Some(c) => {
-            push_char(alloc, tokens, c)?;
-            Ok(Reads::Consume)
-        }
+        Some(c) => emitted_char(alloc, machine, tokens, c),
     }
 }
 
@@ -55,10 +65,7 @@ pub fn tag_open(
             push_char(alloc, tokens, '<')?;
             Ok(again(machine, State::Data))
         }
-        None => {
-            push_char(alloc, tokens, '<')?;
-            ended(alloc, machine, tokens)
-        }
+        None => char_at_end(alloc, machine, '<', tokens),
     }
 }
 
@@ -82,8 +89,7 @@ pub fn end_tag_open(
         }
         None => {
             push_char(alloc, tokens, '<')?;
-            push_char(alloc, tokens, '/')?;
-            ended(alloc, machine, tokens)
+            char_at_end(alloc, machine, '/', tokens)
         }
     }
 }

@@ -10,14 +10,13 @@ ghost use Rattle.hp_tokens.specs.Reading.{first, opens_start_tag, opens_end_tag}
 ghost use Rattle.hp_tokens.specs.Parts.{added};
 ghost use Rattle.hp_tokens.specs.Advancing.{held, lexing};
 ghost use Rattle.hp_lex_tags.specs.Tags.{TagTurned};
-ghost use Rattle.hp_lex_tags.specs.Usual.{ReferenceTaken};
 ghost use Rattle.hp_lex_tags.specs.Straight.{Reading, tagging, tag_of, ends_part, is_between, behind_blanks as spec_behind_blanks, IsQuoted, BeginsBy, NameTaken, ValueGrows, ValueKept, Arrives, Continues, TagGrows, TagRead};
 ghost use Rattle.hp_lex_tags.specs.declared.straight.Way.TheVariants as ways;
 ghost use Rattle.hp_tokens.specs.Plain.{none_of, tag_name_stops, attribute_name_stops, unquoted_stops};
 ghost use Rattle.hp_tokens.specs.PlainLaws.{none-high};
 
 use crate::attribute_name::AttributeNameBytes;
-use crate::usual_reference::{is_at_ampersand, usual};
+use crate::usual_reference::take_reference;
 use hp_elements::{Attribute, AttributeSpace, Chain, Name, Namespace, Tag, Text, Token};
 use hp_names::Names;
 use hp_tokens::{
@@ -158,21 +157,6 @@ fn behind_unquoted(input: &mut Cursor<'_>) -> Way
     Way::Left
 }
 
-/// A named or a decimal reference at the front that is decided whatever follows, which is taken.
-#[inline(never)]
-fn take_reference(names: &Names, input: &mut Cursor<'_>) -> Option<char>
-    ensures some { IfSome result (λ c. ReferenceTaken names.now input.old c input.new) }
-    ensures none { IfNone result (input.new ≡ input.old) }
-{
-    if !is_at_ampersand(input) {
-        return None;
-    }
-    let usual = usual(names, input.behind_front())?;
-    input.skip_ascii(1);
-    input.skip_ascii(usual.length);
-    Some(usual.stands_for)
-}
-
 /// The rest of a value in quotes, while references come next that are decided whatever follows.
 fn read_references<R: Run>(
     alloc: Global,
@@ -252,21 +236,6 @@ fn read_quoted<R: LongRun>(
     read_behind_run::<R>(alloc, names, attributes, name, value, input, mark, state)
 }
 
-/// A value in single quotes, behind the first of them.
-#[inline]
-fn read_single_quoted(
-    alloc: Global,
-    names: &Names,
-    attributes: &mut Chain<Attribute>,
-    name: Name,
-    input: &mut Cursor<'_>,
-) -> Result<Way, NoMemory>
-    ensures { IfOk result (ValueKept names.now states.AttributeValueSingleQuoted name [] attributes.old input.old attributes.new input.new) }
-{
-    let state = State::AttributeValueSingleQuoted;
-    read_quoted::<SingleQuotedText>(alloc, names, attributes, name, input, b'\'', state)
-}
-
 /// A value without quotes.
 #[inline]
 fn read_unquoted(
@@ -307,7 +276,8 @@ fn read_other_value(
     ensures { IfOk result (ValueKept names.now states.BeforeAttributeValue name [] attributes.old input.old attributes.new input.new) }
 {
     if input.take_byte(b'\'') {
-        return read_single_quoted(alloc, names, attributes, name, input);
+        let state = State::AttributeValueSingleQuoted;
+        return read_quoted::<SingleQuotedText>(alloc, names, attributes, name, input, b'\'', state);
     }
     if begins_value(input) {
         return read_unquoted(alloc, names, attributes, name, input);
@@ -439,17 +409,6 @@ fn tell_last(alloc: Global, machine: &mut Machine, name: &Name) -> Result<(), No
     }
 }
 
-/// The machine stands behind the start tag with this name.
-#[inline(always)]
-fn stand_behind(alloc: Global, machine: &mut Machine, name: &Name) -> Result<(), NoMemory>
-    requires clear { machine.old.after_cr ≡ false }
-    ensures { OnOk result (machine.new ≡ tagging (Some name.now) states.Data building.Nothing) }
-{
-    tell_last(alloc, machine, name)?;
-    machine.enter(State::Data);
-    Ok(())
-}
-
 /// The start tag with this name and these attributes.
 #[inline(always)]
 fn start_tag<'p>(name: Name, attributes: Chain<Attribute>, self_closing: bool) -> Token<'p>
@@ -488,7 +447,8 @@ fn read_behind_name(
 {
     let way = read_rest(alloc, names, attributes, input)?;
     if let Way::Whole { self_closing } = way {
-        stand_behind(alloc, machine, name)?;
+        tell_last(alloc, machine, name)?;
+        machine.enter(State::Data);
         return Ok(Some(self_closing));
     }
     Ok(None)
@@ -548,7 +508,7 @@ fn read_end_tag<'p>(
 
 /// Whether the lexer stands in the data state, with nothing held back.
 #[inline(always)]
-fn stands_in_data(state: &LexState) -> bool
+pub(crate) fn stands_in_data(state: &LexState) -> bool
     ensures data { result ≡ true → state.now.machine.state ≡ states.Data }
     ensures clear { result ≡ true → state.now.machine.after_cr ≡ false }
     ensures ahead { result ≡ true → state.now.ahead ≡ [] }

@@ -32,52 +32,6 @@ use hp_tokens::{
 };
 use std::alloc::Global;
 
-/// The row of the machine's state.
-fn row(
-    alloc: Global,
-    machine: &mut Machine,
-    symbol: Option<char>,
-    tokens: &mut Tokens<'_>,
-) -> Result<Reads, NoMemory>
-    requires { IsTrue (rows.has_row machine.old.state) }
-    ensures { IfOk result (Follows (rows.row machine.old symbol) tokens.old machine.new tokens.new) }
-{
-    match machine.state {
-        State::Data => data(alloc, machine, symbol, tokens),
-        State::TagOpen => tag_open(alloc, machine, symbol, tokens),
-        State::EndTagOpen => end_tag_open(alloc, machine, symbol, tokens),
-        State::TagName => tag_name(alloc, machine, symbol, tokens),
-        State::BeforeAttributeName => before_attribute_name(alloc, machine, symbol, tokens),
-        State::AttributeName => attribute_name(alloc, machine, symbol, tokens),
-        State::AfterAttributeName => after_attribute_name(alloc, machine, symbol, tokens),
-        State::BeforeAttributeValue => before_attribute_value(alloc, machine, symbol, tokens),
-        State::AttributeValueDoubleQuoted => {
-            quoted_value(alloc, '"', Return::DoubleQuoted, machine, symbol, tokens)
-        }
-        State::AttributeValueSingleQuoted => {
-            quoted_value(alloc, '\'', Return::SingleQuoted, machine, symbol, tokens)
-        }
-        State::AttributeValueUnquoted => unquoted_value(alloc, machine, symbol, tokens),
-        State::AfterAttributeValueQuoted => after_quoted_value(alloc, machine, symbol, tokens),
-        State::SelfClosingStartTag => self_closing_start_tag(alloc, machine, symbol, tokens),
-        State::CharacterReference => character_reference(alloc, machine, symbol, tokens),
-        State::AmbiguousAmpersand => ambiguous_ampersand(alloc, machine, symbol, tokens),
-        State::NumericCharacterReference => numeric_reference(alloc, machine, symbol, tokens),
-        State::HexadecimalCharacterReferenceStart => {
-            let digits = State::HexadecimalCharacterReference;
-            number_start(alloc, 16, digits, machine, symbol, tokens)
-        }
-        State::DecimalCharacterReferenceStart => {
-            let digits = State::DecimalCharacterReference;
-            number_start(alloc, 10, digits, machine, symbol, tokens)
-        }
-        State::HexadecimalCharacterReference => number(16, machine, symbol, tokens),
-        State::DecimalCharacterReference => number(10, machine, symbol, tokens),
-        State::NumericCharacterReferenceEnd => numeric_end(alloc, machine, symbol, tokens),
-        _ => unreachable!(),
-    }
-}
-
 /// The rows of this part.
 #[derive(Drop)]
 struct Rows;
@@ -96,7 +50,40 @@ impl Table for Rows {
         requires { IsTrue (rows.has_row machine.old.state) }
         ensures { IfOk result (Follows (rows.row machine.old symbol) tokens.old machine.new tokens.new) }
     {
-        row(alloc, machine, symbol, tokens)
+        match machine.state {
+            State::Data => data(alloc, machine, symbol, tokens),
+            State::TagOpen => tag_open(alloc, machine, symbol, tokens),
+            State::EndTagOpen => end_tag_open(alloc, machine, symbol, tokens),
+            State::TagName => tag_name(alloc, machine, symbol, tokens),
+            State::BeforeAttributeName => before_attribute_name(alloc, machine, symbol, tokens),
+            State::AttributeName => attribute_name(alloc, machine, symbol, tokens),
+            State::AfterAttributeName => after_attribute_name(alloc, machine, symbol, tokens),
+            State::BeforeAttributeValue => before_attribute_value(alloc, machine, symbol, tokens),
+            State::AttributeValueDoubleQuoted => {
+                quoted_value(alloc, '"', Return::DoubleQuoted, machine, symbol, tokens)
+            }
+            State::AttributeValueSingleQuoted => {
+                quoted_value(alloc, '\'', Return::SingleQuoted, machine, symbol, tokens)
+            }
+            State::AttributeValueUnquoted => unquoted_value(alloc, machine, symbol, tokens),
+            State::AfterAttributeValueQuoted => after_quoted_value(alloc, machine, symbol, tokens),
+            State::SelfClosingStartTag => self_closing_start_tag(alloc, machine, symbol, tokens),
+            State::CharacterReference => character_reference(alloc, machine, symbol, tokens),
+            State::AmbiguousAmpersand => ambiguous_ampersand(alloc, machine, symbol, tokens),
+            State::NumericCharacterReference => numeric_reference(alloc, machine, symbol, tokens),
+            State::HexadecimalCharacterReferenceStart => {
+                let digits = State::HexadecimalCharacterReference;
+                number_start(alloc, 16, digits, machine, symbol, tokens)
+            }
+            State::DecimalCharacterReferenceStart => {
+                let digits = State::DecimalCharacterReference;
+                number_start(alloc, 10, digits, machine, symbol, tokens)
+            }
+            State::HexadecimalCharacterReference => number(16, machine, symbol, tokens),
+            State::DecimalCharacterReference => number(10, machine, symbol, tokens),
+            State::NumericCharacterReferenceEnd => numeric_end(alloc, machine, symbol, tokens),
+            _ => unreachable!(),
+        }
     }
 
     ghost fine = { row_fine };

@@ -12,9 +12,10 @@ ghost use Rattle.hp_tokens.specs.Rows.{character};
 ghost use Rattle.hp_tokens.specs.Advancing.{held, lexing, Turned};
 ghost use Rattle.hp_lex_tags.specs.Tags.{is_here, tag_rules};
 ghost use Rattle.hp_lex_tags.specs.Decided.{IsReference, IsDecimal};
-ghost use Rattle.hp_lex_tags.specs.Usual.{IsUsual};
+ghost use Rattle.hp_lex_tags.specs.Usual.{IsUsual, ReferenceTaken};
 
 use crate::references::capped;
+use crate::straight::stands_in_data;
 use hp_elements::Text;
 use hp_names::{Found, Names, numeric};
 use hp_tokens::{Cursor, LexState, State};
@@ -67,9 +68,9 @@ fn decimal(text: &[u8]) -> Option<(u32, usize)>
 
 /// A reference that is decided whatever follows: what it stands for, and how many code points it has behind its `&`.
 #[derive(Clone, Copy)]
-pub(crate) struct UsualReference {
-    pub(crate) stands_for: char,
-    pub(crate) length: usize,
+struct UsualReference {
+    stands_for: char,
+    length: usize,
 }
 
 /// The decimal reference at the front of a text, behind its `&#`.
@@ -90,14 +91,13 @@ fn usual_number(names: &Names, text: &[u8]) -> Option<UsualReference>
 }
 
 /// The reference at the front of a text, behind its `&`.
-pub(crate) fn usual(names: &Names, text: &[u8]) -> Option<UsualReference>
+fn usual(names: &Names, text: &[u8]) -> Option<UsualReference>
     requires utf8 { IsUtf8 text.now }
     ensures { IfSome result (λ usual. IsReference names.now (chars text.now) usual.stands_for usual.length) }
 {
     let first = *text.first()?;
     if first == b'#' {
-        let number = usual_number(names, &text[1..])?;
-        return Some(number);
+        return usual_number(names, &text[1..]);
     }
     let found = usual_name(names, text)?;
     Some(UsualReference {
@@ -108,13 +108,28 @@ pub(crate) fn usual(names: &Names, text: &[u8]) -> Option<UsualReference>
 
 /// Whether `&` comes next.
 #[inline]
-pub(crate) fn is_at_ampersand(input: &Cursor<'_>) -> bool
+fn is_at_ampersand(input: &Cursor<'_>) -> bool
     ensures { result ≡ true → first input.now.text ≡ Some 38 }
 {
     match input.front() {
         Some(b'&') => true,
         _ => false,
     }
+}
+
+/// A named or a decimal reference at the front that is decided whatever follows, which is taken.
+#[inline(never)]
+pub(crate) fn take_reference(names: &Names, input: &mut Cursor<'_>) -> Option<char>
+    ensures some { IfSome result (λ c. ReferenceTaken names.now input.old c input.new) }
+    ensures none { IfNone result (input.new ≡ input.old) }
+{
+    if !is_at_ampersand(input) {
+        return None;
+    }
+    let usual = usual(names, input.behind_front())?;
+    input.skip_ascii(1);
+    input.skip_ascii(usual.length);
+    Some(usual.stands_for)
 }
 
 /// What a named or a decimal reference with its semicolon at the front stands for, in the data state, where `rested` becomes the place of its `&`; `None` where
@@ -135,17 +150,12 @@ pub fn next_reference<'p>(
     ensures held { held state.new ≤ input.new.place }
     ensures ahead { state.new.ahead ≡ state.old.ahead }
 {
-    if state.machine.after_cr || !state.ahead.is_empty() || !is_at_ampersand(input) {
+    if !stands_in_data(state) || !is_at_ampersand(input) {
         return None;
     }
-    match state.machine.state {
-        State::Data => {}
-        _ => return None,
-    }
-    let usual = usual(names, input.behind_front())?;
-    *rested = input.place();
-    input.skip_ascii(1);
-    input.skip_ascii(usual.length);
+    let place = input.place();
+    let stands_for = take_reference(names, input)?;
+    *rested = place;
     state.machine.enter(State::Data);
-    Some(Text::of_char(usual.stands_for))
+    Some(Text::of_char(stands_for))
 }

@@ -1,6 +1,6 @@
 use Rattle.std.proofs.Common.{ℕ, List, subst}
 use Rattle.hp_lex_tags.specs.Decided.{IsReference}
-use Rattle.hp_lex_tags.proofs.straight.take_reference.Goals as goal
+use Rattle.hp_lex_tags.proofs.usual_reference.take_reference.Goals as goal
 
 pub returns-clause-some : goal.returns-clause-some
 returns-clause-some c =
