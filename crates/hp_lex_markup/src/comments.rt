@@ -98,10 +98,7 @@ pub fn comment_less_than_sign(
             machine.put(alloc, Part::Comment, '!')?;
             Ok(go(machine, State::CommentLessThanSignBang))
         }
-        Some('<') => {
-            machine.put(alloc, Part::Comment, '<')?;
-            Ok(Reads::Consume)
-        }
+        Some('<') => put(alloc, machine, Part::Comment, '<'),
         _ => Ok(again(machine, State::Comment)),
     }
 }
@@ -163,10 +160,7 @@ pub fn comment_end(
         None => emitted_at_end(alloc, machine, tokens),
         Some('>') => emitted(alloc, machine, State::Data, tokens),
         Some('!') => Ok(go(machine, State::CommentEndBang)),
-        Some('-') => {
-            machine.put(alloc, Part::Comment, '-')?;
-            Ok(Reads::Consume)
-        }
+        Some('-') => put(alloc, machine, Part::Comment, '-'),
         Some(_) => {
             put_ascii(alloc, machine, Part::Comment, "--")?;
             Ok(again(machine, State::Comment))

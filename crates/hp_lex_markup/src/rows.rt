@@ -22,8 +22,7 @@ pub fn put_ascii(
     requires ascii { IsTrue (list_all is_ascii text.now) }
     ensures { OnOk result (machine.new ≡ putting_text part text.now machine.old) }
 {
-    machine.put_text(alloc, part, text)?;
-    Ok(())
+    machine.put_text(alloc, part, text)
 }
 
 pub fn cdata_section(
@@ -51,11 +50,20 @@ pub fn cdata_section_bracket(
 {
     match symbol {
         Some(']') => Ok(go(machine, State::CdataSectionEnd)),
-        _ => {
-            push_char(alloc, tokens, ']')?;
-            Ok(again(machine, State::CdataSection))
-        }
+        _ => bracket_emitted(alloc, machine, tokens),
     }
+}
+
+/// A bracket that ends nothing is text, and the code point is read again in the section.
+fn bracket_emitted(
+    alloc: Global,
+    machine: &mut Machine,
+    tokens: &mut Tokens<'_>,
+) -> Result<Reads, NoMemory>
+    ensures { IfOk result (Follows (words.plus right_bracket (words.again states.CdataSection machine.old)) tokens.old machine.new tokens.new) }
+{
+    push_char(alloc, tokens, ']')?;
+    Ok(again(machine, State::CdataSection))
 }
 
 /// The section goes on behind two brackets: they are text.
@@ -67,8 +75,7 @@ fn no_section_end(
     ensures { IfOk result (Follows (words.plus right_bracket (words.plus right_bracket (words.again states.CdataSection machine.old))) tokens.old machine.new tokens.new) }
 {
     push_char(alloc, tokens, ']')?;
-    push_char(alloc, tokens, ']')?;
-    Ok(again(machine, State::CdataSection))
+    bracket_emitted(alloc, machine, tokens)
 }
 
 pub fn cdata_section_end(

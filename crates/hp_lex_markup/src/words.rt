@@ -335,8 +335,7 @@ pub fn end(
     ensures ended { IfOk result (λ step. input.new.text ≡ []) }
 {
     let Some(c) = state.peek(input) else {
-        let step = end_row(alloc, state, input, tokens)?;
-        return Ok(step);
+        return end_row(alloc, state, input, tokens);
     };
     if is_pair_next(state, input) {
         drop_line_feed(state, input);
