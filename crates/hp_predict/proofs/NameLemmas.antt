@@ -1,15 +1,17 @@
 -- Names of tags that are no known names.
-use Rattle.std.proofs.Common.{◌≡◌, ℕ, Bool, true, false, ◌||◌, List, [], ◌∷◌, refl, sym, ap, ◌∙◌, map}
+use Rattle.std.proofs.Common.{◌≡◌, ◌==◌, ℕ, Bool, true, false, ◌||◌, List, [], ◌∷◌, refl, sym, ap, ◌∙◌, map}
+use Rattle.std.proofs.Math.Bool.{beq}
 use Rattle.std.specs.Prelude.{None, not}
 use Rattle.std.specs.Str.{bytes_eq}
-use Rattle.hp_elements.specs.Names.{text_of, known_of, words, is_among}
+use Rattle.hp_elements.specs.Names.{text_of, index_of, known_of, words, is_among}
 use Rattle.hp_elements.specs.RawText.{raw_text_of}
 use Rattle.hp_elements.specs.declared.known.Known.{Known}
 use Rattle.hp_elements.specs.KnownNames as k
 use Rattle.hp_elements.specs.declared.sets.Namespace.TheVariants.{Html}
 use Rattle.hp_elements.specs.declared.sets.SetName.TheVariants.{Void}
 use Rattle.hp_elements.proofs.NameLemmas.{known_of_text, some_none}
-use Rattle.hp_elements.proofs.SetLemmas.{differs, other_in}
+use Rattle.hp_elements.proofs.EveryName.{at_every, each_passes}
+use Rattle.hp_elements.proofs.SetLemmas.{beq-true, differs, other_in}
 use Rattle.std.proofs.lemmas.Slice.Eq.{bytes_eq-Decides}
 use Rattle.hp_control.proofs.TextTests.{text_test}
 use Rattle.hp_predict.specs.Tags.{counts}
@@ -24,6 +26,23 @@ known_not known text n = differs (text_of known) text (λ e. some_none known (sy
 pub none_of : (knowns : List Known) (text : List ℕ) → known_of text ≡ None → is_among (map text_of knowns) text ≡ false
 none_of [] text n = refl
 none_of (known ∷ knowns) text n = ap (λ (b : Bool). b || is_among (map text_of knowns) text) (not_known known text n) ∙ none_of knowns text n
+
+-- whether a name is html, head or body, by the places of the names
+abbrev pub is_outer : Known → Bool
+is_outer name = (index_of name == index_of k.Html || index_of name == index_of k.Head) || index_of name == index_of k.Body
+
+each_outer : each_passes (λ name. beq (is_outer name) (is_among (words "html head body") (text_of name))) ≡ true
+each_outer = refl
+
+pub outer_is : (name : Known) → is_outer name ≡ is_among (words "html head body") (text_of name)
+outer_is name = beq-true _ _ (at_every (λ n. beq (is_outer n) (is_among (words "html head body") (text_of n))) each_outer name)
+
+-- what `||` gives where its left side holds, and where it doesn't
+pub or_left : (v r a b : Bool) → v ≡ r → r ≡ true → r ≡ a → v ≡ (a || b)
+or_left v r a b is holds e = is ∙ (holds ∙ ap (λ (x : Bool). x || b) (sym holds ∙ e))
+
+pub or_right : (v w r a b : Bool) → v ≡ w → w ≡ b → r ≡ false → r ≡ a → v ≡ (a || b)
+or_right v w r a b is right fails e = is ∙ (right ∙ ap (λ (x : Bool). x || b) (sym fails ∙ e))
 
 -- it says what stands open
 pub other_counts : (text : List ℕ) → known_of text ≡ None → counts text ≡ true
