@@ -8,8 +8,8 @@ ghost use Rattle.hp_lex_raw.specs.Rows as rows;
 
 use hp_elements::Tokens;
 use hp_tokens::{
-    Building, Machine, NoMemory, OwnedText, Part, Reads, Return, State, again, emitted,
-    emitted_char, ended, go, is_blank, push_char, push_text, replaced,
+    Building, Machine, NoMemory, OwnedText, Part, Reads, Return, State, again, buffer_emitted,
+    emitted, emitted_char, ended, go, is_blank, push_char, replaced,
 };
 use std::alloc::Global;
 
@@ -202,8 +202,7 @@ fn no_end_tag(
 {
     push_char(alloc, tokens, '<')?;
     push_char(alloc, tokens, '/')?;
-    push_text(alloc, tokens, &machine.buffer)?;
-    Ok(again(machine, text))
+    buffer_emitted(alloc, machine, text, tokens)
 }
 
 /// The name of an end tag.
