@@ -19,3 +19,12 @@ returns-then-c-eq10-clause-step c = λ rested settled.
     c.in-Some.c rested c.args.tokens.now
     (and_from _ _ c.if-state.true (eq-eqb c.in-Some.c 10 c.if-c-eq10.true)) settled
     (ap (λ (x : Machine). record x { after_cr = false }) takes.machine) takes.text takes.place
+
+pub read-requires-clause-not_asked : goal.read-requires-clause-not_asked
+read-requires-clause-not_asked c = sym c.asks.ensures ∙ c.if-asks.false
+
+pub read-requires-clause-next : goal.read-requires-clause-next
+read-requires-clause-next c = sym c.in-Some.ensures
+
+pub returns-clause-step : goal.returns-clause-step
+returns-clause-step c = c.in_ok-emitted.ensures.step
