@@ -11,3 +11,24 @@ step_in_text-requires-clause-blanks c = let P : State → Type 0 = λ s. EmitsPl
 
 pub step_in_text-requires-clause-others : goal.step_in_text-requires-clause-others
 step_in_text-requires-clause-others c = let P : State → Type 0 = λ s. EmitsPlain row (none_of data_stops) s in subst P (sym c.in-Data.is) data_others
+
+pub returns-in-Data-clause-step : goal.returns-in-Data-clause-step
+returns-in-Data-clause-step c = c.step_in_text.ensures.step
+
+pub returns-in-TagName-clause-step : goal.returns-in-TagName-clause-step
+returns-in-TagName-clause-step c = c.step_in_part.ensures.step
+
+pub returns-in-AttributeName-clause-step : goal.returns-in-AttributeName-clause-step
+returns-in-AttributeName-clause-step c = c.step_in_part-in-AttributeName.ensures.step
+
+pub returns-in-AttributeValueDoubleQuoted-clause-step : goal.returns-in-AttributeValueDoubleQuoted-clause-step
+returns-in-AttributeValueDoubleQuoted-clause-step c = c.step_in_part-in-AttributeValueDoubleQuoted.ensures.step
+
+pub returns-in-AttributeValueSingleQuoted-clause-step : goal.returns-in-AttributeValueSingleQuoted-clause-step
+returns-in-AttributeValueSingleQuoted-clause-step c = c.step_in_part-in-AttributeValueSingleQuoted.ensures.step
+
+pub returns-in-AttributeValueUnquoted-clause-step : goal.returns-in-AttributeValueUnquoted-clause-step
+returns-in-AttributeValueUnquoted-clause-step c = c.step_in_part-in-AttributeValueUnquoted.ensures.step
+
+pub returns-in_default-clause-step : goal.returns-in_default-clause-step
+returns-in_default-clause-step c = c.step_by_row.ensures.step
