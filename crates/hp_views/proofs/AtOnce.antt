@@ -11,7 +11,7 @@ use Rattle.hp_control.specs.declared.question.Kept.{Kept}
 use Rattle.hp_control.specs.Faithful.{Split}
 use Rattle.hp_control.specs.Plan.{Heard, Runs, gives, crosses, kept_with}
 use Rattle.hp_views.specs.declared.walks.Walk.{Walk}
-use Rattle.hp_views.specs.declared.walks.Walk.TheVariants.{Found}
+use Rattle.hp_views.specs.declared.walks.Walk.TheVariants.{Found, Stopped}
 use Rattle.hp_views.specs.FieldPlans.{with_change}
 use Rattle.hp_views.specs.FormPlans.{older_off_at, older_off_plan}
 use Rattle.hp_views.specs.ListPlans.{cut}
@@ -40,6 +40,13 @@ through_found goals stops v w k h i found popped same =
     let P : Walk → Type 0 = λ walk. Runs h h (through_on goals stops v walk) (Ok w) in
     let Q : Heard → Type 0 = λ x. Runs h x (through_plan goals stops v) (Ok w) in
     subst Q (sym same) (subst P (sym found) (gives_same h (own_popped (k + 1) v) w (sym popped)))
+
+-- nothing is popped where a stop stands above
+pub through_stopped : (goals stops : Kinds) (v w : Split) (h i : Heard) → walk_of goals stops v.change.stack ≡ Stopped → w ≡ v → i ≡ h → Runs h i (through_plan goals stops v) (Ok w)
+through_stopped goals stops v w h i stopped left same =
+    let P : Walk → Type 0 = λ walk. Runs h h (through_on goals stops v walk) (Ok w) in
+    let Q : Heard → Type 0 = λ x. Runs h x (through_plan goals stops v) (Ok w) in
+    subst Q (sym same) (subst P (sym stopped) (gives_same h v w (sym left)))
 
 none_there : (es : List OpenElement) → (length es == 0) ≡ true → es ≡ []
 none_there [] h = refl

@@ -128,14 +128,13 @@ impl<'p, B: Below> View<'p, B> {
     pub fn through(&mut self, alloc: Global, goals: Kinds, stops: Kinds) -> Result<(), Refusal>
         ensures { Meets result (sight B.heard self.old) (sight B.heard self.new) (through_step goals stops) }
     {
-        match element_walk(&self.change.stack, &goals, &stops) {
-            Walk::Found(depth) => {
-                self.pop_own(depth + 1);
-                Ok(())
-            }
-            Walk::Stopped => Ok(()),
-            Walk::PastAll => self.through_below(alloc, goals, stops),
+        let walk = element_walk(&self.change.stack, &goals, &stops);
+        match walk {
+            Walk::Found(depth) => self.pop_own(depth + 1),
+            Walk::Stopped => {}
+            Walk::PastAll => return self.through_below(alloc, goals, stops),
         }
+        Ok(())
     }
 
     /// The same where no own element is a goal or a stop.

@@ -58,10 +58,10 @@ impl<'p, B: Below> View<'p, B> {
     pub fn is_seen(&mut self, alloc: Global, goals: Kinds, stops: Kinds) -> Result<bool, Refusal>
         ensures { Answers result (sight B.heard self.old) (sight B.heard self.new) (seen_plan goals stops) }
     {
-        match element_walk(&self.change.stack, &goals, &stops) {
-            Walk::Found(_) => Ok(true),
-            Walk::Stopped => Ok(false),
+        let walk = element_walk(&self.change.stack, &goals, &stops);
+        match walk {
             Walk::PastAll => self.seen_below(alloc, goals, stops),
+            _ => Ok(matches!(walk, Walk::Found(_))),
         }
     }
 
