@@ -9,7 +9,7 @@ ghost use Rattle.hp_views.specs.View.{Answers, Carries};
 ghost use Rattle.hp_views.specs.StackPlans.{in_scope_plan};
 ghost use Rattle.hp_elements.specs.declared.act.Scope.TheVariants as scope;
 ghost use Rattle.hp_elements.specs.KnownNames as known;
-ghost use Rattle.hp_views.specs.ClosingPlans.{close_plan, is_item_plan, close_term_plan, either, leaves_it, through_form_plan};
+ghost use Rattle.hp_views.specs.ClosingPlans.{is_item_plan, close_term_plan, through_form_plan};
 
 use crate::view::View;
 use crate::walks::{Walk, paragraph_walk};
@@ -129,35 +129,14 @@ impl<'p, B: Below> View<'p, B> {
         }
     }
 
-    /// Closes the HTML element of the name, where it is said to be open.
-    #[inline(always)]
-    fn close_if(&mut self, alloc: Global, is_open: bool, name: Known) -> Result<(), Refusal>
-        ensures { Carries result (sight B.heard self.old) (sight B.heard self.new) (either (close_plan name) leaves_it is_open) }
-    {
-        if is_open {
-            self.close(alloc, name)
-        } else {
-            Ok(())
-        }
-    }
-
     /// Closes a term.
     fn close_term(&mut self, alloc: Global) -> Result<(), Refusal>
         ensures { Carries result (sight B.heard self.old) (sight B.heard self.new) close_term_plan }
     {
-        let is_open = self.is_item(alloc, Known::DT)?;
-        self.close_if(alloc, is_open, Known::DT)
-    }
-
-    /// Closes a description, where one is said to be open, or else a term.
-    #[inline(always)]
-    fn close_either(&mut self, alloc: Global, is_open: bool) -> Result<(), Refusal>
-        ensures { Carries result (sight B.heard self.old) (sight B.heard self.new) (either (close_plan known.Dd) close_term_plan is_open) }
-    {
-        if is_open {
-            self.close(alloc, Known::DD)
+        if self.is_item(alloc, Known::DT)? {
+            self.close(alloc, Known::DT)
         } else {
-            self.close_term(alloc)
+            Ok(())
         }
     }
 
@@ -165,8 +144,11 @@ impl<'p, B: Below> View<'p, B> {
     pub fn close_description(&mut self, alloc: Global) -> Result<(), Refusal>
         ensures { Meets result (sight B.heard self.old) (sight B.heard self.new) close_description_step }
     {
-        let is_open = self.is_item(alloc, Known::DD)?;
-        self.close_either(alloc, is_open)
+        if self.is_item(alloc, Known::DD)? {
+            self.close(alloc, Known::DD)
+        } else {
+            self.close_term(alloc)
+        }
     }
 
     /// The end of a form in a template.

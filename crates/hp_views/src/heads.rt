@@ -1,9 +1,8 @@
 //! The head element, on the stack again and off it.
 ghost use Rattle.std.specs.Prelude.{◌≡◌, IfOk};
 ghost use Rattle.hp_control.specs.Acts.{head_element as spec_head_element};
-ghost use Rattle.hp_views.specs.HeadPlans.{push_plan_of};
 ghost use Rattle.hp_views.specs.Steps.{push_head_step, take_head_off_step};
-ghost use Rattle.hp_views.specs.View.{sight, Carries, Meets};
+ghost use Rattle.hp_views.specs.View.{sight, Meets};
 
 use crate::view::View;
 use crate::walks::{Walk, open_walk};
@@ -24,30 +23,21 @@ fn head_element(id: u64) -> OpenElement
 }
 
 impl<'p, B: Below> View<'p, B> {
-    /// Pushes the element of that id as head element, where it isn't on the stack.
-    fn push_if_gone(&mut self, alloc: Global, id: u64) -> Result<(), Refusal>
-        ensures { Carries result (sight B.heard self.old) (sight B.heard self.new) (push_plan_of id) }
-    {
-        match open_walk(&self.change.stack, id) {
-            Walk::Found(_) => Ok(()),
-            _ => {
-                self.change.stack.push(alloc, head_element(id))?;
-                Ok(())
-            }
-        }
-    }
-
     /// Pushes the head element onto the stack again, where there is one and it isn't there.
     pub fn push_head(&mut self, alloc: Global) -> Result<(), Refusal>
         ensures { Meets result (sight B.heard self.old) (sight B.heard self.new) push_head_step }
     {
-        match self.page {
-            Some(facts) => match facts.head {
-                Some(id) => self.push_if_gone(alloc, id),
-                None => Ok(()),
-            },
-            None => Err(Refusal::Crossed(Crossing::X4)),
+        let Some(facts) = self.page else {
+            return Err(Refusal::Crossed(Crossing::X4));
+        };
+        let Some(id) = facts.head else {
+            return Ok(());
+        };
+        if let Walk::Found(_) = open_walk(&self.change.stack, id) {
+            return Ok(());
         }
+        self.change.stack.push(alloc, head_element(id))?;
+        Ok(())
     }
 
     /// Takes the head element off the stack, where there is one and it is there.

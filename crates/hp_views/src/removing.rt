@@ -1,8 +1,8 @@
 //! Elements and entries of a view's own that are taken out of mid-list.
-ghost use Rattle.std.specs.Prelude.{◌≡◌, ◌<◌, length};
+ghost use Rattle.std.specs.Prelude.{◌≡◌};
 ghost use Rattle.hp_control.specs.Walks.{has_entry};
-ghost use Rattle.hp_views.specs.RemovePlans.{take_off_plan, remove_entry_plan, taken_at};
-ghost use Rattle.hp_views.specs.View.{sight, split_of, Carries};
+ghost use Rattle.hp_views.specs.RemovePlans.{take_off_plan, remove_entry_plan};
+ghost use Rattle.hp_views.specs.View.{sight, Carries};
 
 use crate::view::View;
 use crate::walks::{Walk, listed_walk, open_walk};
@@ -10,25 +10,14 @@ use hp_control::{Below, FormattingEntry, Refusal, Stack};
 use std::alloc::Global;
 
 impl<'p, B: Below> View<'p, B> {
-    /// Takes the own element at that depth off the stack. One at the top is popped.
-    fn take_off_at(&mut self, depth: usize)
-        requires { depth < length self.old.change.stack }
-        ensures split { split_of self.new ≡ taken_at depth (split_of self.old) }
-        ensures below { self.new.below ≡ self.old.below }
-    {
-        if depth == 0 {
-            self.pop_own(1);
-        } else {
-            self.change.stack.take_out(depth);
-        }
-    }
-
-    /// Takes the own element of this id off the stack, where it stands there.
+    /// Takes the own element of this id off the stack, where it stands there. One at the top is popped.
     pub fn take_off(&mut self, _alloc: Global, id: u64) -> Result<(), Refusal>
         ensures { Carries result (sight B.heard self.old) (sight B.heard self.new) (take_off_plan id) }
     {
-        if let Walk::Found(depth) = open_walk(&self.change.stack, id) {
-            self.take_off_at(depth);
+        match open_walk(&self.change.stack, id) {
+            Walk::Found(0) => self.pop_own(1),
+            Walk::Found(depth) => self.change.stack.take_out(depth),
+            _ => {}
         }
         Ok(())
     }

@@ -46,10 +46,8 @@ fn last_is_body(stack: &OpenElements) -> bool
 }
 
 ghost use Rattle.hp_control.specs.Walks.{second_is_body as spec_second_is_body};
-ghost use Rattle.hp_views.specs.SecondPlans.{last_is_body as spec_last_is_body, second_plan, second_older_plan, second_of_own_plan, own_modes, foreign_now_plan, foreign_below_plan};
+ghost use Rattle.hp_views.specs.SecondPlans.{last_is_body as spec_last_is_body, second_plan, second_older_plan, own_modes, foreign_now_plan};
 ghost use Rattle.hp_views.specs.View.{Knows};
-ghost use Rattle.std.specs.Prelude.{◌+◌};
-ghost use Rattle.hp_elements.specs.declared.kinds.Kinds.TheVariants as kinds;
 ghost use Rattle.hp_views.specs.Asking.{ask_last_tag, ask_seen};
 
 impl<'p, B: Below> View<'p, B> {
@@ -104,37 +102,24 @@ impl<'p, B: Below> View<'p, B> {
         ensures { Answers result (sight B.heard self.old) (sight B.heard self.new) (below_is_plan goals) }
     {
         match self.change.stack.len() {
-            0 => self.older_below_is(alloc, goals),
+            0 => {
+                let Some(depth) = self.change.popped.checked_add(1) else {
+                    return Err(Refusal::NoMemory);
+                };
+                Ok(older_seen(&mut self.below, alloc, depth, goals, Kinds::All)?)
+            }
             1 => self.seen_below(alloc, goals, Kinds::All),
             _ => Ok(is_within(&goals, self.change.stack.at(1))),
         }
-    }
-
-    /// Whether the older element next below the top of what is left is of these kinds.
-    fn older_below_is(&mut self, alloc: Global, goals: Kinds) -> Result<bool, Refusal>
-        ensures { Answers result (sight B.heard self.old) (sight B.heard self.new) (λ v. ask_seen (v.change.popped + 1) goals kinds.All) }
-    {
-        let Some(depth) = self.change.popped.checked_add(1) else {
-            return Err(Refusal::NoMemory);
-        };
-        Ok(older_seen(&mut self.below, alloc, depth, goals, Kinds::All)?)
     }
 
     /// Whether the current node is not an HTML element: there CDATA sections are read (13.2.5.42).
     pub fn foreign_now(&mut self, alloc: Global) -> Result<bool, NoMemory>
         ensures { Knows result (sight B.heard self.old) (sight B.heard self.new) foreign_now_plan }
     {
-        if self.change.stack.is_empty() {
-            self.foreign_below(alloc)
-        } else {
-            Ok(!is_html(self.change.stack.at(0)))
+        if !self.change.stack.is_empty() {
+            return Ok(!is_html(self.change.stack.at(0)));
         }
-    }
-
-    /// The same of the older stack.
-    fn foreign_below(&mut self, alloc: Global) -> Result<bool, NoMemory>
-        ensures { Knows result (sight B.heard self.old) (sight B.heard self.new) (λ v. foreign_below_plan v.change.popped) }
-    {
         let depth = self.change.popped;
         if older_seen(&mut self.below, alloc, depth, Kinds::AnyHtml, Kinds::All)? {
             return Ok(false);
@@ -164,25 +149,16 @@ impl<'p, B: Below> View<'p, B> {
     fn second_below(&mut self, alloc: Global) -> Result<bool, Refusal>
         ensures { Answers result (sight B.heard self.old) (sight B.heard self.new) second_older_plan }
     {
+        let depth = self.change.popped;
         if last_is_body(&self.change.stack) {
-            return self.second_of_own(alloc);
+            let Some(next) = depth.checked_add(1) else {
+                return Err(Refusal::NoMemory);
+            };
+            if !older_there(&mut self.below, alloc, next)? {
+                return Ok(true);
+            }
         }
-        let depth = self.change.popped;
         Ok(older_body(&mut self.below, alloc, depth)?)
-    }
-
-    /// Whether the first own element, which is a body, is the second of all, or another body is.
-    fn second_of_own(&mut self, alloc: Global) -> Result<bool, Refusal>
-        ensures { Answers result (sight B.heard self.old) (sight B.heard self.new) (λ v. second_of_own_plan v.change.popped) }
-    {
-        let depth = self.change.popped;
-        let Some(next) = depth.checked_add(1) else {
-            return Err(Refusal::NoMemory);
-        };
-        if older_there(&mut self.below, alloc, next)? {
-            return Ok(older_body(&mut self.below, alloc, depth)?);
-        }
-        Ok(true)
     }
 
     /// Whether there is a template mode. Over an older state only those of the view's own are seen.
