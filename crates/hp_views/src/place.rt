@@ -2,7 +2,7 @@
 ghost use Rattle.std.specs.Prelude.{◌≡◌, ◌≤◌, drop, length};
 ghost use Rattle.hp_control.specs.Acts.{first_id as spec_first_id, second_id as spec_second_id};
 ghost use Rattle.hp_views.specs.View.{sight, split_of, Answers};
-ghost use Rattle.hp_views.specs.PlacePlans.{own_ref, top_ref, current_ref, first_ref, at_table, own_table, foster_plan, place_plan};
+ghost use Rattle.hp_views.specs.PlacePlans.{own_ref, top_ref, current_ref, first_ref, own_table, foster_plan, place_plan};
 
 use crate::asking::older_reach;
 use crate::view::View;
@@ -82,22 +82,14 @@ impl<'p, B: Below> View<'p, B> {
         }
     }
 
-    /// The place before an own table, or in the first element where there is none.
+    /// The place before the nearest own table, or in it where it is the first element of all; in the first element where there is no table.
     fn own_table(&self) -> Place
         ensures { result ≡ own_table (split_of self.now) (walk_of spec_table of_kind.Nothing self.now.change.stack) }
     {
         let walk = element_walk(&self.change.stack, &a_table(), &Kinds::Nothing);
-        match walk {
-            Walk::Found(depth) => self.at_table(depth),
-            _ => Place::Into(self.first_ref()),
-        }
-    }
-
-    /// The place before the own table at that depth.
-    fn at_table(&self, depth: usize) -> Place
-        requires { depth < length self.now.change.stack }
-        ensures { result ≡ at_table (split_of self.now).page self.now.change.popped self.now.change.stack depth }
-    {
+        let Walk::Found(depth) = walk else {
+            return Place::Into(self.first_ref());
+        };
         let table = self.ref_at(depth);
         let is_last = depth == self.change.stack.len() - 1;
         if self.page.is_some() && is_last {
@@ -158,7 +150,6 @@ impl<'p, B: Below> View<'p, B> {
     }
 }
 
-ghost use Rattle.std.specs.Prelude.{◌<◌};
 ghost use Rattle.hp_elements.specs.declared.kinds.Kinds.TheVariants as of_kind;
 ghost use Rattle.hp_control.specs.Plan.{followed_by};
 ghost use Rattle.hp_views.specs.Asking.{ask_reach};

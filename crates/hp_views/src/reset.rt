@@ -3,14 +3,14 @@ ghost use Rattle.std.specs.Prelude.{◌≡◌, ◌<◌, ◌≤◌, ◌+◌, drop
 ghost use Rattle.hp_control.specs.declared.element.OpenElement.{OpenElement};
 ghost use Rattle.hp_control.specs.Walks.{is_cell as spec_is_cell, mode_of as spec_mode_of, last_template_mode as spec_last_template_mode, html_mode as spec_html_mode, select_mode as spec_select_mode};
 ghost use Rattle.hp_views.specs.Steps.{reset_step};
-ghost use Rattle.hp_views.specs.View.{sight, split_of, Carries, Answers, Meets};
+ghost use Rattle.hp_views.specs.View.{page_of, sight, split_of, Carries, Answers, Meets};
 ghost use Rattle.hp_views.specs.ResetPlans.{decides, mode_or_nothing as spec_mode_or_nothing, table_plan, is_first as spec_is_first};
 
 use crate::asking::older_reset;
 use crate::place::{a_table, a_template};
-use crate::view::View;
+use crate::view::{PageFacts, View};
 use crate::walks::{Walk, element_walk_from};
-use hp_control::{Below, OpenElement, Refusal, Stack, is_named, is_within};
+use hp_control::{Below, OpenElement, OpenElements, Refusal, Stack, is_named, is_within};
 use hp_elements::{Kinds, Known, Mode, SetName};
 use std::alloc::Global;
 
@@ -120,39 +120,39 @@ fn decided(
 
 ghost use Rattle.hp_views.specs.ResetPlans.{decided_by, decides_at, has_head as spec_has_head};
 
+/// Whether the page has a head.
+fn has_head(page: Option<PageFacts>) -> bool
+    ensures { result ≡ spec_has_head (page_of page) }
+{
+    match page {
+        Some(facts) => facts.head.is_some(),
+        None => true,
+    }
+}
+
+/// Whether the own element at that depth is the first of all.
+fn is_first_at(page: Option<PageFacts>, stack: &OpenElements, depth: usize) -> bool
+    requires { depth < length stack.now }
+    ensures { result ≡ spec_is_first (page_of page) (drop (depth + 1) stack.now) }
+{
+    match page {
+        Some(_) => stack.len() - 1 - depth == 0,
+        None => false,
+    }
+}
+
 impl<'p, B: Below> View<'p, B> {
-    fn page_has_head(&self) -> bool
-        ensures { result ≡ spec_has_head (split_of self.now).page }
-    {
-        match self.page {
-            Some(facts) => facts.head.is_some(),
-            None => true,
-        }
-    }
-
-    /// Whether the own element at that depth is the first of all.
-    fn is_first_at(&self, depth: usize) -> bool
-        requires { depth < length self.now.change.stack }
-        ensures { result ≡ spec_is_first (split_of self.now).page (drop (depth + 1) self.now.change.stack) }
-    {
-        match self.page {
-            Some(_) => self.change.stack.len() - 1 - depth == 0,
-            None => false,
-        }
-    }
-
     /// What the own element at that depth decides.
     fn decides_at(&self, depth: usize) -> Decides
         requires { depth < length self.now.change.stack }
         ensures { result ≡ decides_at (split_of self.now) (drop depth self.now.change.stack) }
     {
-        let is_first = self.is_first_at(depth);
-        let has_head = self.page_has_head();
+        let stack = &self.change.stack;
         decided(
-            self.change.stack.at(depth),
-            is_first,
+            stack.at(depth),
+            is_first_at(self.page, stack, depth),
             &self.change.templates,
-            has_head,
+            has_head(self.page),
         )
     }
 
