@@ -6,7 +6,7 @@ ghost use Rattle.hp_control.specs.KindTests.{within};
 ghost use Rattle.hp_views.specs.View.{sight, Carries};
 ghost use Rattle.hp_views.specs.Walks.{id_walk};
 ghost use Rattle.hp_views.specs.declared.walks.Walk.TheVariants.{Found};
-ghost use Rattle.hp_adoption.specs.AdoptPlans.{changes_older, own_turn, entry_turn, walk_turn, older_turn, kind_turn, turn_plan, turns_plan};
+ghost use Rattle.hp_adoption.specs.AdoptPlans.{changes_older, own_turn, entry_turn, walk_turn, older_turn, turn_plan, turns_plan};
 ghost use Rattle.hp_adoption.specs.Entries.{is_element, tag_in};
 ghost use Rattle.hp_adoption.specs.Turning.{Turns, last_within, seat_depth};
 
@@ -152,20 +152,6 @@ fn turn_entry<'p, B: Below>(
     }
 }
 
-/// A turn whose entry, where there is one, is older.
-fn turn_older<'p, B: Below>(
-    alloc: Global,
-    view: &mut View<'p, B>,
-    name: &Name,
-) -> Result<bool, Refusal>
-    ensures { Turns result (sight B.heard view.old) (sight B.heard view.new) (older_turn name.now) }
-{
-    let depth = view.change.popped;
-    let cuts = view.change.cuts;
-    let standing = older_listed(&mut view.below, alloc, depth, cuts, name.copy(alloc)?)?;
-    turn_by(alloc, view, name, standing.kind)
-}
-
 /// Whether a turn whose older entry stands so has to change older elements. One without such an entry never does.
 fn crosses(kind: EntryKind, stack: &OpenElements) -> bool
     ensures { result ≡ changes_older stack.now kind }
@@ -178,19 +164,21 @@ fn crosses(kind: EntryKind, stack: &OpenElements) -> bool
     }
 }
 
-/// The same, by how the older entry stands.
-fn turn_by<'p, B: Below>(
+/// A turn whose entry, where there is one, is older.
+fn turn_older<'p, B: Below>(
     alloc: Global,
     view: &mut View<'p, B>,
     name: &Name,
-    kind: EntryKind,
 ) -> Result<bool, Refusal>
-    ensures { Turns result (sight B.heard view.old) (sight B.heard view.new) (λ v. kind_turn name.now v kind) }
+    ensures { Turns result (sight B.heard view.old) (sight B.heard view.new) (older_turn name.now) }
 {
-    if crosses(kind, &view.change.stack) {
+    let depth = view.change.popped;
+    let cuts = view.change.cuts;
+    let standing = older_listed(&mut view.below, alloc, depth, cuts, name.copy(alloc)?)?;
+    if crosses(standing.kind, &view.change.stack) {
         return Err(Refusal::Crossed(Crossing::X1));
     }
-    match kind {
+    match standing.kind {
         EntryKind::Absent => walk(alloc, view, name),
         _ => Ok(false),
     }
