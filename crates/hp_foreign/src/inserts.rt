@@ -156,22 +156,6 @@ pub fn insert_foreign<'p, B: Below>(
     insert_in(alloc, view, fostering, self_closing, namespace, tag)
 }
 
-/// The namespace of an older current node; HTML where there is none.
-fn older_namespace<'p, B: Below>(
-    alloc: Global,
-    view: &mut View<'p, B>,
-) -> Result<Namespace, Refusal>
-    ensures { Answers result (sight B.heard view.old) (sight B.heard view.new) (λ v. older_namespace v) }
-{
-    let depth = view.change.popped;
-    match older_element(&mut view.below, alloc, depth)? {
-        Some(element) => Ok(element.namespace),
-        None => Ok(Namespace::Html),
-    }
-}
-
-ghost use Rattle.hp_foreign.specs.Plans.{older_namespace};
-
 /// The namespace of the current node; HTML where there is none.
 fn current_namespace<'p, B: Below>(
     alloc: Global,
@@ -179,10 +163,13 @@ fn current_namespace<'p, B: Below>(
 ) -> Result<Namespace, Refusal>
     ensures { Answers result (sight B.heard view.old) (sight B.heard view.new) namespace_plan }
 {
-    if view.change.stack.is_empty() {
-        older_namespace(alloc, view)
-    } else {
-        Ok(view.change.stack.at(0).namespace)
+    if !view.change.stack.is_empty() {
+        return Ok(view.change.stack.at(0).namespace);
+    }
+    let depth = view.change.popped;
+    match older_element(&mut view.below, alloc, depth)? {
+        Some(element) => Ok(element.namespace),
+        None => Ok(Namespace::Html),
     }
 }
 
