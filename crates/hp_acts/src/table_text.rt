@@ -86,7 +86,8 @@ fn ends<'p, B: Below>(view: &View<'p, B>, token: &Token<'p>) -> bool
     !is_characters(token) && is_waiting(view.change.mode) && is_in_html(&view.change.stack)
 }
 
-/// Handles a token that has no usual row.
+/// Handles a token that has no usual row: characters that wait and what ends them, text that goes into the current node, and else by
+/// the table.
 #[inline(never)]
 pub(crate) fn handle_other<'p, B: Below>(
     alloc: Global,
@@ -99,35 +100,9 @@ pub(crate) fn handle_other<'p, B: Below>(
         end(alloc, view, token)
     } else if begins(view, token) {
         begin(alloc, view, token)
-    } else {
-        handle_inside(alloc, view, token)
-    }
-}
-
-/// The same where the token neither begins nor ends them.
-fn handle_inside<'p, B: Below>(
-    alloc: Global,
-    view: &mut View<'p, B>,
-    token: &mut Token<'p>,
-) -> Result<Handled, Refusal>
-    ensures { Handles result (sight B.heard view.old) (sight B.heard view.new) (all_turns_plan token.old) }
-{
-    if continues(view, token) {
+    } else if continues(view, token) {
         go_on(alloc, view, token)
-    } else {
-        handle_plainly(alloc, view, token)
-    }
-}
-
-/// The same where it doesn't wait.
-fn handle_plainly<'p, B: Below>(
-    alloc: Global,
-    view: &mut View<'p, B>,
-    token: &mut Token<'p>,
-) -> Result<Handled, Refusal>
-    ensures { Handles result (sight B.heard view.old) (sight B.heard view.new) (all_turns_plan token.old) }
-{
-    if is_plain(view, token) {
+    } else if is_plain(view, token) {
         put_plain(alloc, view, taken(token))
     } else {
         take_all_turns(alloc, view, taken(token))
