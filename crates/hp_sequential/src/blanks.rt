@@ -60,10 +60,7 @@ fn state_blanks<'p>(
     ensures held { held state.now ≤ input.new.place }
 {
     match state.machine.state {
-        State::Data => {
-            let text = data_blanks(state, input, names, rested)?;
-            Some(text)
-        }
+        State::Data => data_blanks(state, input, names, rested),
         _ => None,
     }
 }

@@ -119,8 +119,7 @@ impl<'p> Builder<'p> {
         ensures grown { OnOk result (HasGrown self.old self.new) }
         ensures all { OnOk result (self.new.view.edits ≡ []) }
     {
-        self.tree.grow(alloc, &mut self.view.edits)?;
-        Ok(())
+        self.tree.grow(alloc, &mut self.view.edits)
     }
 
     /// The tree, without the edits that weren't applied.

@@ -97,11 +97,9 @@ impl<'p> Parsing<'p> {
         ensures reads { OnOk result ((page : List ℕ) → Reads page self.old → ReadsFurther page self.old self.new) }
     {
         if self.is_at_markup() {
-            let tag = self.take_tag(alloc)?;
-            return Ok(tag);
+            return self.take_tag(alloc);
         }
-        let plain = self.take_plain(alloc)?;
-        Ok(plain)
+        self.take_plain(alloc)
     }
 
     /// Reads the text to the end of the next tag, where the lexer's table decides what comes next. Answers whether something
@@ -116,8 +114,7 @@ impl<'p> Parsing<'p> {
     {
         self.cut_piece();
         self.read_cut(alloc)?;
-        let more = self.join_later();
-        Ok(more)
+        Ok(self.join_later())
     }
 
     /// Cuts the text behind the next `>`.
@@ -185,11 +182,9 @@ impl<'p> Parsing<'p> {
         ensures reads { OnOk result ((page : List ℕ) → Reads page self.old → ReadsFurther page self.old self.new) }
     {
         if self.builder.takes_text() {
-            let text = self.take_text(alloc)?;
-            return Ok(text);
+            return self.take_text(alloc);
         }
-        let blanks = self.take_blanks(alloc)?;
-        Ok(blanks)
+        self.take_blanks(alloc)
     }
 
     /// Takes a text at the front whole, where it goes into the current node as it comes. Answers whether there was one.
@@ -319,8 +314,7 @@ impl<'p> Parsing<'p> {
         ensures { OnOk result (Took self.old self.new (map character text.entry)) }
     {
         self.builder.put_text(alloc, text)?;
-        self.builder.grow_by_batch(alloc)?;
-        Ok(())
+        self.builder.grow_by_batch(alloc)
     }
 
     /// Handles white space as one token.
@@ -331,8 +325,7 @@ impl<'p> Parsing<'p> {
         ensures { OnOk result (Took self.old self.new (map character text.entry)) }
     {
         self.builder.put_blanks(alloc, text)?;
-        self.builder.grow_by_batch(alloc)?;
-        Ok(())
+        self.builder.grow_by_batch(alloc)
     }
 
     /// Handles the tokens of a step, one behind the other.
@@ -390,8 +383,7 @@ impl<'p> Parsing<'p> {
         ensures { OnOk result ((page : List ℕ) → Reads page self.old → IsTreeOf built_in page self.new.builder.tree.branches) }
     {
         self.run(alloc)?;
-        self.end(alloc)?;
-        Ok(())
+        self.end(alloc)
     }
 
     /// The tree, once all is read.
@@ -474,6 +466,5 @@ fn handle_own<'p>(
     ensures { IfOk result (λ switch. HandledOne builder.old builder.new token.entry switch) }
 {
     let own = of_page(alloc, token)?;
-    let switch = builder.handle_one(alloc, own)?;
-    Ok(switch)
+    builder.handle_one(alloc, own)
 }

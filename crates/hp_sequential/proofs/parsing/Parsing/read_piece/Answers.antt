@@ -8,8 +8,8 @@ read_cut-requires-clause-within c = within-on c.args.self.now c.cut_piece.new.se
 pub returns-clause-read : goal.returns-clause-read
 returns-clause-read c =
     let w = c.requires.within in
-    piece-read c.args.self.now c.cut_piece.new.self c.read_cut.new.self c.join_later-more.new.self c.join_later-more.result c.join_later-more.ensures.joined c.in_ok-read_cut.ensures.later c.cut_piece.ensures.shorter
-    (λ more. c.join_later-more.ensures.on_page more w.page (c.in_ok-read_cut.ensures.reads w.page (c.cut_piece.ensures.reads w.page w.reads)))
+    piece-read c.args.self.now c.cut_piece.new.self c.read_cut.new.self c.join_later.new.self c.join_later.result c.join_later.ensures.joined c.in_ok-read_cut.ensures.later c.cut_piece.ensures.shorter
+    (λ more. c.join_later.ensures.on_page more w.page (c.in_ok-read_cut.ensures.reads w.page (c.cut_piece.ensures.reads w.page w.reads)))
 
 pub returns-clause-reads : goal.returns-clause-reads
-returns-clause-reads c = λ page r. c.join_later-more.ensures.reads page (c.in_ok-read_cut.ensures.reads page (c.cut_piece.ensures.reads page r))
+returns-clause-reads c = λ page r. c.join_later.ensures.reads page (c.in_ok-read_cut.ensures.reads page (c.cut_piece.ensures.reads page r))
