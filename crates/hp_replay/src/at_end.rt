@@ -39,10 +39,7 @@ fn end_edits<'p>(alloc: Global, from: &Control) -> Result<Edits<'p>, NoMemory>
 {
     let mut view = view_of(alloc, from)?;
     match end_view(alloc, &mut view, from) {
-        Ok(()) => {
-            let edits = told_all(alloc, into_edits(view))?;
-            Ok(edits)
-        }
+        Ok(()) => told_all(alloc, into_edits(view)),
         Err(fault) => {
             leave_view(view);
             Err(fault)
@@ -62,6 +59,5 @@ fn end_view<'p>(alloc: Global, view: &mut View<'p, Nothing>, from: &Control) -> 
     hp_pieces::ends_of_text();
     let lex = &from.lex;
     let tokens = Lexer::from_state(alloc, lex)?.finish(alloc)?;
-    collect_last(alloc, view, tokens)?;
-    Ok(())
+    collect_last(alloc, view, tokens)
 }

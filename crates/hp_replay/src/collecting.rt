@@ -118,8 +118,7 @@ fn collect_own<'p>(
     ensures { IfOk result (λ switch. Collects (split_of view.old) (split_of view.new) token.entry switch) }
 {
     let own = of_page(alloc, token)?;
-    let switch = collect(alloc, view, own)?;
-    Ok(switch)
+    collect(alloc, view, own)
 }
 
 /// Handles the tokens of the end of input. What they call for has no effect, since nothing is read behind them.

@@ -1,4 +1,5 @@
 use Rattle.std.proofs.Common.{subst, sym}
+use Rattle.std.specs.Prelude.{IfOk}
 use Rattle.hp_elements.specs.declared.token.Token.{Token}
 use Rattle.hp_model.specs.Whole.{IsRead}
 use Rattle.hp_views.specs.View.{split_of}
@@ -10,5 +11,5 @@ collect-requires-clause-read c = subst IsRead (sym c.in_ok-own.ensures) c.requir
 
 pub returns : goal.returns
 returns c =
-    let P : Token → Type 0 = λ t. Collects (split_of c.args.view.now) (split_of c.collect.new.view) t c.in_ok-switch.switch in
-    subst P c.in_ok-own.ensures c.in_ok-switch.ensures
+    let P : Token → Type 0 = λ t. IfOk c.collect.result (Collects (split_of c.args.view.now) (split_of c.collect.new.view) t) in
+    subst P c.in_ok-own.ensures c.collect.ensures
