@@ -1,36 +1,8 @@
 //! Pages against an independent maker's.
-use crate::cases::{Case, compare};
 use hp_make::make_page;
 use std::alloc::Global;
 use std::mem;
 use std::process::Abort;
-
-/// A seed, a length, and the page.
-type Worked = (u64, u32, &'static str);
-
-const WORKED: &[Worked] = &[
-    (0, 40, "<!DOCTYPE html>text text <!-- note -->xx"),
-    (5, 3, "xxx"),
-    (7, 0, ""),
-    (0, 14, "xxxxxxxxxxxxxx"),
-    (0, 15, "<!DOCTYPE html>"),
-    (0, 16, "<!DOCTYPE html>x"),
-];
-
-impl Case for Worked {
-    fn is_so(&self, rt: &impl Abort, alloc: Global) -> bool {
-        let (seed, bytes, wanted) = *self;
-        let page = make_page(alloc, seed, bytes).expect(rt, "there is memory");
-        let well = page.as_slice() == wanted.as_bytes();
-        mem::forget(page);
-        well
-    }
-}
-
-#[test]
-fn makes_the_worked_pages(rt: HostRuntime) {
-    compare(&rt, rt.alloc(), WORKED);
-}
 
 /// FNV-1a over the bytes.
 fn checksum(page: &[u8]) -> u64 {
@@ -41,8 +13,8 @@ fn checksum(page: &[u8]) -> u64 {
     value
 }
 
-/// The checksum of the page of that number, with the length that the checksums were made for; none where it has another.
-fn checksum_of(rt: &impl Abort, alloc: Global, number: u64) -> Option<u64> {
+/// The checksum of the page of that number, which has the length that the checksums were made for.
+fn checksum_of(rt: &impl Abort, alloc: Global, number: u64) -> u64 {
     let number = number % 1000;
     let bytes = if number < 100 {
         number
@@ -51,22 +23,19 @@ fn checksum_of(rt: &impl Abort, alloc: Global, number: u64) -> Option<u64> {
     };
     let seed = number.wrapping_mul(0x9e37_79b9_7f4a_7c15);
     let page = make_page(alloc, seed, bytes as u32).expect(rt, "there is memory");
-    let made = (page.len() as u64 == bytes).then_some(checksum(&page));
+    let made = checksum(&page);
+    let length = page.len() as u64;
     mem::forget(page);
+    assert!(rt; length == bytes);
     made
-}
-
-/// Whether the page of that number has the checksum of these digits.
-fn has_checksum(rt: &impl Abort, alloc: Global, number: u64, digits: &str) -> bool {
-    let wanted = u64::from_str_radix(digits, 16).expect(rt, "a checksum");
-    checksum_of(rt, alloc, number) == Some(wanted)
 }
 
 /// Compares the checksums of pages, and answers how many there were.
 fn compare_checksums(rt: &impl Abort, alloc: Global, checksums: &str) -> u64 {
     let mut number: u64 = 0;
     for digits in checksums.split(',') {
-        assert!(rt; has_checksum(rt, alloc, number, digits), "page {number}");
+        let wanted = u64::from_str_radix(digits, 16).expect(rt, "a checksum");
+        assert!(rt; checksum_of(rt, alloc, number) == wanted, "page {number}");
         number = number.saturating_add(1);
     }
     number

@@ -340,31 +340,3 @@ fn rows_of_rest(rt: HostRuntime) {
     };
     reading.compare(&rt, rt.alloc());
 }
-
-fn has_row(part: Part, mode: Mode, token: &Token<'_>) -> bool {
-    row_of(part, Some(mode), token).is_some()
-}
-
-/// Whether a crate but the first has a row of the token.
-fn has_others(mode: Mode, token: &Token<'_>) -> bool {
-    has_row(Part::Body, mode, token)
-        || has_row(Part::Table, mode, token)
-        || has_row(Part::Rest, mode, token)
-}
-
-/// Only the first crate has a row of the token in these modes.
-fn compare_page_modes(rt: &impl Abort, modes: &[Mode], token: &Token<'_>) {
-    for mode in modes {
-        assert!(rt; has_row(Part::Page, *mode, token));
-        assert!(rt; !has_others(*mode, token));
-    }
-}
-
-#[test]
-fn each_crate_answers_for_its_own_modes_alone(rt: HostRuntime) {
-    let token = Token::EndOfInput;
-    compare_page_modes(&rt, &PAGE_MODES, &token);
-    assert!(rt; has_row(Part::Rest, Mode::InTemplate, &token));
-    assert!(rt; !has_row(Part::Page, Mode::InTemplate, &token));
-    mem::forget(token);
-}
