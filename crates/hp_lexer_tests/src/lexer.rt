@@ -7,7 +7,7 @@ use crate::cases::{CASES, Texts};
 use crate::markup::MARKUP;
 use crate::raw::RAW;
 use crate::tags::TAGS;
-use crate::teller::{Places, Teller, show};
+use crate::teller::Teller;
 use hp_elements::{Known, Name, Rest};
 use hp_lexer::{Asked, Cursor, Lexer, Step};
 use hp_tokens::ORIGIN;
@@ -142,13 +142,13 @@ fn resumed(rt: &impl Abort, alloc: Global, lexer: &Lexer) -> Lexer {
     }
 }
 
-/// Tells the tokens of the end of input.
+/// Tells the tokens of the end of input, of which no place is wanted.
 fn tell_end(rt: &impl Abort, alloc: Global, lexer: Lexer, teller: &mut Teller<'_>) {
     assert!(rt; lexer.lex.ahead.len_bytes() <= ORIGIN);
     match lexer.asked {
         Asked::Nothing => {
             let tokens = lexer.finish(alloc).expect(rt, "there is memory");
-            teller.tell_last(tokens.as_slice());
+            teller.tell_all(tokens.as_slice(), 0);
             mem::forget(tokens);
         }
         _ => panic!(rt; "a question is open at the end"),
@@ -165,20 +165,13 @@ struct Case<'c> {
 }
 
 /// Whether the tokens of a text in two pieces are those that are wanted, straight where they can be read so; another lexer goes on with
-/// the second piece.
-fn is_lexed(
-    rt: &impl Abort,
-    alloc: Global,
-    case: Case<'_>,
-    cut: usize,
-    places: Places,
-    straight: bool,
-) -> bool {
+/// the second piece. Where that isn't empty, places are passed over.
+fn is_lexed(rt: &impl Abort, alloc: Global, case: Case<'_>, cut: usize, straight: bool) -> bool {
     let manner = Manner {
         foreign: case.foreign,
         straight,
     };
-    let mut teller = Teller::new(case.tokens, places);
+    let mut teller = Teller::new(case.tokens, cut == case.text.len());
     let mut lexer = Lexer::at_rest(case.rest, false);
     let (first, second) = case.text.split_at_checked(cut).unwrap_or((case.text, ""));
     tell_piece(rt, alloc, &mut lexer, manner, first, &mut teller);
@@ -190,26 +183,16 @@ fn is_lexed(
 }
 
 /// Compares a text that is cut there, read by the table and straight.
-fn compare_at(rt: &impl Abort, alloc: Global, case: Case<'_>, cut: usize, places: Places) {
-    show(
-        rt,
-        is_lexed(rt, alloc, case, cut, places, false),
-        case.text,
-        cut,
-    );
-    show(
-        rt,
-        is_lexed(rt, alloc, case, cut, places, true),
-        case.text,
-        cut,
-    );
+fn compare_at(rt: &impl Abort, alloc: Global, case: Case<'_>, cut: usize) {
+    let well = is_lexed(rt, alloc, case, cut, false) && is_lexed(rt, alloc, case, cut, true);
+    assert!(rt; well, "{} cut at {cut}", case.text);
 }
 
 /// Compares a text, whole and cut at each place.
 fn compare_case(rt: &impl Abort, alloc: Global, case: Case<'_>) {
-    compare_at(rt, alloc, case, case.text.len(), Places::Told);
+    compare_at(rt, alloc, case, case.text.len());
     for (cut, _) in case.text.char_indices() {
-        compare_at(rt, alloc, case, cut, Places::PassedOver);
+        compare_at(rt, alloc, case, cut);
     }
 }
 

@@ -1,4 +1,4 @@
-//! Every name and every replaced value against an independent reader's lists, and what the standard's own examples find.
+//! Every name and every replaced value against an independent reader's lists.
 use hp_names::{Found, Names, numeric};
 use std::process::Abort;
 
@@ -38,33 +38,12 @@ times; d7,trade; 2122,uArr; 21d1,uacute fa,uacute; fa,uarr; 2191,ucirc fb,ucirc;
 uml; a8,upsih; 3d2,upsilon; 3c5,uuml fc,uuml; fc,weierp; 2118,xi; 3be,yacute fd,yacute; fd,yen a5,yen; a5,yuml ff,\
 yuml; ff,zeta; 3b6,zwj; 200d,zwnj; 200c";
 
-/// Each value that stands for another code point, with that.
-const REPLACED: &str = "\
-80 20ac,82 201a,83 192,84 201e,85 2026,86 2020,87 2021,88 2c6,89 2030,8a 160,8b 2039,8c 152,8e 17d,91 2018,92 2019,\
-93 201c,94 201d,95 2022,96 2013,97 2014,98 2dc,99 2122,9a 161,9b 203a,9c 153,9e 17e,9f 178";
-
-/// Values at the ends of what is replaced, with the code points that they stand for.
+/// Each value that stands for another code point, with that, and values at the ends of what is replaced.
 const VALUES: &str = "\
+80 20ac,82 201a,83 192,84 201e,85 2026,86 2020,87 2021,88 2c6,89 2030,8a 160,8b 2039,8c 152,8e 17d,91 2018,92 2019,\
+93 201c,94 201d,95 2022,96 2013,97 2014,98 2dc,99 2122,9a 161,9b 203a,9c 153,9e 17e,9f 178,\
 0 fffd,41 41,7f 7f,81 81,8d 8d,9d 9d,a0 a0,d7ff d7ff,d800 fffd,dfff fffd,e000 e000,10ffff 10ffff,110000 fffd,\
 ffffffffffffffff fffd";
-
-/// What the rows of a list say.
-#[derive(Clone, Copy)]
-enum Says {
-    /// A name stands for the code point.
-    Name,
-    /// A value, in hexadecimal digits, stands for the code point.
-    Value,
-}
-
-fn found(name: &str, first: char) -> Option<Found> {
-    Some(Found {
-        length: name.len() as u64,
-        first,
-        second: None,
-        ends_with_semicolon: name.as_bytes().last() == Some(&b';'),
-    })
-}
 
 /// The two parts of a row, the second as the code point whose digits it has.
 fn parts(row: &str) -> Option<(&str, char)> {
@@ -73,19 +52,19 @@ fn parts(row: &str) -> Option<(&str, char)> {
     Some((left, char::from_u32(code)?))
 }
 
-/// Whether what a row or a text says is so is shown here.
-fn show(rt: &impl Abort, well: bool, text: &str) {
-    assert!(rt; well, "{text}");
-}
-
 /// Whether a name is found, alone and before the other bytes of its row.
 fn is_found(name: &str, first: char, row: &str) -> bool {
     let names = Names::built_in();
-    let wanted = found(name, first);
+    let wanted = Some(Found {
+        length: name.len() as u64,
+        first,
+        second: None,
+        ends_with_semicolon: name.ends_with(';'),
+    });
     names.longest(name.as_bytes()) == wanted && names.longest(row.as_bytes()) == wanted
 }
 
-/// Whether a value is replaced so.
+/// Whether a value, whose digits these are, is replaced so.
 fn is_replaced(digits: &str, by: char) -> bool {
     match u64::from_str_radix(digits, 16) {
         Ok(value) => numeric(value) == by,
@@ -93,102 +72,24 @@ fn is_replaced(digits: &str, by: char) -> bool {
     }
 }
 
-/// Whether what a row says is so.
-fn is_so(says: Says, row: &str) -> bool {
-    match (parts(row), says) {
-        (Some((name, first)), Says::Name) => is_found(name, first, row),
-        (Some((digits, by)), Says::Value) => is_replaced(digits, by),
-        (None, _) => false,
-    }
-}
-
-/// Shows that each row is so, and answers how many there are.
-fn show_rows(rt: &impl Abort, says: Says, rows: &str) -> u64 {
+/// Shows that each row is so, of names or else of values, and answers how many there are.
+fn show_rows(rt: &impl Abort, of_names: bool, rows: &str) -> u64 {
     let mut count: u64 = 0;
     for row in rows.split(',') {
-        show(rt, is_so(says, row), row);
+        let (left, code) = parts(row).expect(rt, "a row has two parts");
+        let well = if of_names {
+            is_found(left, code, row)
+        } else {
+            is_replaced(left, code)
+        };
+        assert!(rt; well, "{row}");
         count = count.saturating_add(1);
     }
     count
 }
 
 #[test]
-fn finds_each_name(rt: HostRuntime) {
-    assert!(rt; show_rows(&rt, Says::Name, NAMES) == 365);
-}
-
-#[test]
-fn replaces_the_numeric_values(rt: HostRuntime) {
-    assert!(rt; show_rows(&rt, Says::Value, REPLACED) == 27);
-    assert!(rt; show_rows(&rt, Says::Value, VALUES) == 14);
-}
-
-/// A text, and the longest name that it begins with, where there is one, with what that stands for.
-const LONGEST: &[(&str, Option<(&str, char)>)] = &[
-    ("notin;", Some(("notin;", '\u{2209}'))),
-    ("notit;", Some(("not", '\u{ac}'))),
-    ("not", Some(("not", '\u{ac}'))),
-    ("not;in", Some(("not;", '\u{ac}'))),
-    ("ampamp;", Some(("amp", '&'))),
-    ("copy=1", Some(("copy", '\u{a9}'))),
-    ("sup1x", Some(("sup1", '\u{b9}'))),
-    ("thetasym;", Some(("thetasym;", '\u{3d1}'))),
-    ("", None),
-    ("b=2", None),
-    ("foo;", None),
-    ("No;", None),
-    ("nosuch", None),
-    ("\u{e9}", None),
-];
-
-/// Whether a text begins with that name, and no longer one.
-fn is_longest(text: &str, name: Option<(&str, char)>) -> bool {
-    let wanted = match name {
-        Some((name, first)) => found(name, first),
-        None => None,
-    };
-    Names::built_in().longest(text.as_bytes()) == wanted
-}
-
-fn show_longest(rt: &impl Abort, cases: &[(&str, Option<(&str, char)>)]) {
-    for (text, name) in cases {
-        show(rt, is_longest(text, *name), text);
-    }
-}
-
-#[test]
-fn finds_the_longest_name(rt: HostRuntime) {
-    show_longest(&rt, LONGEST);
-}
-
-/// A text, whether its longest name may still change, and whether more text is needed to tell it.
-const GROWING: &[(&str, bool, bool)] = &[
-    ("", true, true),
-    ("n", true, true),
-    ("not", true, true),
-    ("noti", true, true),
-    ("notin", true, true),
-    ("notin;", false, false),
-    ("notit", false, false),
-    ("amp;", false, false),
-    ("b=", false, false),
-    ("zzz", false, false),
-];
-
-/// Whether a text's longest name may change, and is open, as that says.
-fn grows_so(text: &str, grows: bool, open: bool) -> bool {
-    let names = Names::built_in();
-    let text = text.as_bytes();
-    names.might_grow(text) == grows && names.is_open(text) == open
-}
-
-fn show_growing(rt: &impl Abort, cases: &[(&str, bool, bool)]) {
-    for (text, grows, open) in cases {
-        show(rt, grows_so(text, *grows, *open), text);
-    }
-}
-
-#[test]
-fn tells_which_texts_may_grow(rt: HostRuntime) {
-    show_growing(&rt, GROWING);
+fn names_and_values_stand_for_code_points(rt: HostRuntime) {
+    assert!(rt; show_rows(&rt, true, NAMES) == 365);
+    assert!(rt; show_rows(&rt, false, VALUES) == 41);
 }

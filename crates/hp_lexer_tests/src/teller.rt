@@ -1,19 +1,7 @@
 //! Tells tokens as a text, one behind the other, and compares it with the text that is wanted.
 use hp_elements::{Doctype, Tag, Text, Token};
-use std::process::Abort;
 
-/// What becomes of the places where tokens began.
-#[derive(Clone, Copy)]
-pub enum Places {
-    /// They are told.
-    Told,
-    /// They aren't told, and those that are wanted are passed over.
-    PassedOver,
-    /// They aren't told, and none is wanted.
-    Without,
-}
-
-/// Tells runs in brackets, other tokens with the place where they began, where places are told: `<name attribute=value/>@place`,
+/// Tells runs in brackets, other tokens with the place where they began, where one is wanted: `<name attribute=value/>@place`,
 /// `</name>@place`, `<!--comment-->@place`, `<!(name) (public) (system) quirks>@place`, and `$` for the end of input.
 #[derive(Drop)]
 pub struct Teller<'w> {
@@ -22,18 +10,19 @@ pub struct Teller<'w> {
     /// Whether what was told was wanted.
     well: bool,
     in_run: bool,
-    places: Places,
+    /// Whether places are told, and not passed over.
+    with_places: bool,
 }
 
 const DIGITS: &[char] = &['0', '1', '2', '3', '4', '5', '6', '7', '8', '9'];
 
 impl<'w> Teller<'w> {
-    pub fn new(wanted: &'w str, places: Places) -> Teller<'w> {
+    pub fn new(wanted: &'w str, with_places: bool) -> Teller<'w> {
         Teller {
             left: wanted,
             well: true,
             in_run: false,
-            places,
+            with_places,
         }
     }
 
@@ -112,20 +101,15 @@ impl<'w> Teller<'w> {
         }
     }
 
-    /// Takes off the place that is wanted next.
-    fn take_place(&mut self) -> Option<u64> {
-        let behind = self.left.strip_prefix('@')?;
-        self.left = behind.trim_start_matches(DIGITS);
-        u64::from_str_radix(behind.strip_suffix(self.left)?, 10).ok()
-    }
-
+    /// Tells the place where a token began, where one is wanted.
     fn tell_place(&mut self, began: u64) {
-        match self.places {
-            Places::Told => self.well &= self.take_place() == Some(began),
-            Places::PassedOver => {
-                self.take_place();
+        if let Some(behind) = self.left.strip_prefix('@') {
+            let left = behind.trim_start_matches(DIGITS);
+            let digits = behind.strip_suffix(left).unwrap_or("");
+            self.left = left;
+            if self.with_places {
+                self.well &= u64::from_str_radix(digits, 10).ok() == Some(began);
             }
-            Places::Without => {}
         }
     }
 
@@ -145,16 +129,4 @@ impl<'w> Teller<'w> {
             self.tell(token, began);
         }
     }
-
-    /// Tells the tokens of the end of input, without places.
-    pub fn tell_last(&mut self, tokens: &[Token<'_>]) {
-        self.places = Places::Without;
-        self.tell_all(tokens, 0);
-        self.end_run();
-    }
-}
-
-/// Whether a text that is cut there gave what is wanted is shown here.
-pub fn show(rt: &impl Abort, well: bool, text: &str, cut: usize) {
-    assert!(rt; well, "{text} cut at {cut}");
 }
