@@ -7,16 +7,13 @@ use std::alloc::Global;
 use std::mem;
 use std::process::Abort;
 
-pub fn detach(id: u64) -> Edit<'static> {
-    let node = Ref::Fixed(id);
-    Edit::Detach { node }
-}
-
 /// Makes room for so many edits without attributes. What is owned is kept to the end of the test.
 pub fn make_room(rt: &impl Abort, alloc: Global, tree: &mut Tree<'static>, count: usize) {
     let mut edits: Edits<'static> = Edits::new();
     for _ in 0..count {
-        edits.push(alloc, detach(0)).expect(rt, "there is memory");
+        edits
+            .push(alloc, put(comment(), 0))
+            .expect(rt, "there is memory");
     }
     tree.reserve(alloc, &edits).expect(rt, "there is memory");
     mem::forget(edits);
@@ -52,6 +49,11 @@ pub fn comment() -> Child<'static> {
     Child::Comment(Text::new())
 }
 
+/// A text of one letter.
+pub fn letter() -> Child<'static> {
+    Child::Text(Text::of_char('t'))
+}
+
 pub fn put(child: Child<'static>, parent: u64) -> Edit<'static> {
     Edit::Put {
         child,
@@ -63,12 +65,12 @@ pub fn put_element(id: u64, parent: u64) -> Edit<'static> {
     put(Child::Element(Ref::Fixed(id)), parent)
 }
 
-/// Puts a child before a table, or else last into another element.
-pub fn foster(child: Child<'static>, table: u64, above: u64) -> Edit<'static> {
+/// Puts a child before an element, or else last into another.
+pub fn foster(child: Child<'static>, before: u64, above: u64) -> Edit<'static> {
     Edit::Put {
         child,
         place: Place::Foster {
-            table: Ref::Fixed(table),
+            table: Ref::Fixed(before),
             above: Ref::Fixed(above),
         },
     }
