@@ -1,5 +1,4 @@
 //! Runs of the top call over devices in memory. What is owned is kept to the end of the test.
-ghost use Rattle.std.specs.Prelude.{ℕ, None, ◌≤◌};
 
 use super::*;
 use hp_text::{MemorySink, MemorySource, PAGE_LIMIT, Sink, Source, SteadySource};
