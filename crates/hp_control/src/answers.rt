@@ -1,6 +1,6 @@
 //! The true answer to each question, read in a full state.
 ghost use Rattle.std.specs.Prelude.{◌≡◌, ◌+◌, ◌<◌, ◌^◌, IfOk, IfSome, drop, slice_get};
-ghost use Rattle.hp_control.specs.Truth.{answer_of, yes_or_no, depth_answer, away_or, pointer_answer, element_answer, entry_answer, rest_of, fact_answer, listed_answer};
+ghost use Rattle.hp_control.specs.Truth.{answer_of, yes_or_no, depth_answer, pointer_answer, element_answer, entry_answer, rest_of, fact_answer, listed_answer};
 
 use crate::control::Control;
 use crate::element::FormattingEntry;
@@ -31,23 +31,16 @@ fn depth_answer(from: u64, found: Option<usize>) -> Answer
     }
 }
 
-fn away_or(from: u64, found: Option<usize>) -> Answer
-    requires { IfSome found (λ found. from + found < 2 ^ 64) }
-    ensures { result ≡ away_or from found }
-{
-    match found {
-        Some(found) => Answer::Depth(from + found as u64),
-        None => Answer::Away,
-    }
-}
-
 /// How the element of the form pointer stands.
 fn pointer_answer(stack: &OpenElements, from: u64, form: Option<u64>) -> Answer
     ensures { result ≡ pointer_answer from form (drop from stack.now) }
 {
-    match form {
-        None => Answer::Null,
-        Some(id) => away_or(from, scope_from(stack, from as usize, id)),
+    let Some(id) = form else {
+        return Answer::Null;
+    };
+    match scope_from(stack, from as usize, id) {
+        Some(found) => Answer::Depth(from + found as u64),
+        None => Answer::Away,
     }
 }
 

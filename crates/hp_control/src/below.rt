@@ -1,6 +1,6 @@
 //! The state below a chunk, as far as it is known.
 ghost use Rattle.std.specs.Prelude.{◌≡◌, ◌∷◌, ◌++◌, [], IfOk, Some, None, Ok};
-ghost use Rattle.hp_control.specs.Truth.{answer_of, fact_answer};
+ghost use Rattle.hp_control.specs.Truth.{answer_of};
 ghost use Rattle.hp_control.specs.Nothing.{nothing};
 ghost use Rattle.hp_control.specs.Plan.{Heard, Runs, asks, gives};
 ghost use Rattle.hp_control.specs.declared.question.Question.{Question};
@@ -55,7 +55,10 @@ pub(crate) fn answer_nothing(alloc: Global, question: &Question) -> Result<Answe
         }),
         Question::Same { .. } => Ok(Answer::Count(0)),
         Question::Pointer { .. } => Ok(Answer::Null),
-        Question::Fact { which } => fact_of_nothing(alloc, *which),
+        Question::Fact { which } => match which {
+            FactKind::Quirks => Ok(Answer::No),
+            FactKind::LastTag => Ok(Answer::LastTag(Name::from_text(alloc, "")?)),
+        },
         Question::Whole { .. } => Ok(Answer::Whole {
             body: false,
             frameset_ok: true,
@@ -68,22 +71,6 @@ pub(crate) fn answer_nothing(alloc: Global, question: &Question) -> Result<Answe
             skip_lf: false,
         }),
     }
-}
-
-fn fact_of_nothing(alloc: Global, which: FactKind) -> Result<Answer, NoMemory>
-    ensures { IfOk result (λ answer. answer ≡ fact_answer nothing which) }
-{
-    match which {
-        FactKind::Quirks => Ok(Answer::No),
-        FactKind::LastTag => no_last_tag(alloc),
-    }
-}
-
-fn no_last_tag(alloc: Global) -> Result<Answer, NoMemory>
-    ensures { IfOk result (λ answer. answer ≡ Answer.LastTag []) }
-{
-    let name = Name::from_text(alloc, "")?;
-    Ok(Answer::LastTag(name))
 }
 
 /// Says what an older state is.

@@ -8,31 +8,6 @@ use crate::stack::Stack;
 use hp_elements::{Mode, NoMemory};
 use std::alloc::Global;
 
-/// The same element once more.
-fn copy_element(alloc: Global, element: &OpenElement) -> Result<OpenElement, NoMemory>
-    ensures { IfOk result (λ copy. copy ≡ element.now) }
-{
-    let name = element.name.copy(alloc)?;
-    Ok(OpenElement {
-        id: element.id,
-        namespace: element.namespace,
-        name,
-        point: element.point,
-    })
-}
-
-fn copy_entry(alloc: Global, entry: &FormattingEntry) -> Result<FormattingEntry, NoMemory>
-    ensures { IfOk result (λ copy. copy ≡ entry.now) }
-{
-    match entry {
-        FormattingEntry::Marker => Ok(FormattingEntry::Marker),
-        FormattingEntry::Element { id, tag } => {
-            let tag = tag.copy(alloc)?;
-            Ok(FormattingEntry::Element { id: *id, tag })
-        }
-    }
-}
-
 /// Copies a stack onto one without elements. At an `Err` that one is spent.
 fn copy_stack(
     alloc: Global,
@@ -44,7 +19,13 @@ fn copy_stack(
 {
     let count = stack.len();
     for turn in 0..count {
-        let copy = copy_element(alloc, stack.at(count - 1 - turn))?;
+        let element = stack.at(count - 1 - turn);
+        let copy = OpenElement {
+            id: element.id,
+            namespace: element.namespace,
+            name: element.name.copy(alloc)?,
+            point: element.point,
+        };
         copies.push(alloc, copy)?;
     }
     Ok(())
@@ -61,7 +42,13 @@ fn copy_list(
 {
     let count = list.len();
     for turn in 0..count {
-        let copy = copy_entry(alloc, list.at(count - 1 - turn))?;
+        let copy = match list.at(count - 1 - turn) {
+            FormattingEntry::Marker => FormattingEntry::Marker,
+            FormattingEntry::Element { id, tag } => FormattingEntry::Element {
+                id: *id,
+                tag: tag.copy(alloc)?,
+            },
+        };
         copies.push(alloc, copy)?;
     }
     Ok(())

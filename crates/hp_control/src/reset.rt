@@ -1,6 +1,6 @@
 //! The mode to which the insertion mode is reset (13.2.4.1).
 ghost use Rattle.std.specs.Prelude.{◌≡◌, ◌+◌, ◌<◌, length, drop};
-ghost use Rattle.hp_control.specs.Walks.{mode_at, mode_of, is_cell, is_last, reset_mode, last_template_mode, table_comes, select_mode, html_mode};
+ghost use Rattle.hp_control.specs.Walks.{mode_at, mode_of, is_last, reset_mode, last_template_mode, table_comes};
 
 use crate::element::OpenElement;
 use crate::kinds::{is_named, is_within};
@@ -29,32 +29,6 @@ fn table_comes(stack: &OpenElements, depth: usize) -> bool
     reach_from(stack, depth, &table, &template).is_some()
 }
 
-fn select_mode(in_table: bool) -> Mode
-    ensures { result ≡ select_mode in_table }
-{
-    if in_table {
-        Mode::InSelectInTable
-    } else {
-        Mode::InSelect
-    }
-}
-
-fn html_mode(has_head: bool) -> Mode
-    ensures { result ≡ html_mode has_head }
-{
-    if has_head {
-        Mode::AfterHead
-    } else {
-        Mode::BeforeHead
-    }
-}
-
-fn is_cell(element: &OpenElement) -> bool
-    ensures { result ≡ is_cell element.now }
-{
-    is_named(Known::TD, element) || is_named(Known::TH, element)
-}
-
 /// Whether no element stands at this depth.
 fn is_last(stack: &OpenElements, depth: usize) -> bool
     ensures { result ≡ is_last (drop depth stack.now) }
@@ -74,9 +48,14 @@ fn mode_at(
 {
     let is_last = is_last(stack, below);
     if is_named(Known::SELECT, element) {
-        return Some(select_mode(table_comes(stack, below)));
+        return Some(if table_comes(stack, below) {
+            Mode::InSelectInTable
+        } else {
+            Mode::InSelect
+        });
     }
-    if is_cell(element) && !is_last {
+    let is_cell = is_named(Known::TD, element) || is_named(Known::TH, element);
+    if is_cell && !is_last {
         return Some(Mode::InCell);
     }
     if is_named(Known::TEMPLATE, element) {
@@ -86,7 +65,11 @@ fn mode_at(
         return Some(Mode::InHead);
     }
     if is_named(Known::HTML, element) {
-        return Some(html_mode(has_head));
+        return Some(if has_head {
+            Mode::AfterHead
+        } else {
+            Mode::BeforeHead
+        });
     }
     mode_of(element)
 }

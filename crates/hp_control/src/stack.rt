@@ -82,18 +82,11 @@ impl<T: Drop> Stack<T> {
     {
         match count {
             0 => {}
-            1 => self.drop_one(),
+            1 => {
+                let _ = self.items.pop();
+            }
             _ => self.drop_many(count),
         }
-    }
-
-    /// Takes the top item off.
-    #[inline(always)]
-    fn drop_one(&mut self)
-        requires { 1 ≤ length self.old }
-        ensures { self.new ≡ drop 1 self.old }
-    {
-        let _ = self.items.pop();
     }
 
     /// Takes the top `count` items off, one by one.

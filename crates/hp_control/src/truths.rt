@@ -1,19 +1,18 @@
 //! Whether an answer is the true one.
-ghost use Rattle.std.specs.Prelude.{◌≡◌, ◌↔◌, ℕ, Option, Some, None, IsTrue, MatchOption, ◌+◌, ◌<◌, ◌≤◌, [], drop, length, slice_get};
+ghost use Rattle.std.specs.Prelude.{◌≡◌, ◌↔◌, IsTrue, [], drop, slice_get};
 ghost use Rattle.std.specs.Str.{chars};
-ghost use Rattle.std.specs.Option.{unwrap_or, option_copied};
-ghost use Rattle.hp_control.specs.Truth.{answer_of, yes_or_no, depth_answer, IfSomeIs, away_or, pointer_answer, element_answer, entry_answer, rest_of, fact_answer, kind_at, kind_of, top_has_entry, listed_answer};
+ghost use Rattle.std.specs.Option.{unwrap_or};
+ghost use Rattle.hp_control.specs.Truth.{answer_of, yes_or_no, depth_answer, IfSomeIs, pointer_answer, element_answer, entry_answer, rest_of, kind_of, top_has_entry, listed_answer};
 ghost use Rattle.hp_control.specs.Walks.{second_is_body, is_quiet, last_named};
 
 use crate::control::Control;
-use crate::element::{FormattingEntry, OpenElement};
+use crate::element::FormattingEntry;
 use crate::kinds::is_named;
 use crate::open_elements::OpenElements;
 use crate::question::{Answer, EntryKind, FactKind, Question};
 use crate::reset::reset_from;
 use crate::sameness::same_original;
 use crate::stack::Stack;
-use crate::tags::same_namespace;
 use crate::walks::{
     cleared_from, equals_from, has_entry_from, has_template, last_named_from, open_from,
     reach_from, run_from, scope_from,
@@ -38,16 +37,6 @@ fn is_count(count: u64, answer: &Answer) -> bool
 {
     match answer {
         Answer::Count(said) => *said == count,
-        _ => false,
-    }
-}
-
-/// Whether the answer is that mode.
-fn is_mode(mode: Mode, answer: &Answer) -> bool
-    ensures { IsTrue result ↔ (Answer.NewMode mode ≡ answer.now) }
-{
-    match answer {
-        Answer::NewMode(said) => *said == mode,
         _ => false,
     }
 }
@@ -77,15 +66,10 @@ fn is_below(from: u64, found: Option<usize>, depth: u64) -> bool
 fn is_pointer(stack: &OpenElements, from: u64, form: Option<u64>, answer: &Answer) -> bool
     ensures { IsTrue result ↔ (pointer_answer from form (drop from stack.now) ≡ answer.now) }
 {
-    match form {
-        None => matches!(answer, Answer::Null),
-        Some(id) => is_away_or(from, scope_from(stack, from as usize, id), answer),
-    }
-}
-
-fn is_away_or(from: u64, found: Option<usize>, answer: &Answer) -> bool
-    ensures { IsTrue result ↔ (away_or from found ≡ answer.now) }
-{
+    let Some(id) = form else {
+        return matches!(answer, Answer::Null);
+    };
+    let found = scope_from(stack, from as usize, id);
     match answer {
         Answer::Depth(said) => is_below(from, found, *said),
         Answer::Away => found.is_none(),
@@ -101,12 +85,7 @@ fn is_element(stack: &OpenElements, depth: u64, answer: &Answer) -> bool
     if depth >= stack.len() {
         return matches!(answer, Answer::NoElement);
     }
-    is_that_element(stack.at(depth), answer)
-}
-
-fn is_that_element(element: &OpenElement, answer: &Answer) -> bool
-    ensures { IsTrue result ↔ (element_answer (Some element.now) ≡ answer.now) }
-{
+    let element = stack.at(depth);
     match answer {
         Answer::Element {
             namespace,
@@ -116,20 +95,6 @@ fn is_that_element(element: &OpenElement, answer: &Answer) -> bool
             element.namespace == *namespace && element.point == *point && element.name.same(name)
         }
         _ => false,
-    }
-}
-
-/// How the entry with this id stands.
-fn kind_at(stack: &OpenElements, depth: usize, id: u64) -> EntryKind
-    ensures { result ≡ kind_at id (drop depth stack.now) }
-{
-    if open_from(stack, depth, id).is_none() {
-        return EntryKind::Closed;
-    }
-    if scope_from(stack, depth, id).is_some() {
-        EntryKind::InScope
-    } else {
-        EntryKind::Hidden
     }
 }
 
@@ -143,9 +108,16 @@ pub(crate) fn kind_of(
 ) -> EntryKind
     ensures { result ≡ kind_of (last_named name.now (drop from list.now)) (drop depth stack.now) }
 {
-    match last_named_from(list, from, name) {
-        None => EntryKind::Absent,
-        Some(id) => kind_at(stack, depth, id),
+    let Some(id) = last_named_from(list, from, name) else {
+        return EntryKind::Absent;
+    };
+    if open_from(stack, depth, id).is_none() {
+        return EntryKind::Closed;
+    }
+    if scope_from(stack, depth, id).is_some() {
+        EntryKind::InScope
+    } else {
+        EntryKind::Hidden
     }
 }
 
@@ -203,23 +175,14 @@ pub(crate) fn is_quiet(
 pub(crate) fn second_is_body(stack: &OpenElements, depth: usize) -> bool
     ensures { result ≡ second_is_body (drop depth stack.now) }
 {
-    match second_place(stack.len(), depth) {
-        Some(at) => is_named(Known::BODY, stack.at(at)),
-        None => false,
-    }
-}
-
-/// Where the second of so many elements stands, if that is at the depth or below.
-fn second_place(count: usize, depth: usize) -> Option<usize>
-    ensures { MatchOption result (count < depth + 2) (λ at. (depth + 2 ≤ count) × (at + 2 ≡ count)) }
-{
+    let count = stack.len();
     if count < 2 {
-        return None;
+        return false;
     }
     if depth > count - 2 {
-        return None;
+        return false;
     }
-    Some(count - 2)
+    is_named(Known::BODY, stack.at(count - 2))
 }
 
 fn is_whole(body: bool, frameset_ok: bool, answer: &Answer) -> bool
@@ -299,19 +262,12 @@ pub(crate) fn last_tag(lex: &LexState) -> &str
     }
 }
 
-/// Whether the text is that name.
-fn is_name(text: &str, name: &Name) -> bool
-    ensures { IsTrue result ↔ (chars text.now ≡ name.now) }
-{
-    text == name.as_str()
-}
-
 /// Whether the answer is that name.
 fn is_last_tag(lex: &LexState, answer: &Answer) -> bool
     ensures { IsTrue result ↔ (Answer.LastTag (unwrap_or lex.now.machine.last_tag []) ≡ answer.now) }
 {
     match answer {
-        Answer::LastTag(said) => is_name(last_tag(lex), said),
+        Answer::LastTag(said) => last_tag(lex) == said.as_str(),
         _ => false,
     }
 }
@@ -361,7 +317,7 @@ pub fn truth(control: &Control, question: &Question, answer: &Answer) -> bool
                 stack,
                 *depth as usize,
             );
-            is_mode(mode, answer)
+            matches!(answer, Answer::NewMode(said) if *said == mode)
         }
         Question::Quiet { depth, cuts } => {
             let from = cleared_from(list, *cuts);

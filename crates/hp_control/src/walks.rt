@@ -1,10 +1,8 @@
 //! Walks over a stack and over a formatting list, from a depth on.
-ghost use Rattle.std.specs.Prelude.{◌≡◌, ◌+◌, ◌<◌, ◌≤◌, ◌^◌, IfSome, ℕ, suc, length, drop, min, if◌then◌else◌};
+ghost use Rattle.std.specs.Prelude.{◌≡◌, ◌+◌, ◌<◌, ◌≤◌, ◌^◌, IfSome, length, drop, min};
 ghost use Rattle.std.specs.List.{list_any};
-ghost use Rattle.hp_elements.specs.Names.{text_of};
-ghost use Rattle.hp_elements.specs.declared.kinds.Kinds.TheVariants as of_kind;
 ghost use Rattle.hp_control.specs.States.{is_template};
-ghost use Rattle.hp_control.specs.Walks.{reach, run_of, open_at, scope_at, second_is_body, cleared, cleared_by, is_quiet, last_named, has_entry, equals_of};
+ghost use Rattle.hp_control.specs.Walks.{reach, run_of, open_at, scope_at, cleared, cleared_by, last_named, has_entry, equals_of};
 
 use crate::element::FormattingEntry;
 use crate::kinds::{is_named, is_within};
@@ -103,26 +101,10 @@ pub fn cleared_from(list: &Stack<FormattingEntry>, cuts: u64) -> usize
     ensures within { result ≤ length list.now }
     ensures cleared { drop result list.now ≡ cleared_by cuts list.now }
 {
-    if cuts < list.len() as u64 {
-        cleared_times(list, cuts)
-    } else {
-        all_cleared(list, cuts)
+    // Each clearing takes an entry at least, so as many as there are entries leave none.
+    if cuts >= list.len() as u64 {
+        return list.len();
     }
-}
-
-/// Each clearing takes an entry at least, so as many as there are entries leave none.
-fn all_cleared(list: &Stack<FormattingEntry>, cuts: u64) -> usize
-    requires { length list.now ≤ cuts }
-    ensures within { result ≤ length list.now }
-    ensures cleared { drop result list.now ≡ cleared_by cuts list.now }
-{
-    list.len()
-}
-
-fn cleared_times(list: &Stack<FormattingEntry>, cuts: u64) -> usize
-    ensures within { result ≤ length list.now }
-    ensures cleared { drop result list.now ≡ cleared_by cuts list.now }
-{
     let mut gone = 0;
     for _cut in 0..cuts {
         gone = next_cut(list, gone);
@@ -170,18 +152,11 @@ pub fn equals_from(list: &Stack<FormattingEntry>, from: usize, tag: &Tag) -> u64
         match list.at(at) {
             FormattingEntry::Marker => return count,
             FormattingEntry::Element { tag: other, .. } => {
-                count = counted(count, same_tag(tag, other));
+                if count < 3 && same_tag(tag, other) {
+                    count += 1;
+                }
             }
         }
     }
     count
-}
-
-/// One more where it is so, up to 3.
-fn counted(count: u64, is_so: bool) -> u64
-    requires { count ≤ 3 }
-    ensures few { result ≤ 3 }
-    ensures counted { (n : ℕ) → min 3 (result + n) ≡ min 3 (count + (if is_so then suc n else n)) }
-{
-    if is_so && count < 3 { count + 1 } else { count }
 }

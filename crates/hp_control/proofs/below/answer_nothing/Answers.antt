@@ -1,4 +1,6 @@
 use Rattle.std.proofs.Common.{ap, ◌∙◌, sym}
+use Rattle.std.proofs.lemmas.Str.{chars-nil}
+use Rattle.hp_control.specs.declared.question.Answer.TheVariants.{LastTag}
 use Rattle.hp_control.specs.Nothing.{nothing}
 use Rattle.hp_control.specs.Truth.{answer_of}
 use Rattle.hp_control.proofs.NothingLemmas.{nothing_elem, nothing_seen, nothing_reach, nothing_run, nothing_template, nothing_reset, nothing_quiet, nothing_listed, nothing_same, nothing_whole}
@@ -33,3 +35,7 @@ returns-in-Same c = sym (ap (answer_of nothing) c.in-Same.is ∙ nothing_same c.
 
 pub returns-in-Whole : goal.returns-in-Whole
 returns-in-Whole c = sym (ap (answer_of nothing) c.in-Whole.is ∙ nothing_whole c.in-Whole.depth)
+
+pub returns-in_ok-from_text-in-LastTag : goal.returns-in_ok-from_text-in-LastTag
+returns-in_ok-from_text-in-LastTag c =
+    rw (c.in-Fact.is, c.in-LastTag.is) (ap LastTag (c.in_ok-from_text-in-LastTag.ensures ∙ chars-nil))
