@@ -85,7 +85,12 @@ impl Building {
                 Part::Comment => comment.push_str(alloc, text),
                 _ => Ok(()),
             },
-            Building::Doctype(doctype) => put_doctype(alloc, doctype, part, text),
+            Building::Doctype(doctype) => match part {
+                Part::DoctypeName => append(alloc, &mut doctype.name, text),
+                Part::Public => append(alloc, &mut doctype.public, text),
+                Part::System => append(alloc, &mut doctype.system, text),
+                _ => Ok(()),
+            },
         }
     }
 
@@ -138,7 +143,7 @@ impl Building {
 
 ghost use Rattle.std.specs.Str.{chars};
 ghost use Rattle.hp_elements.specs.declared.tag.AttributeSpace.TheVariants as spaces;
-ghost use Rattle.hp_tokens.specs.Parts.{put_in_tag, put_in_doctype, longer_name, longer_value, appended, added, has_name};
+ghost use Rattle.hp_tokens.specs.Parts.{put_in_tag, appended, added, has_name};
 
 fn put_tag(alloc: Global, tag: &mut NewTag, part: Part, text: &str) -> Result<(), NoMemory>
     ensures { OnOk result (tag.new ≡ put_in_tag part (chars text.now) tag.old) }
@@ -154,22 +159,6 @@ fn put_tag(alloc: Global, tag: &mut NewTag, part: Part, text: &str) -> Result<()
             None => Ok(()),
         },
         Part::Comment | Part::DoctypeName | Part::Public | Part::System => Ok(()),
-    }
-}
-
-fn put_doctype(
-    alloc: Global,
-    doctype: &mut NewDoctype,
-    part: Part,
-    text: &str,
-) -> Result<(), NoMemory>
-    ensures { OnOk result (doctype.new ≡ put_in_doctype part (chars text.now) doctype.old) }
-{
-    match part {
-        Part::DoctypeName => append(alloc, &mut doctype.name, text),
-        Part::Public => append(alloc, &mut doctype.public, text),
-        Part::System => append(alloc, &mut doctype.system, text),
-        Part::Name | Part::Comment | Part::AttributeName | Part::Value => Ok(()),
     }
 }
 

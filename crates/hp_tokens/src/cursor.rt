@@ -245,7 +245,7 @@ impl<'p> Cursor<'p> {
         ensures run { ReadsRun (none_of whole_data_stops) self.old result self.new }
         ensures stops { StopsRun (none_of whole_data_stops) self.new }
     {
-        let count = data_len(self.text.as_bytes(), self.at);
+        let count = four_stops_len(self.text.as_bytes(), self.at, b'&', b'<');
         let from = self.at;
         self.at += count;
         Text::of_page(self.text, from, self.at)
@@ -343,16 +343,7 @@ fn is_pair(rest: &[u8]) -> bool
     }
 }
 
-ghost use Rattle.hp_tokens.specs.Plain.{none_of, whole_data_stops, whole_raw_stops};
-
-/// How many bytes from `at` on stand before the next `<`, `&`, CR or U+0000.
-#[inline(always)]
-fn data_len(bytes: &[u8], at: usize) -> usize
-    requires { at ≤ length bytes.now }
-    ensures { PassesFrom (none_of whole_data_stops) bytes.now at result }
-{
-    four_stops_len(bytes, at, b'&', b'<')
-}
+ghost use Rattle.hp_tokens.specs.Plain.{none_of, whole_raw_stops};
 
 /// How many bytes from `at` on stand before the next `<`, CR or U+0000.
 #[inline]

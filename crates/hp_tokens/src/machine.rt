@@ -233,24 +233,17 @@ fn start_token<'p>(
     ensures token { IfOk result (λ token. token ≡ tokens.Start built.old.self_closing (spec_tag built.old)) }
     ensures last { OnOk result (last_tag.new ≡ Some built.old.name) }
 {
-    let self_closing = built.self_closing;
-    let tag = finished_tag(alloc, built)?;
+    finish(alloc, &mut built.attributes, built.attribute.take())?;
+    let tag = Tag {
+        namespace: Namespace::Html,
+        name: Name::from_text(alloc, built.name.as_str())?,
+        attributes: mem::replace(&mut built.attributes, Chain::new()),
+    };
     let name = mem::replace(&mut built.name, OwnedText::new());
     *last_tag = Some(name);
-    Ok(Token::Start { self_closing, tag })
-}
-
-/// The tag that was built. Its attributes are taken.
-fn finished_tag(alloc: Global, built: &mut NewTag) -> Result<Tag, NoMemory>
-    ensures tag { IfOk result (λ tag. tag ≡ spec_tag built.old) }
-    ensures name { OnOk result (built.new.name ≡ built.old.name) }
-{
-    finish(alloc, &mut built.attributes, built.attribute.take())?;
-    let name = Name::from_text(alloc, built.name.as_str())?;
-    Ok(Tag {
-        namespace: Namespace::Html,
-        name,
-        attributes: mem::replace(&mut built.attributes, Chain::new()),
+    Ok(Token::Start {
+        self_closing: built.self_closing,
+        tag,
     })
 }
 

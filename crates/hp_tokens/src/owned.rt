@@ -214,16 +214,13 @@ impl OwnedText {
 fn joined(alloc: Global, first: &str, second: &str) -> Result<String, NoMemory>
     ensures { IfOk result (λ text. string_bytes text ≡ first.now ++ second.now) }
 {
-    let mut text = String::with_capacity(alloc, room(first.len(), second.len()))?;
+    let room = if first.is_empty() {
+        second.len()
+    } else {
+        first.len().saturating_add(second.len()).saturating_mul(2)
+    };
+    let mut text = String::with_capacity(alloc, room)?;
     text.push_str(first)?;
     text.push_str(second)?;
     Ok(text)
-}
-
-/// How many bytes get room for so many and then so many: no more, where the first are none.
-fn room(first: usize, second: usize) -> usize {
-    if first == 0 {
-        return second;
-    }
-    first.saturating_add(second).saturating_mul(2)
 }

@@ -5,7 +5,7 @@ use crate::building::{Building, NewAttribute, NewDoctype, NewTag};
 use crate::lexing::LexState;
 use crate::machine::Machine;
 use crate::owned::OwnedText;
-use crate::state::{Return, State};
+use crate::state::State;
 use hp_elements::same_attributes;
 
 impl LexState {
@@ -23,7 +23,7 @@ impl Machine {
         ensures { IsTrue result ↔ (self.now ≡ other.now) }
     {
         same_state(self.state, other.state)
-            && same_return(self.return_to, other.return_to)
+            && self.return_to == other.return_to
             && self.value == other.value
             && self.after_cr == other.after_cr
             && self.buffer.same(&other.buffer)
@@ -49,12 +49,6 @@ impl Building {
 }
 
 fn same_state(one: State, two: State) -> bool
-    ensures { IsTrue result ↔ (one ≡ two) }
-{
-    one == two
-}
-
-fn same_return(one: Return, two: Return) -> bool
     ensures { IsTrue result ↔ (one ≡ two) }
 {
     one == two

@@ -11,14 +11,14 @@ passing : (bytes text : List ℕ) (at count : ℕ) → bytes ≡ text → Passes
 passing bytes text at count e run = let P : List ℕ → Type 0 = λ xs. PassesFrom (none_of whole_data_stops) xs at count in subst P e run
 
 pub invariant_of-self : goal.invariant_of-self
-invariant_of-self c = run-IsAt (none_of whole_data_stops) (none-high whole_data_stops refl) _ _ _ c.self.invariant (passing _ _ _ _ c.as_bytes.ensures.value c.data_len-count.ensures)
+invariant_of-self c = run-IsAt (none_of whole_data_stops) (none-high whole_data_stops refl) _ _ _ c.self.invariant (passing _ _ _ _ c.as_bytes.ensures.value c.four_stops_len-count.ensures)
 
 pub returns-clause-run : goal.returns-clause-run
 returns-clause-run c =
-    let width : (c.self.inside.at + c.data_len-count.result) - c.self.inside.at ≡ c.data_len-count.result = omega arith in
-    let taken : c.of_page.result ≡ chars (take c.data_len-count.result (drop c.self.inside.at c.self.inside.text.now)) =
+    let width : (c.self.inside.at + c.four_stops_len-count.result) - c.self.inside.at ≡ c.four_stops_len-count.result = omega arith in
+    let taken : c.of_page.result ≡ chars (take c.four_stops_len-count.result (drop c.self.inside.at c.self.inside.text.now)) =
     c.of_page.ensures ∙ ap (λ (n : ℕ). chars (take n (drop c.self.inside.at c.self.inside.text.now))) width in
-    rw (← c.self.view_is, taken) (run-ReadsRun (none_of whole_data_stops) (none-high whole_data_stops refl) _ _ _ c.self.invariant (passing _ _ _ _ c.as_bytes.ensures.value c.data_len-count.ensures))
+    rw (← c.self.view_is, taken) (run-ReadsRun (none_of whole_data_stops) (none-high whole_data_stops refl) _ _ _ c.self.invariant (passing _ _ _ _ c.as_bytes.ensures.value c.four_stops_len-count.ensures))
 
 pub returns-clause-stops : goal.returns-clause-stops
-returns-clause-stops c = high-stops (none_of whole_data_stops) (none-high whole_data_stops refl) _ _ _ (invariant_of-self c) (passing _ _ _ _ c.as_bytes.ensures.value c.data_len-count.ensures)
+returns-clause-stops c = high-stops (none_of whole_data_stops) (none-high whole_data_stops refl) _ _ _ (invariant_of-self c) (passing _ _ _ _ c.as_bytes.ensures.value c.four_stops_len-count.ensures)
