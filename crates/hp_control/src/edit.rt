@@ -3,7 +3,7 @@
 ghost use Rattle.std.specs.Prelude.{◌≡◌, ◌+◌, ◌∷◌, ◌++◌, [], length, IsTrue, ◌↔◌, OnOk, OnErr};
 ghost use Rattle.hp_control.specs.Edits.{room_of, room_of_all};
 
-use crate::items::{add, begin, lose};
+use crate::items::{add, as_slice, begin, lose};
 use hp_elements::{Attribute, Chain, Doctype, Tag, Text};
 use std::alloc::{AllocError, Global};
 use std::marker::Model;
@@ -173,10 +173,7 @@ impl<'p> Edits<'p> {
     pub fn as_slice(&self) -> &[Edit<'p>]
         ensures { result.now ≡ self.now }
     {
-        match &self.items {
-            Some(items) => items.as_slice(),
-            None => &[],
-        }
+        as_slice(&self.items)
     }
 
     /// The edits as a `Vec`. It takes no memory.

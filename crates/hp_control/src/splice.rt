@@ -5,13 +5,18 @@ ghost use Rattle.hp_control.specs.Adoption.{spliced};
 use crate::stack::Stack;
 use hp_elements::{List, NoMemory};
 use std::alloc::Global;
+use std::mem;
 
 impl<T: Drop> Stack<T> {
     /// Takes the top item off; `None` where there is none.
+    #[inline(always)]
     pub fn pop(&mut self) -> Option<T>
         ensures { MatchOption result ((self.old ≡ []) × (self.new ≡ [])) (λ item. self.old ≡ item ∷ self.new) }
     {
-        self.items.pop()
+        match &mut self.items {
+            Some(items) => items.pop(),
+            None => None,
+        }
     }
 
     /// Puts an item in the place of the one at a depth, and gives that one back.
@@ -20,8 +25,11 @@ impl<T: Drop> Stack<T> {
         ensures value { result ≡ slice_index_or self.old depth result }
         ensures items { self.new ≡ slice_set self.old depth item }
     {
-        let place = self.items.len() - 1 - depth;
-        self.items.replace(place, item)
+        let place = self.len() - 1 - depth;
+        match &mut self.items {
+            Some(items) => mem::replace(&mut items[place], item),
+            None => unreachable!(),
+        }
     }
 
     /// Takes the top `count` items off; they come with the topmost first. At an `Err`, which comes only for want of memory,

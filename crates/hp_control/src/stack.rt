@@ -1,7 +1,7 @@
 //! Stacks, which contracts see as lists with their top first.
 ghost use Rattle.std.specs.Prelude.{◌≡◌, ◌+◌, ◌-◌, ◌<◌, ◌≤◌, ◌==◌, [], ◌∷◌, ◌++◌, length, take, drop, OnOk, OnErr, IfErr, slice_index_or};
 
-use crate::items::Items;
+use crate::items::{add, as_slice, begin};
 use hp_elements::NoMemory;
 use std::alloc::{AllocFailed, Global};
 use std::marker::Model;
@@ -10,7 +10,7 @@ use std::marker::Model;
 /// its items with the top first. One that never had an item takes no heap.
 #[derive(Drop)]
 pub struct Stack<T> {
-    pub(crate) items: Items<T>,
+    pub(crate) items: Option<Vec<T>>,
 }
 
 impl<T> Model for Stack<T> {
@@ -18,7 +18,9 @@ impl<T> Model for Stack<T> {
 
     ghost Value = { List T };
 
-    ghost view = { λ s. reverse s.items };
+    ghost use Rattle.hp_control.specs.Held.{held};
+
+    ghost view = { λ s. reverse (held s.items) };
 }
 
 impl<T> Stack<T> {
@@ -26,16 +28,14 @@ impl<T> Stack<T> {
     pub fn new() -> Stack<T>
         ensures { result ≡ [] }
     {
-        Stack {
-            items: Items::new(),
-        }
+        Stack { items: None }
     }
 
     /// The number of items.
     pub fn len(&self) -> usize
         ensures { result ≡ length self.now }
     {
-        self.items.len()
+        as_slice(&self.items).len()
     }
 
     /// Whether there is no item.
@@ -50,7 +50,7 @@ impl<T> Stack<T> {
         requires { depth < length self.now }
         ensures { result.now ≡ slice_index_or self.now depth result.now }
     {
-        let items = self.items.as_slice();
+        let items = as_slice(&self.items);
         &items[items.len() - 1 - depth]
     }
 }
@@ -62,7 +62,11 @@ impl<T: Drop> Stack<T> {
         ensures err { OnErr result (self.new ≡ self.old) }
         ensures returned { IfErr result (λ failed. failed.value ≡ item) }
     {
-        self.items.push(alloc, item)
+        begin(alloc, &mut self.items);
+        match &mut self.items {
+            Some(items) => items.push(item),
+            None => unreachable!(),
+        }
     }
 
     /// The same, but an item for which there is no memory is dropped.
@@ -71,7 +75,7 @@ impl<T: Drop> Stack<T> {
         ensures ok { OnOk result (self.new ≡ item ∷ self.old) }
         ensures err { OnErr result (self.new ≡ self.old) }
     {
-        self.items.add(alloc, item)
+        add(alloc, &mut self.items, item)
     }
 
     /// Takes the top `count` items off.
@@ -83,7 +87,7 @@ impl<T: Drop> Stack<T> {
         match count {
             0 => {}
             1 => {
-                let _ = self.items.pop();
+                let _ = self.pop();
             }
             _ => self.drop_many(count),
         }
@@ -95,8 +99,11 @@ impl<T: Drop> Stack<T> {
         requires { count ≤ length self.old }
         ensures { self.new ≡ drop count self.old }
     {
-        let rest = self.items.len() - count;
-        self.items.truncate(rest);
+        let rest = self.len() - count;
+        let Some(items) = &mut self.items else {
+            return;
+        };
+        items.truncate(rest);
     }
 
     /// Takes the item at a depth out; the top is at 0.
@@ -107,7 +114,12 @@ impl<T: Drop> Stack<T> {
         if depth == 0 {
             return self.drop_top(1);
         }
-        let at = self.items.len() - 1 - depth;
-        let _ = self.items.remove(at);
+        let at = self.len() - 1 - depth;
+        match &mut self.items {
+            Some(items) => {
+                let _ = items.remove(at);
+            }
+            None => unreachable!(),
+        }
     }
 }

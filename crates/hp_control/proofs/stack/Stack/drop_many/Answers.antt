@@ -1,11 +1,16 @@
-use Rattle.std.proofs.Common.{◌≡◌, ◌≤◌, length, ap, sym, ◌∙◌, arith}
+use Rattle.std.proofs.Common.{◌≡◌, ◌-◌, ◌≤◌, ℕ, List, length, take, drop, reverse, ap, sym, ◌∙◌, arith}
 use Rattle.std.proofs.lemmas.List.{length-reverse}
+use Rattle.hp_control.specs.Held.{held}
 use Rattle.hp_control.proofs.Reversed.{drop_reverse}
 use Rattle.hp_control.proofs.stack.Stack.drop_many.Goals as goal
 
+dropped : {X : Type 0} (xs now new : List X) (len n : ℕ) → reverse xs ≡ now → len ≡ length now → n ≤ length now → new ≡ take (len - n) xs → reverse new ≡ drop n now
+dropped xs now new len n v l h e =
+    let m : len ≡ length xs = l ∙ (ap length (sym v) ∙ length-reverse xs) in
+    let b : n ≤ length xs = omega (arith, h, l, m) in
+    rw (e, m, ← v) (drop_reverse n xs b)
+
 pub returns : goal.returns
 returns g c =
-    let xs = c.self.inside.items in
-    let e : length c.args.self.now ≡ length xs = sym (ap length c.self.view_is) ∙ length-reverse xs in
-    let h : c.args.count ≤ length xs = omega arith in
-    rw (c.truncate.ensures, c.len.ensures, ← c.self.view_is) (drop_reverse c.args.count xs h)
+    dropped c.in-Some.items.items c.args.self.now c.truncate.new.self.items c.len.result c.args.count
+    (sym (ap (λ o. reverse (held o)) c.in-Some.is) ∙ c.self.view_is) c.len.ensures c.requires c.truncate.ensures.items
