@@ -1,5 +1,5 @@
 //! Values of which equal ones can be made.
-ghost use Rattle.std.specs.Prelude.{◌≡◌, [], ◌∷◌, ◌++◌, IfOk, OnOk};
+ghost use Rattle.std.specs.Prelude.{◌≡◌, IfOk};
 
 use crate::list::List;
 use crate::name::Name;
@@ -53,20 +53,8 @@ impl<T: Duplicate + Drop> List<T> {
         let mut copy = List::new();
         let items = self.as_slice();
         for item in items {
-            copy.push_copy(alloc, item)?;
+            copy.push(alloc, item.duplicate(alloc)?)?;
         }
         Ok(copy)
-    }
-
-    /// Appends an item that equals this one.
-    #[inline(always)]
-    fn push_copy(&mut self, alloc: Global, item: &T) -> Result<(), AllocError>
-        ensures { OnOk result (self.new ≡ self.old ++ item.now ∷ []) }
-    {
-        let copy = item.duplicate(alloc)?;
-        match self.push(alloc, copy) {
-            Ok(()) => Ok(()),
-            Err(_) => Err(AllocError),
-        }
     }
 }

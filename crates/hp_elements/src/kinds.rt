@@ -39,7 +39,7 @@ impl Kinds {
             Kinds::Nothing => false,
             Kinds::All => true,
             Kinds::AnyHtml => is_html(namespace),
-            Kinds::HtmlOrPoint => is_html(namespace) || is_point(point),
+            Kinds::HtmlOrPoint => is_html(namespace) || !matches!(point, Point::No),
             Kinds::Html(own) => is_html(namespace) && own.same(name),
             Kinds::Foreign(own) => !is_html(namespace) && own.same_without_case(name),
             Kinds::Set(set) => set.has(namespace, name),
@@ -47,7 +47,7 @@ impl Kinds {
     }
 }
 
-ghost use Rattle.hp_elements.specs.Kinds.{is_html as spec_is_html, is_point as spec_is_point};
+ghost use Rattle.hp_elements.specs.Kinds.{is_html as spec_is_html};
 
 fn is_html(namespace: Namespace) -> bool
     ensures { result ≡ spec_is_html namespace }
@@ -55,14 +55,5 @@ fn is_html(namespace: Namespace) -> bool
     match namespace {
         Namespace::Html => true,
         Namespace::MathMl | Namespace::Svg => false,
-    }
-}
-
-fn is_point(point: Point) -> bool
-    ensures { result ≡ spec_is_point point }
-{
-    match point {
-        Point::No => false,
-        Point::MathText | Point::Html => true,
     }
 }

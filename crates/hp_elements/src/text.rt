@@ -133,8 +133,14 @@ impl<'p> Text<'p> {
     pub fn from_str(alloc: Global, text: &str) -> Result<Text<'p>, AllocError>
         ensures { IfOk result (λ copy. copy ≡ chars text.now) }
     {
+        if text.len() <= SHORT {
+            return Ok(Text {
+                place: Place::Here(text.len() as u8, short_bytes(text.as_bytes())),
+            });
+        }
+        let text = String::from_str(alloc, text)?;
         Ok(Text {
-            place: copied(alloc, text)?,
+            place: Place::Owned(text),
         })
     }
 
@@ -221,20 +227,6 @@ impl<'p> Text<'p> {
     }
 }
 
-ghost use Rattle.hp_elements.specs.Texts.{placed_bytes, IsPlaced};
-
-/// A place of its own for a text.
-fn copied<'p>(alloc: Global, text: &str) -> Result<Place<'p>, AllocError>
-    ensures bytes { IfOk result (λ place. placed_bytes place ≡ text.now) }
-    ensures placed { IfOk result IsPlaced }
-{
-    if text.len() <= SHORT {
-        return Ok(Place::Here(text.len() as u8, short_bytes(text.as_bytes())));
-    }
-    let text = String::from_str(alloc, text)?;
-    Ok(Place::Owned(text))
-}
-
 /// The first so many bytes, and more behind them.
 #[inline]
 fn put_behind(bytes: &[u8; SHORT], len: u8, more: &[u8]) -> [u8; SHORT]
@@ -267,18 +259,10 @@ fn both_here<'p>(front: &str, back: &str) -> Option<Text<'p>>
 fn grown<'p>(alloc: Global, front: &str, back: &str) -> Result<Text<'p>, AllocError>
     ensures { IfOk result (λ text. text ≡ chars front.now ++ chars back.now) }
 {
-    let text = both(alloc, front, back)?;
-    Text::of_owned(alloc, text)
-}
-
-/// One text and then another, in as many bytes as they have.
-fn both(alloc: Global, front: &str, back: &str) -> Result<String, AllocError>
-    ensures { IfOk result (λ text. string_bytes text ≡ front.now ++ back.now) }
-{
     let mut text = String::with_capacity(alloc, front.len().saturating_add(back.len()))?;
     text.push_str(front)?;
     text.push_str(back)?;
-    Ok(text)
+    Text::of_owned(alloc, text)
 }
 
 /// How many bytes are left behind a text and the next one, where so many of some bytes stand behind the text, and those of the

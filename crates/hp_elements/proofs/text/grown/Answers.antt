@@ -1,4 +1,4 @@
-use Rattle.std.proofs.Common.{◌≡◌, ◌++◌, ◌∙◌, ap, string_bytes}
+use Rattle.std.proofs.Common.{◌≡◌, ◌++◌, ◌∙◌, ap, rules, string_bytes}
 use Rattle.std.specs.Str.{chars}
 use Rattle.std.proofs.lemmas.Str.{chars-append}
 use Rattle.hp_elements.proofs.TextLemmas.{if_ok}
@@ -6,5 +6,6 @@ use Rattle.hp_elements.proofs.text.grown.Goals as goal
 
 pub returns : goal.returns
 returns c =
-    if_ok (λ text. text ≡ chars (string_bytes c.in_ok-text.text)) (λ text. text ≡ chars c.args.front.now ++ chars c.args.back.now) c.of_owned.result c.of_owned.ensures
-    (λ text e. e ∙ (ap chars c.in_ok-text.ensures ∙ chars-append c.args.front.now c.args.back.now c.utf8.front))
+    let both : string_bytes c.push_str-2.new.self ≡ c.args.front.now ++ c.args.back.now = search rules in
+    if_ok (λ text. text ≡ chars (string_bytes c.push_str-2.new.self)) (λ text. text ≡ chars c.args.front.now ++ chars c.args.back.now) c.of_owned.result c.of_owned.ensures
+    (λ text e. e ∙ (ap chars both ∙ chars-append c.args.front.now c.args.back.now c.utf8.front))
