@@ -8,9 +8,15 @@ use std::marker::Model;
 
 /// A list whose end is its top, as the stack of open elements and the list of formatting elements are. A contract sees
 /// its items with the top first. One that never had an item takes no heap.
-#[derive(Drop)]
 pub struct Stack<T> {
     pub(crate) items: Option<Vec<T>>,
+}
+
+impl<T: Drop> Drop for Stack<T> {
+    #[inline(always)]
+    fn drop(self) {
+        let Stack { items: _ } = self;
+    }
 }
 
 impl<T> Model for Stack<T> {

@@ -185,18 +185,6 @@ pub(crate) fn second_is_body(stack: &OpenElements, depth: usize) -> bool
     is_named(Known::BODY, stack.at(count - 2))
 }
 
-fn is_whole(body: bool, frameset_ok: bool, answer: &Answer) -> bool
-    ensures { IsTrue result ↔ (Answer.Whole body frameset_ok ≡ answer.now) }
-{
-    match answer {
-        Answer::Whole {
-            body: said,
-            frameset_ok: said_ok,
-        } => *said == body && *said_ok == frameset_ok,
-        _ => false,
-    }
-}
-
 /// Whether the answer is what is told at the chunk's start.
 fn is_entry(
     lex: &LexState,
@@ -339,11 +327,9 @@ pub fn truth(control: &Control, question: &Question, answer: &Answer) -> bool
             which: FactKind::LastTag,
         } => is_last_tag(&control.lex, answer),
         Question::Whole { depth } => {
-            is_whole(
-                second_is_body(stack, *depth as usize),
-                control.frameset_ok,
-                answer,
-            )
+            let here = second_is_body(stack, *depth as usize);
+            let ok = control.frameset_ok;
+            matches!(answer, Answer::Whole { body, frameset_ok } if *body == here && *frameset_ok == ok)
         }
     }
 }
