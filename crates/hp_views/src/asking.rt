@@ -1,6 +1,6 @@
 //! One call for each kind of question: it asks, and reads the answer.
 ghost use Rattle.std.specs.Prelude.{◌≡◌, ◌+◌, ◌<◌, ◌^◌, [], IfOk, IfSome};
-ghost use Rattle.hp_views.specs.Asking.{ask_seen, ask_reach, ask_run, ask_template, ask_reset, ask_quiet, ask_listed, ask_same, ask_pointer, ask_quirks, ask_last_tag, ask_body, ask_frameset, depth_from as spec_depth_from};
+ghost use Rattle.hp_views.specs.Asking.{ask_seen, ask_reach, ask_run, ask_template, ask_reset, ask_quiet, ask_listed, ask_same, ask_pointer, ask_quirks, ask_last_tag, ask_body, ask_frameset};
 ghost use Rattle.hp_views.specs.Asking.{IsShort, ask_foreign, ask_there};
 ghost use Rattle.hp_views.specs.View.{Learns};
 
@@ -29,19 +29,9 @@ pub enum Pointed {
     Here(u64),
 }
 
-/// How far below the depth an answer is.
-fn depth_from(depth: u64, answer: &Answer) -> Option<u64>
-    ensures found { result ≡ spec_depth_from depth answer.now }
-    ensures short { IfSome result (λ k. depth + k < 2 ^ 60) }
-{
-    match answer {
-        Answer::Depth(found) => below_of(depth, *found),
-        _ => None,
-    }
-}
-
 ghost use Rattle.std.specs.Prelude.{Some, None, ◌-◌, ◌&&◌, nat_le, nat_lt, if◌then◌else◌};
 
+/// How far below the depth a found one is.
 fn below_of(depth: u64, found: u64) -> Option<u64>
     ensures found { result ≡ (if nat_le depth found && nat_lt found (2 ^ 60) then Some (found - depth) else None) }
     ensures short { IfSome result (λ k. depth + k < 2 ^ 60) }
@@ -53,31 +43,17 @@ fn below_of(depth: u64, found: u64) -> Option<u64>
     }
 }
 
-fn is_yes(answer: &Answer) -> bool
-    ensures { result ≡ spec_is_yes answer.now }
-{
-    matches!(answer, Answer::Yes)
-}
-
 ghost use Rattle.hp_views.specs.Asking.{is_yes as spec_is_yes, count_in as spec_count_in};
-
-fn count_in(answer: &Answer) -> u64
-    ensures count { result ≡ spec_count_in answer.now }
-    ensures short { result < 2 ^ 60 }
-{
-    match answer {
-        Answer::Count(count) if *count < LIMIT => *count,
-        _ => 0,
-    }
-}
 
 /// Whether the answer to the question is yes.
 #[inline(always)]
 fn asked_yes<B: Below>(below: &mut B, alloc: Global, question: Question) -> Result<bool, NoMemory>
     ensures { Learns result (B.heard below.old) (B.heard below.new) (asks question (λ a. gives (spec_is_yes a))) }
 {
-    let answer = below.ask(alloc, question)?;
-    Ok(is_yes(&answer))
+    match below.ask(alloc, question)? {
+        Answer::Yes => Ok(true),
+        _ => Ok(false),
+    }
 }
 
 /// The number that is answered to the question.
@@ -86,8 +62,10 @@ fn asked_count<B: Below>(below: &mut B, alloc: Global, question: Question) -> Re
     ensures learns { Learns result (B.heard below.old) (B.heard below.new) (asks question (λ a. gives (spec_count_in a))) }
     ensures short { IfOk result (λ count. count < 2 ^ 60) }
 {
-    let answer = below.ask(alloc, question)?;
-    Ok(count_in(&answer))
+    match below.ask(alloc, question)? {
+        Answer::Count(count) if count < LIMIT => Ok(count),
+        _ => Ok(0),
+    }
 }
 
 ghost use Rattle.hp_control.specs.Plan.{asks, gives};
@@ -128,8 +106,10 @@ pub fn older_reach<B: Below>(
         goals,
         stops,
     };
-    let answer = below.ask(alloc, question)?;
-    Ok(depth_from(depth, &answer))
+    match below.ask(alloc, question)? {
+        Answer::Depth(found) => Ok(below_of(depth, found)),
+        _ => Ok(None),
+    }
 }
 
 /// How many elements from this depth on are of these kinds.
@@ -280,8 +260,10 @@ pub fn older_body<B: Below>(below: &mut B, alloc: Global, depth: u64) -> Result<
 pub fn older_foreign<B: Below>(below: &mut B, alloc: Global, depth: u64) -> Result<bool, NoMemory>
     ensures { Learns result (B.heard below.old) (B.heard below.new) (ask_foreign depth) }
 {
-    let answer = below.ask(alloc, Question::Elem { depth })?;
-    Ok(is_foreign(&answer))
+    match below.ask(alloc, Question::Elem { depth })? {
+        Answer::Element { namespace, .. } => Ok(namespace != Namespace::Html),
+        _ => Ok(false),
+    }
 }
 
 /// Whether an element stands at this depth.
@@ -289,28 +271,11 @@ pub fn older_foreign<B: Below>(below: &mut B, alloc: Global, depth: u64) -> Resu
 pub fn older_there<B: Below>(below: &mut B, alloc: Global, depth: u64) -> Result<bool, NoMemory>
     ensures { Learns result (B.heard below.old) (B.heard below.new) (ask_there depth) }
 {
-    let answer = below.ask(alloc, Question::Elem { depth })?;
-    Ok(is_there(&answer))
-}
-
-/// Whether the answer is an element that isn't an HTML one.
-fn is_foreign(answer: &Answer) -> bool
-    ensures { result ≡ spec_is_foreign answer.now }
-{
-    match answer {
-        Answer::Element { namespace, .. } => *namespace != Namespace::Html,
-        _ => false,
+    match below.ask(alloc, Question::Elem { depth })? {
+        Answer::Element { .. } => Ok(true),
+        _ => Ok(false),
     }
 }
-
-/// Whether the answer is an element.
-fn is_there(answer: &Answer) -> bool
-    ensures { result ≡ spec_is_there answer.now }
-{
-    matches!(answer, Answer::Element { .. })
-}
-
-ghost use Rattle.hp_views.specs.Asking.{is_foreign as spec_is_foreign, is_there as spec_is_there};
 
 /// Whether a frameset may still replace the body.
 #[inline(never)]
