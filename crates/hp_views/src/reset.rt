@@ -1,10 +1,10 @@
 //! Resetting the insertion mode (13.2.4.1).
 ghost use Rattle.std.specs.Prelude.{◌≡◌, ◌<◌, ◌≤◌, ◌+◌, drop, length, slice_index_or, ℕ};
 ghost use Rattle.hp_control.specs.declared.element.OpenElement.{OpenElement};
-ghost use Rattle.hp_control.specs.Walks.{is_cell as spec_is_cell, mode_of as spec_mode_of, last_template_mode as spec_last_template_mode, html_mode as spec_html_mode, select_mode as spec_select_mode};
+ghost use Rattle.hp_control.specs.Walks.{is_cell as spec_is_cell, mode_of as spec_mode_of, last_template_mode as spec_last_template_mode, html_mode as spec_html_mode};
 ghost use Rattle.hp_views.specs.Steps.{reset_step};
 ghost use Rattle.hp_views.specs.View.{page_of, sight, split_of, Carries, Answers, Meets};
-ghost use Rattle.hp_views.specs.ResetPlans.{decides, mode_or_nothing as spec_mode_or_nothing, table_plan, is_first as spec_is_first};
+ghost use Rattle.hp_views.specs.ResetPlans.{decides, table_plan, is_first as spec_is_first};
 
 use crate::asking::older_reset;
 use crate::place::{a_table, a_template};
@@ -52,15 +52,6 @@ fn mode_of(element: &OpenElement) -> Option<Mode>
     }
 }
 
-fn mode_or_nothing(mode: Option<Mode>) -> Decides
-    ensures { result ≡ spec_mode_or_nothing mode }
-{
-    match mode {
-        Some(mode) => Decides::To(mode),
-        None => Decides::Nothing,
-    }
-}
-
 fn last_template_mode(modes: &Stack<Mode>) -> Mode
     ensures { result ≡ spec_last_template_mode modes.now }
 {
@@ -78,16 +69,6 @@ fn html_mode(has_head: bool) -> Mode
         Mode::AfterHead
     } else {
         Mode::BeforeHead
-    }
-}
-
-fn select_mode(in_table: bool) -> Mode
-    ensures { result ≡ spec_select_mode in_table }
-{
-    if in_table {
-        Mode::InSelectInTable
-    } else {
-        Mode::InSelect
     }
 }
 
@@ -115,7 +96,10 @@ fn decided(
     if is_named(Known::HTML, element) {
         return Decides::To(html_mode(has_head));
     }
-    mode_or_nothing(mode_of(element))
+    match mode_of(element) {
+        Some(mode) => Decides::To(mode),
+        None => Decides::Nothing,
+    }
 }
 
 ghost use Rattle.hp_views.specs.ResetPlans.{decided_by, decides_at, has_head as spec_has_head};
@@ -174,8 +158,11 @@ impl<'p, B: Below> View<'p, B> {
         requires { from ≤ length self.old.change.stack }
         ensures { Carries result (sight B.heard self.old) (sight B.heard self.new) (λ v. select_plan v (drop from self.old.change.stack)) }
     {
-        let in_table = self.table_comes(alloc, from)?;
-        self.change.mode = select_mode(in_table);
+        self.change.mode = if self.table_comes(alloc, from)? {
+            Mode::InSelectInTable
+        } else {
+            Mode::InSelect
+        };
         Ok(())
     }
 
