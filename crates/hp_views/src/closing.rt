@@ -5,11 +5,11 @@ ghost use Rattle.hp_elements.specs.Names.{text_of};
 ghost use Rattle.hp_elements.specs.declared.kinds.Kinds.TheVariants as kinds;
 ghost use Rattle.hp_views.specs.View.{sight, Meets};
 ghost use Rattle.hp_views.specs.Steps.{implied_step, implied_except_step, implied_thoroughly_step, through_named_step, walk_step, close_step, close_paragraph_step, close_item_step, close_description_step, end_form_in_template_step};
-ghost use Rattle.hp_views.specs.View.{Answers, Carries};
+ghost use Rattle.hp_views.specs.View.{Answers};
 ghost use Rattle.hp_views.specs.StackPlans.{in_scope_plan};
 ghost use Rattle.hp_elements.specs.declared.act.Scope.TheVariants as scope;
 ghost use Rattle.hp_elements.specs.KnownNames as known;
-ghost use Rattle.hp_views.specs.ClosingPlans.{is_item_plan, close_term_plan, through_form_plan};
+ghost use Rattle.hp_views.specs.ClosingPlans.{is_item_plan};
 
 use crate::view::View;
 use crate::walks::{Walk, paragraph_walk};
@@ -129,25 +129,16 @@ impl<'p, B: Below> View<'p, B> {
         }
     }
 
-    /// Closes a term.
-    fn close_term(&mut self, alloc: Global) -> Result<(), Refusal>
-        ensures { Carries result (sight B.heard self.old) (sight B.heard self.new) close_term_plan }
-    {
-        if self.is_item(alloc, Known::DT)? {
-            self.close(alloc, Known::DT)
-        } else {
-            Ok(())
-        }
-    }
-
     /// Closes a term or a description that a new one ends.
     pub fn close_description(&mut self, alloc: Global) -> Result<(), Refusal>
         ensures { Meets result (sight B.heard self.old) (sight B.heard self.new) close_description_step }
     {
         if self.is_item(alloc, Known::DD)? {
             self.close(alloc, Known::DD)
+        } else if self.is_item(alloc, Known::DT)? {
+            self.close(alloc, Known::DT)
         } else {
-            self.close_term(alloc)
+            Ok(())
         }
     }
 
@@ -157,17 +148,10 @@ impl<'p, B: Below> View<'p, B> {
     {
         let form = Kinds::Html(Name::of_known(Known::FORM));
         if self.in_scope(alloc, Scope::Default, form)? {
-            self.through_form(alloc)
+            self.implied(alloc)?;
+            self.through_named(alloc, Name::of_known(Known::FORM))
         } else {
             Ok(())
         }
-    }
-
-    /// Pops up to and with the nearest form element, with what its end implies.
-    fn through_form(&mut self, alloc: Global) -> Result<(), Refusal>
-        ensures { Carries result (sight B.heard self.old) (sight B.heard self.new) through_form_plan }
-    {
-        self.implied(alloc)?;
-        self.through_named(alloc, Name::of_known(Known::FORM))
     }
 }
