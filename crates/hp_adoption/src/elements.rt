@@ -3,7 +3,7 @@ ghost use Rattle.std.specs.Prelude.{◌≡◌, IfOk};
 ghost use Rattle.std.specs.List.{list_any};
 ghost use Rattle.std.specs.Str.{bytes_eq};
 ghost use Rattle.hp_elements.specs.Names.{lowered, text_of};
-ghost use Rattle.hp_control.specs.Acts.{element_for as spec_element_for, point_in, mathml_point as spec_mathml_point, svg_point as spec_svg_point, encodes_html as spec_encodes_html};
+ghost use Rattle.hp_control.specs.Acts.{element_for as spec_element_for, point_in, mathml_point as spec_mathml_point, encodes_html as spec_encodes_html};
 ghost use Rattle.hp_adoption.specs.Encodings.{encodes_as};
 
 use hp_control::OpenElement;
@@ -30,17 +30,13 @@ pub fn point_of(alloc: Global, tag: &Tag) -> Result<Point, NoMemory>
     match tag.namespace {
         Namespace::Html => Ok(Point::No),
         Namespace::MathMl => mathml_point(alloc, tag),
-        Namespace::Svg => Ok(svg_point(tag)),
-    }
-}
-
-fn svg_point(tag: &Tag) -> Point
-    ensures { result ≡ spec_svg_point tag.now }
-{
-    if SetName::SvgHtmlPoints.has(Namespace::Svg, &tag.name) {
-        Point::Html
-    } else {
-        Point::No
+        Namespace::Svg => {
+            if SetName::SvgHtmlPoints.has(Namespace::Svg, &tag.name) {
+                Ok(Point::Html)
+            } else {
+                Ok(Point::No)
+            }
+        }
     }
 }
 

@@ -3,7 +3,7 @@ ghost use Rattle.std.specs.Prelude.{◌≡◌};
 ghost use Rattle.std.specs.List.{list_all};
 ghost use Rattle.hp_control.specs.Composed.{is_white as spec_is_white};
 ghost use Rattle.hp_views.specs.View.{sight, Carries};
-ghost use Rattle.hp_adoption.specs.FlushPlans.{fostered_text, foster_text, flush_text, flush_plan};
+ghost use Rattle.hp_adoption.specs.FlushPlans.{foster_text, flush_text, flush_plan};
 
 use crate::reconstruction::reconstruct;
 use hp_control::{Below, Child, Crossing, Refusal};
@@ -34,19 +34,8 @@ fn are_white(text: &Text<'_>) -> bool
     true
 }
 
-/// Puts the characters where content goes that may not stand in a table, and a frameset may no longer replace the body.
-fn put_fostered<'p, B: Below>(
-    alloc: Global,
-    view: &mut View<'p, B>,
-    text: Text<'p>,
-) -> Result<(), Refusal>
-    ensures { Carries result (sight B.heard view.old) (sight B.heard view.new) (fostered_text text.entry) }
-{
-    view.put(alloc, true, Child::Text(text))?;
-    view.frameset_not_ok(alloc)
-}
-
-/// The same, after a reconstruction.
+/// Puts the characters, after a reconstruction, where content goes that may not stand in a table, and a frameset may no longer
+/// replace the body.
 fn foster<'p, B: Below>(
     alloc: Global,
     view: &mut View<'p, B>,
@@ -55,7 +44,8 @@ fn foster<'p, B: Below>(
     ensures { Carries result (sight B.heard view.old) (sight B.heard view.new) (foster_text text.entry) }
 {
     reconstruct(alloc, view, true)?;
-    put_fostered(alloc, view, text)
+    view.put(alloc, true, Child::Text(text))?;
+    view.frameset_not_ok(alloc)
 }
 
 /// Puts characters into the tree.

@@ -25,14 +25,7 @@ fn is_plain<'p, B: Below>(
         return is_plain_below(alloc, view, name);
     }
     let top = view.change.stack.at(0);
-    Ok(is_of_name(top, name) && !view.has_entry(top.id))
-}
-
-/// Whether the element is an HTML one of that name.
-fn is_of_name(element: &OpenElement, name: &Name) -> bool
-    ensures { result ≡ (is_html element.now && bytes_eq name.now element.now.name) }
-{
-    is_html(element) && same_name(name, &element.name)
+    Ok(is_html(top) && same_name(name, &top.name) && !view.has_entry(top.id))
 }
 
 fn same_name(name: &Name, other: &Name) -> bool

@@ -2,7 +2,7 @@
 ghost use Rattle.std.specs.Prelude.{◌≡◌};
 ghost use Rattle.hp_views.specs.View.{sight, Carries};
 ghost use Rattle.hp_views.specs.Walks.{IsWithin};
-ghost use Rattle.hp_adoption.specs.Still.{is_still, is_still_at, is_top};
+ghost use Rattle.hp_adoption.specs.Still.{is_still, is_still_at};
 ghost use Rattle.hp_adoption.specs.ReconPlans.{is_settled as spec_is_settled, stale_walk as spec_stale_walk, renew_plan, renew_down_plan, reconstruct_plan};
 
 use crate::elements::point_of;
@@ -94,14 +94,6 @@ fn renew_down<'p, B: Below>(
     Ok(())
 }
 
-/// Whether the current node is the own element of this id.
-#[inline(always)]
-fn is_top(stack: &OpenElements, id: u64) -> bool
-    ensures { result ≡ is_top id stack.now }
-{
-    !stack.is_empty() && stack.at(0).id == id
-}
-
 /// Whether the entry is a marker, or the current node's.
 #[inline(always)]
 fn is_still_at(stack: &OpenElements, entry: &FormattingEntry) -> bool
@@ -109,7 +101,7 @@ fn is_still_at(stack: &OpenElements, entry: &FormattingEntry) -> bool
 {
     match entry {
         FormattingEntry::Marker => true,
-        FormattingEntry::Element { id, .. } => is_top(stack, *id),
+        FormattingEntry::Element { id, .. } => !stack.is_empty() && stack.at(0).id == *id,
     }
 }
 
