@@ -3,7 +3,7 @@ ghost use Rattle.std.specs.Prelude.{◌≡◌, IfOk};
 ghost use Rattle.hp_control.specs.Foreign.{is_glyph, enters, is_svg_start, is_annotation, is_foreign_at, is_end_of_input};
 ghost use Rattle.hp_elements.specs.Tokens.{kind_of};
 ghost use Rattle.hp_views.specs.View.{sight, Answers, Learns};
-ghost use Rattle.hp_foreign.specs.Plans.{ask_element, goes_plan, older_goes, element_in};
+ghost use Rattle.hp_foreign.specs.Plans.{ask_element, goes_plan, older_goes};
 
 use hp_control::{Answer, Below, OpenElement, Question, Refusal, is_html};
 use hp_elements::{ElementName, Kind, Kinds, Known, Namespace, NoMemory, Point, Token};
@@ -71,24 +71,6 @@ fn is_foreign_at(kind: Kind, element: &OpenElement) -> bool
     !(enters(element.point, kind) || is_annotation(element) && is_svg_start(kind))
 }
 
-fn element_in(answer: Answer) -> Option<OpenElement>
-    ensures { result ≡ element_in answer }
-{
-    match answer {
-        Answer::Element {
-            namespace,
-            name,
-            point,
-        } => Some(OpenElement {
-            id: 0,
-            namespace,
-            name,
-            point,
-        }),
-        _ => None,
-    }
-}
-
 /// The older element at that depth, but for its id.
 pub(crate) fn older_element<B: Below>(
     below: &mut B,
@@ -97,8 +79,19 @@ pub(crate) fn older_element<B: Below>(
 ) -> Result<Option<OpenElement>, NoMemory>
     ensures { Learns result (B.heard below.old) (B.heard below.new) (ask_element depth) }
 {
-    let answer = below.ask(alloc, Question::Elem { depth })?;
-    Ok(element_in(answer))
+    match below.ask(alloc, Question::Elem { depth })? {
+        Answer::Element {
+            namespace,
+            name,
+            point,
+        } => Ok(Some(OpenElement {
+            id: 0,
+            namespace,
+            name,
+            point,
+        })),
+        _ => Ok(None),
+    }
 }
 
 /// Whether the token is foreign content where the current node is an older element, or there is none.

@@ -4,7 +4,7 @@ ghost use Rattle.std.specs.List.{list_any};
 ghost use Rattle.std.specs.Str.{bytes_eq};
 ghost use Rattle.hp_elements.specs.Names.{lowered};
 ghost use Rattle.hp_foreign.specs.Encodings.{encodes_as};
-ghost use Rattle.hp_control.specs.Acts.{point_in, encodes_html, mathml_point, svg_point};
+ghost use Rattle.hp_control.specs.Acts.{point_in, encodes_html, mathml_point};
 ghost use Rattle.hp_control.specs.Foreign.{opened_namespace, tag_in};
 ghost use Rattle.hp_views.specs.View.{sight, Answers, Meets, Carries};
 ghost use Rattle.hp_foreign.specs.Plans.{namespace_plan, insert_in_plan};
@@ -65,16 +65,6 @@ fn mathml_point(alloc: Global, tag: &Tag) -> Result<Point, NoMemory>
     }
 }
 
-fn svg_point(tag: &Tag) -> Point
-    ensures { result ≡ svg_point tag.now }
-{
-    if SetName::SvgHtmlPoints.has(Namespace::Svg, &tag.name) {
-        Point::Html
-    } else {
-        Point::No
-    }
-}
-
 /// The integration point that an element is which is made for the tag.
 fn point_in(alloc: Global, tag: &Tag) -> Result<Point, NoMemory>
     ensures { IfOk result (λ point. point ≡ point_in tag.now.namespace tag.now) }
@@ -82,7 +72,13 @@ fn point_in(alloc: Global, tag: &Tag) -> Result<Point, NoMemory>
     match tag.namespace {
         Namespace::Html => Ok(Point::No),
         Namespace::MathMl => mathml_point(alloc, tag),
-        Namespace::Svg => Ok(svg_point(tag)),
+        Namespace::Svg => {
+            if SetName::SvgHtmlPoints.has(Namespace::Svg, &tag.name) {
+                Ok(Point::Html)
+            } else {
+                Ok(Point::No)
+            }
+        }
     }
 }
 
@@ -97,24 +93,7 @@ fn tag_in(alloc: Global, namespace: Namespace, tag: Tag) -> Result<Tag, NoMemory
     })
 }
 
-/// Pops the current node where the tag was self-closing.
-fn pop_where<'p, B: Below>(
-    alloc: Global,
-    view: &mut View<'p, B>,
-    self_closing: bool,
-) -> Result<(), Refusal>
-    ensures { Carries result (sight B.heard view.old) (sight B.heard view.new) (pop_where_plan self_closing) }
-{
-    if self_closing {
-        view.pop(alloc)
-    } else {
-        Ok(())
-    }
-}
-
-ghost use Rattle.hp_foreign.specs.Plans.{pop_where_plan};
-
-/// Inserts an element of the namespace for the tag.
+/// Inserts an element of the namespace for the tag, and pops it where the tag is self-closing.
 fn insert_in<'p, B: Below>(
     alloc: Global,
     view: &mut View<'p, B>,
@@ -128,7 +107,11 @@ fn insert_in<'p, B: Below>(
     let tag = tag_in(alloc, namespace, tag)?;
     let point = point_in(alloc, &tag)?;
     view.insert(alloc, fostering, tag, point)?;
-    pop_where(alloc, view, self_closing)
+    if self_closing {
+        view.pop(alloc)
+    } else {
+        Ok(())
+    }
 }
 
 /// The namespace of the element that a start tag `math` or `svg` opens.
