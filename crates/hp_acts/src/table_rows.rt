@@ -2,7 +2,7 @@
 ghost use Rattle.std.specs.Prelude.{◌≡◌};
 ghost use Rattle.hp_elements.specs.declared.sets.Namespace.TheVariants.{Html};
 ghost use Rattle.hp_views.specs.View.{sight, Carries};
-ghost use Rattle.hp_acts.specs.Usual.{cell_after_plan, cell_begun_plan, cell_closed_plan, cell_end_by, cell_end_plan, cell_left_plan, cell_plan, row_after_plan, row_end_by, row_end_plan, row_left_plan, row_plan};
+ghost use Rattle.hp_acts.specs.Usual.{cell_end_plan, cell_left_plan, cell_plan, row_end_plan, row_plan};
 
 use crate::ends::ends_top;
 use crate::usual::insert;
@@ -22,18 +22,6 @@ pub(crate) fn begin_row<'p, B: Below>(
     ensures { Carries result (sight B.heard view.old) (sight B.heard view.new) (row_plan tag.old) }
 {
     view.pop_to(alloc, Kinds::Set(SetName::TableBodyContext))?;
-    enter_row(alloc, view, tag)
-}
-
-#[inline(always)]
-fn enter_row<'p, B: Below>(
-    alloc: Global,
-    view: &mut View<'p, B>,
-    tag: &mut Tag,
-) -> Result<(), Refusal>
-    requires html { tag.old.namespace ≡ Html }
-    ensures { Carries result (sight B.heard view.old) (sight B.heard view.new) (row_after_plan tag.old) }
-{
     insert(alloc, view, tag)?;
     view.switch_to(alloc, Mode::InRow)
 }
@@ -49,61 +37,22 @@ pub(crate) fn begin_cell<'p, B: Below>(
     ensures { Carries result (sight B.heard view.old) (sight B.heard view.new) (cell_plan tag.old) }
 {
     view.pop_to(alloc, Kinds::Set(SetName::TableRowContext))?;
-    enter_cell(alloc, view, tag)
-}
-
-#[inline(always)]
-fn enter_cell<'p, B: Below>(
-    alloc: Global,
-    view: &mut View<'p, B>,
-    tag: &mut Tag,
-) -> Result<(), Refusal>
-    requires html { tag.old.namespace ≡ Html }
-    ensures { Carries result (sight B.heard view.old) (sight B.heard view.new) (cell_after_plan tag.old) }
-{
     insert(alloc, view, tag)?;
-    mark_cell(alloc, view)
-}
-
-#[inline(always)]
-fn mark_cell<'p, B: Below>(alloc: Global, view: &mut View<'p, B>) -> Result<(), Refusal>
-    ensures { Carries result (sight B.heard view.old) (sight B.heard view.new) cell_begun_plan }
-{
     view.switch_to(alloc, Mode::InCell)?;
     view.add_marker(alloc)
 }
 
-/// A row ends.
+/// A row ends, where it is in scope.
 #[inline(never)]
 pub(crate) fn end_row<'p, B: Below>(alloc: Global, view: &mut View<'p, B>) -> Result<(), Refusal>
     ensures { Carries result (sight B.heard view.old) (sight B.heard view.new) row_end_plan }
 {
     let goals = Kinds::Html(Name::of_known(Known::TR));
     let is_open = view.in_scope(alloc, Scope::Table, goals)?;
-    end_open_row(alloc, view, is_open)
-}
-
-/// Where it is in scope.
-#[inline(always)]
-fn end_open_row<'p, B: Below>(
-    alloc: Global,
-    view: &mut View<'p, B>,
-    is_open: bool,
-) -> Result<(), Refusal>
-    ensures { Carries result (sight B.heard view.old) (sight B.heard view.new) (λ v. row_end_by v is_open) }
-{
-    if is_open {
-        view.pop_to(alloc, Kinds::Set(SetName::TableRowContext))?;
-        leave_row(alloc, view)
-    } else {
-        Ok(())
+    if !is_open {
+        return Ok(());
     }
-}
-
-#[inline(always)]
-fn leave_row<'p, B: Below>(alloc: Global, view: &mut View<'p, B>) -> Result<(), Refusal>
-    ensures { Carries result (sight B.heard view.old) (sight B.heard view.new) row_left_plan }
-{
+    view.pop_to(alloc, Kinds::Set(SetName::TableRowContext))?;
     view.pop(alloc)?;
     view.switch_to(alloc, Mode::InTableBody)
 }
@@ -124,7 +73,7 @@ pub(crate) fn end_cell<'p, B: Below>(
     end_cell_any(alloc, view, name)
 }
 
-/// The same where it may not be the current node.
+/// The same where it may not be the current node: it ends where it is in scope.
 #[inline(never)]
 fn end_cell_any<'p, B: Below>(
     alloc: Global,
@@ -135,35 +84,10 @@ fn end_cell_any<'p, B: Below>(
 {
     let goals = Kinds::Html(name.copy(alloc)?);
     let is_open = view.in_scope(alloc, Scope::Table, goals)?;
-    end_open_cell(alloc, view, name, is_open)
-}
-
-/// Where it is in scope.
-#[inline(always)]
-fn end_open_cell<'p, B: Below>(
-    alloc: Global,
-    view: &mut View<'p, B>,
-    name: Name,
-    is_open: bool,
-) -> Result<(), Refusal>
-    ensures { Carries result (sight B.heard view.old) (sight B.heard view.new) (λ v. cell_end_by name v is_open) }
-{
-    if is_open {
-        view.implied(alloc)?;
-        close_cell(alloc, view, name)
-    } else {
-        Ok(())
+    if !is_open {
+        return Ok(());
     }
-}
-
-#[inline(always)]
-fn close_cell<'p, B: Below>(
-    alloc: Global,
-    view: &mut View<'p, B>,
-    name: Name,
-) -> Result<(), Refusal>
-    ensures { Carries result (sight B.heard view.old) (sight B.heard view.new) (cell_closed_plan name) }
-{
+    view.implied(alloc)?;
     view.through(alloc, Kinds::Html(name), Kinds::Nothing)?;
     leave_cell(alloc, view)
 }
