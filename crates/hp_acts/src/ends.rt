@@ -8,7 +8,7 @@ ghost use Rattle.hp_control.specs.KindTests.{within};
 ghost use Rattle.hp_views.specs.View.{sight, Carries};
 ghost use Rattle.hp_acts.specs.Plans.{implied_but_plan};
 ghost use Rattle.hp_acts.specs.TopEnds.{EndsDescription, ends_top};
-ghost use Rattle.hp_acts.specs.Usual.{block_end_by, block_end_plan, description_end_by, description_end_plan, item_end_by, item_end_plan, paragraph_end_by, paragraph_end_plan};
+ghost use Rattle.hp_acts.specs.Usual.{block_end_plan, description_end_plan, item_end_by, item_end_plan, paragraph_end_by, paragraph_end_plan};
 
 use crate::inserts::insert_bare;
 use hp_control::{Below, OpenElement, OpenElements, Refusal, is_html, is_within};
@@ -22,17 +22,11 @@ fn same_name(name: &Name, other: &Name) -> bool
     name.same(other)
 }
 
-/// Whether the element is an HTML one of that name.
-fn is_of_name(element: &OpenElement, name: &Name) -> bool
-    ensures { result ≡ within (kinds.Html name.now) element.now }
-{
-    is_html(element) && same_name(name, &element.name)
-}
-
+/// Whether the element is an HTML one of that name, and not of the set.
 fn ends(element: &OpenElement, name: &Name, passed: SetName) -> bool
     ensures { result ≡ (within (kinds.Html name.now) element.now && not (within (kinds.Set passed) element.now)) }
 {
-    is_of_name(element, name) && !is_within(&Kinds::Set(passed), element)
+    is_html(element) && same_name(name, &element.name) && !is_within(&Kinds::Set(passed), element)
 }
 
 /// Whether the current node is an own HTML element of the name, and stays where those of the set are popped.
@@ -77,7 +71,7 @@ pub(crate) fn close_block<'p, B: Below>(
     close_block_any(alloc, view, name)
 }
 
-/// The same where it may not be the current node.
+/// The same where it may not be the current node: it is closed with what its end implies, where it is in scope.
 #[inline(never)]
 fn close_block_any<'p, B: Below>(
     alloc: Global,
@@ -88,25 +82,11 @@ fn close_block_any<'p, B: Below>(
 {
     let goals = Kinds::Html(name.copy(alloc)?);
     let is_open = view.in_scope(alloc, Scope::Default, goals)?;
-    end_block(alloc, view, name, is_open)
-}
-
-/// Closes the block of the name with what its end implies, where it is in scope.
-#[inline(always)]
-fn end_block<'p, B: Below>(
-    alloc: Global,
-    view: &mut View<'p, B>,
-    name: Name,
-    is_open: bool,
-) -> Result<(), Refusal>
-    ensures { Carries result (sight B.heard view.old) (sight B.heard view.new) (λ v. block_end_by name v is_open) }
-{
-    if is_open {
-        view.implied(alloc)?;
-        view.through(alloc, Kinds::Html(name), Kinds::Nothing)
-    } else {
-        Ok(())
+    if !is_open {
+        return Ok(());
     }
+    view.implied(alloc)?;
+    view.through(alloc, Kinds::Html(name), Kinds::Nothing)
 }
 
 /// Ends a list item.
@@ -164,7 +144,7 @@ pub(crate) fn close_description<'p, B: Below>(
     close_description_any(alloc, view, name)
 }
 
-/// The same where it may not be the current node.
+/// The same where it may not be the current node: it is closed with what its end implies, where it is in scope.
 #[inline(never)]
 fn close_description_any<'p, B: Below>(
     alloc: Global,
@@ -175,25 +155,11 @@ fn close_description_any<'p, B: Below>(
 {
     let goals = Kinds::Html(name.copy(alloc)?);
     let is_open = view.in_scope(alloc, Scope::Default, goals)?;
-    end_description(alloc, view, name, is_open)
-}
-
-/// Closes the term or description with what its end implies, where it is in scope.
-#[inline(always)]
-fn end_description<'p, B: Below>(
-    alloc: Global,
-    view: &mut View<'p, B>,
-    name: Name,
-    is_open: bool,
-) -> Result<(), Refusal>
-    ensures { Carries result (sight B.heard view.old) (sight B.heard view.new) (λ v. description_end_by name v is_open) }
-{
-    if is_open {
-        implied_but(alloc, view, &name)?;
-        view.through(alloc, Kinds::Html(name), Kinds::Nothing)
-    } else {
-        Ok(())
+    if !is_open {
+        return Ok(());
     }
+    implied_but(alloc, view, &name)?;
+    view.through(alloc, Kinds::Html(name), Kinds::Nothing)
 }
 
 /// Generates implied end tags, but not that of the name.
