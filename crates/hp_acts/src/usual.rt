@@ -1,6 +1,6 @@
 //! The usual rows of the body and of tables, carried out without the table of rows: a short way to what it says (13.2.6.4.7,
 //! 13.2.6.4.13 to 13.2.6.4.15).
-ghost use Rattle.std.specs.Prelude.{◌≡◌, ◌<◌, ℕ, [], ◌∷◌, false, true, IfSome};
+ghost use Rattle.std.specs.Prelude.{◌≡◌, ◌<◌, ℕ, [], ◌∷◌, false, true, IfSome, unwrap_or};
 ghost use Rattle.hp_elements.specs.Names.{known_of};
 ghost use Rattle.hp_elements.specs.Rules.{acts_for, acts_numbered};
 ghost use Rattle.hp_elements.specs.Tokens.{kind_of};
@@ -9,8 +9,8 @@ ghost use Rattle.hp_elements.specs.declared.token.Mode.TheVariants.{InBody, InCe
 ghost use Rattle.hp_elements.specs.declared.sets.Namespace.TheVariants.{Html};
 ghost use Rattle.hp_rules_body.specs.Body.{in_body};
 ghost use Rattle.hp_rules_body.specs.Table.{all_rows};
-ghost use Rattle.hp_rules_table.specs.Table.{all_rows as table_rows};
-ghost use Rattle.hp_rules_table.specs.TableModes.{in_cell, in_row, in_table_body};
+ghost use Rattle.hp_rules_table.specs.Table.{all_rows as table_rows, rows_of};
+ghost use Rattle.hp_rules_table.specs.TableModes.{in_cell};
 ghost use Rattle.hp_views.specs.View.{sight, split_of, Carries};
 ghost use Rattle.hp_views.specs.PlacePlans.{insert_plan};
 ghost use Rattle.hp_acts.specs.TableText.{turns_from};
@@ -18,7 +18,7 @@ ghost use Rattle.hp_acts.specs.Handling.{Handles};
 ghost use Rattle.hp_model.specs.Tokens.{name_of};
 ghost use Rattle.hp_acts.specs.Plans.{implied_but_plan};
 ghost use Rattle.hp_acts.specs.Spending.{html_tag};
-ghost use Rattle.hp_acts.specs.Usual.{HasIn, HasRow, IsUsual, begin_plan, block_end_by, block_end_plan, block_plan, closing_plan, description_after_plan, description_end_by, description_end_plan, description_plan, end_plan, formatting_plan, item_after_plan, item_end_by, item_end_plan, item_plan, link_plan, listed_plan, opening_plan, ordinary_plan, paragraph_end_by, paragraph_end_plan, usual_acts, usual_plan};
+ghost use Rattle.hp_acts.specs.Usual.{HasIn, HasRow, IsUsual, begin_plan, block_end_by, block_end_plan, block_plan, closing_plan, description_after_plan, description_end_by, description_end_plan, description_plan, end_plan, formatting_plan, item_end_by, item_end_plan, item_plan, link_plan, listed_plan, opening_plan, ordinary_plan, paragraph_end_by, paragraph_end_plan, usual_acts, usual_plan};
 
 use crate::ends::{close_block, close_description, close_item, close_paragraph};
 use crate::plain::is_in_html;
@@ -119,34 +119,12 @@ fn usual_in_tables(number: u16) -> Option<UsualRow>
     }
 }
 
-/// The usual row that the token has in a section of a table.
+/// The usual row of its own that the token has in a mode of tables.
 #[tactic(auto, using(crate::proofs::UsualRuns::usual_acts_of))]
-fn usual_in_section(token: &Token<'_>) -> Option<UsualRow>
-    ensures { IfSome result (λ row. HasIn in_table_body token.now row) }
+fn usual_in_table(mode: Mode, token: &Token<'_>) -> Option<UsualRow>
+    ensures { IfSome result (λ row. HasIn (unwrap_or (rows_of mode) []) token.now row) }
 {
-    match hp_rules_table::row(Mode::InTableBody, token) {
-        Some(number) => usual_in_tables(number),
-        None => None,
-    }
-}
-
-/// The usual row that the token has in a row of a table.
-#[tactic(auto, using(crate::proofs::UsualRuns::usual_acts_of))]
-fn usual_in_row(token: &Token<'_>) -> Option<UsualRow>
-    ensures { IfSome result (λ row. HasIn in_row token.now row) }
-{
-    match hp_rules_table::row(Mode::InRow, token) {
-        Some(number) => usual_in_tables(number),
-        None => None,
-    }
-}
-
-/// The usual row of its own that the token has in a cell.
-#[tactic(auto, using(crate::proofs::UsualRuns::usual_acts_of))]
-fn own_in_cell(token: &Token<'_>) -> Option<UsualRow>
-    ensures { IfSome result (λ row. HasIn in_cell token.now row) }
-{
-    match hp_rules_table::row(Mode::InCell, token) {
+    match hp_rules_table::row(mode, token) {
         Some(number) => usual_in_tables(number),
         None => None,
     }
@@ -179,7 +157,7 @@ fn usual_in_cell(token: &Token<'_>) -> Option<UsualRow>
     if is_passed_in_cell(token) {
         usual_in_body(token)
     } else {
-        own_in_cell(token)
+        usual_in_table(Mode::InCell, token)
     }
 }
 
@@ -190,8 +168,8 @@ fn usual_in_mode(mode: Mode, token: &Token<'_>) -> Option<UsualRow>
 {
     match mode {
         Mode::InBody => usual_in_body(token),
-        Mode::InTableBody => usual_in_section(token),
-        Mode::InRow => usual_in_row(token),
+        Mode::InTableBody => usual_in_table(Mode::InTableBody, token),
+        Mode::InRow => usual_in_table(Mode::InRow, token),
         Mode::InCell => usual_in_cell(token),
         _ => None,
     }
@@ -472,19 +450,6 @@ fn open_item<'p, B: Below>(
     ensures { Carries result (sight B.heard view.old) (sight B.heard view.new) (item_plan tag.old) }
 {
     view.frameset_not_ok(alloc)?;
-    open_item_after(alloc, view, tag)
-}
-
-/// Closes the item before, and opens this one.
-#[inline(always)]
-fn open_item_after<'p, B: Below>(
-    alloc: Global,
-    view: &mut View<'p, B>,
-    tag: &mut Tag,
-) -> Result<(), Refusal>
-    requires html { tag.old.namespace ≡ Html }
-    ensures { Carries result (sight B.heard view.old) (sight B.heard view.new) (item_after_plan tag.old) }
-{
     view.close_item(alloc)?;
     open_block(alloc, view, tag)
 }

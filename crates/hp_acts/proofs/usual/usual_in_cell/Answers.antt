@@ -5,4 +5,4 @@ pub returns-then-is_passed_in_cell : goal.returns-then-is_passed_in_cell
 returns-then-is_passed_in_cell c = body_cell c.args.token.now c.usual_in_body.result (c.is_passed_in_cell.ensures c.if-is_passed_in_cell.true) c.usual_in_body.ensures
 
 pub returns-else-is_passed_in_cell : goal.returns-else-is_passed_in_cell
-returns-else-is_passed_in_cell c = own_cell c.args.token.now c.own_in_cell.result c.own_in_cell.ensures
+returns-else-is_passed_in_cell c = own_cell c.args.token.now c.usual_in_table.result c.usual_in_table.ensures
