@@ -5,7 +5,7 @@ ghost use Rattle.hp_adoption.specs.FlushPlans.{flush_plan};
 ghost use Rattle.hp_views.specs.View.{sight, split_of, Carries};
 ghost use Rattle.hp_acts.specs.HandlePlans.{all_turns_plan};
 ghost use Rattle.hp_acts.specs.Handling.{Handles};
-ghost use Rattle.hp_acts.specs.TableText.{BeginsText, ContinuesText, EndsText, begin_plan, begun, continue_plan, end_plan, is_characters, is_part_mode, is_waiting, turns_from, waits, waits_at};
+ghost use Rattle.hp_acts.specs.TableText.{BeginsText, ContinuesText, EndsText, begin_plan, end_plan, is_characters, is_part_mode, is_waiting, turns_from, waits, waits_at};
 
 use crate::characters::append_pending;
 use crate::plain::{is_in_html, is_plain, is_run, put_plain};
@@ -13,7 +13,7 @@ use crate::token_parts::taken;
 use crate::turns::{Handled, NOTHING, most_turns, take_all_turns, take_turns};
 use crate::usual::{handle_usual, usual_row};
 use hp_adoption::flush;
-use hp_control::{Below, Change, OpenElement, OpenElements, Refusal, is_html, is_within};
+use hp_control::{Below, OpenElement, OpenElements, Refusal, is_html, is_within};
 use hp_elements::{Kinds, Mode, SetName, Text, Token};
 use hp_views::View;
 use std::alloc::Global;
@@ -109,16 +109,7 @@ pub(crate) fn handle_other<'p, B: Below>(
     }
 }
 
-/// From now on characters wait, and the mode is kept.
-#[inline(always)]
-fn wait(change: &mut Change)
-    ensures { change.new ≡ begun change.old }
-{
-    change.pending = Text::new();
-    change.original = Some(change.mode);
-    change.mode = Mode::InTableText;
-}
-
+/// From now on characters wait, the token's first, and the mode is kept.
 #[inline(always)]
 fn begin_run<'p, B: Below>(
     alloc: Global,
@@ -127,7 +118,9 @@ fn begin_run<'p, B: Below>(
 ) -> Result<(), Refusal>
     ensures { Carries result (sight B.heard view.old) (sight B.heard view.new) (begin_plan token.now) }
 {
-    wait(&mut view.change);
+    view.change.pending = Text::new();
+    view.change.original = Some(view.change.mode);
+    view.change.mode = Mode::InTableText;
     append_pending(alloc, view, token)
 }
 
@@ -147,17 +140,6 @@ fn begin<'p, B: Below>(
     }
 }
 
-#[inline(always)]
-fn go_on_with<'p, B: Below>(
-    alloc: Global,
-    view: &mut View<'p, B>,
-    token: &Token<'p>,
-) -> Result<(), Refusal>
-    ensures { Carries result (sight B.heard view.old) (sight B.heard view.new) (continue_plan token.now) }
-{
-    append_pending(alloc, view, token)
-}
-
 /// A further run waits.
 #[inline(always)]
 fn go_on<'p, B: Below>(
@@ -168,7 +150,7 @@ fn go_on<'p, B: Below>(
     requires { ContinuesText (split_of view.old) token.now }
     ensures { Handles result (sight B.heard view.old) (sight B.heard view.new) (all_turns_plan token.now) }
 {
-    match go_on_with(alloc, view, token) {
+    match append_pending(alloc, view, token) {
         Ok(()) => Ok(NOTHING),
         Err(refused) => Err(refused),
     }

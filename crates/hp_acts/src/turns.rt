@@ -374,13 +374,6 @@ fn handle_whole<'p, B: Below>(
     }
 }
 
-/// From now on no line feed is dropped.
-fn skip_no_more(skip_lf: &mut bool)
-    ensures { skip_lf.new ≡ false }
-{
-    *skip_lf = false;
-}
-
 /// The same where a line feed is to be dropped.
 #[inline(never)]
 fn handle_skipping<'p, B: Below>(
@@ -390,7 +383,7 @@ fn handle_skipping<'p, B: Below>(
 ) -> Result<Handled, Refusal>
     ensures plan { Handles result (sight B.heard view.old) (sight B.heard view.new) (λ v. handle_rest (without_line_feed token.entry) (unskipped v)) }
 {
-    skip_no_more(&mut view.change.skip_lf);
+    view.change.skip_lf = false;
     match after_line_feed(alloc, token)? {
         Some(token) => take_all_turns(alloc, view, token),
         None => Ok(NOTHING),
