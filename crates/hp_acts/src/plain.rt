@@ -4,7 +4,7 @@ ghost use Rattle.std.specs.Prelude.{◌≡◌, true};
 ghost use Rattle.hp_views.specs.View.{sight, split_of, Carries};
 ghost use Rattle.hp_acts.specs.HandlePlans.{all_turns_plan, handle_plan};
 ghost use Rattle.hp_acts.specs.Handling.{Handles};
-ghost use Rattle.hp_acts.specs.Plain.{IsPlain, body_text_plan, is_raw, is_run, put_text_plan, run_plan, takes_text, text_plan};
+ghost use Rattle.hp_acts.specs.Plain.{IsPlain, body_text_plan, is_run, put_text_plan, run_plan, takes_text, text_plan};
 ghost use Rattle.hp_model.specs.Texts.{as_run, has_html_top, is_text_mode, is_white, white_or_other};
 ghost use Rattle.std.specs.List.{list_all};
 ghost use Rattle.std.specs.Str.{chars};
@@ -70,16 +70,6 @@ pub(crate) fn put_plain<'p, B: Below>(
     }
 }
 
-/// Whether text alone is read in this mode.
-fn is_raw(mode: Mode) -> bool
-    ensures { result ≡ is_raw mode }
-{
-    match mode {
-        Mode::Text => true,
-        _ => false,
-    }
-}
-
 fn put_run<'p, B: Below>(
     alloc: Global,
     view: &mut View<'p, B>,
@@ -101,10 +91,9 @@ fn put_characters<'p, B: Below>(
 ) -> Result<(), Refusal>
     ensures { Carries result (sight B.heard view.old) (sight B.heard view.new) (λ v. text_plan v.change.mode class text.entry v) }
 {
-    if is_raw(view.change.mode) {
-        view.put(alloc, false, Child::Text(text))
-    } else {
-        put_in_body(alloc, view, class, text)
+    match view.change.mode {
+        Mode::Text => view.put(alloc, false, Child::Text(text)),
+        _ => put_in_body(alloc, view, class, text),
     }
 }
 

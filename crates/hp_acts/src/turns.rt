@@ -11,7 +11,7 @@ ghost use Rattle.hp_acts.specs.HandlePlans.{all_turns_plan, handle_plan, handle_
 ghost use Rattle.hp_acts.specs.Handling.{GoesLater, Handles, unskipped};
 ghost use Rattle.hp_acts.specs.RowPlans.{Reached, Came, act_then, is_early, turn_plan};
 ghost use Rattle.hp_acts.specs.TableText.{turns_from};
-ghost use Rattle.hp_acts.specs.Spending.{IsLeftOf, gives_away, is_of_attributes, leaves_whole, reads_attributes};
+ghost use Rattle.hp_acts.specs.Spending.{IsLeftOf, gives_away, leaves_whole, reads_attributes};
 ghost use Rattle.hp_acts.specs.declared.token_parts.Spending.TheVariants.{Copies};
 ghost use Rattle.hp_acts.specs.declared.turns.Next.TheVariants.{Again, At, Done, Rules};
 
@@ -71,16 +71,10 @@ fn reads_attributes(act: Act) -> bool
 {
     match act {
         Act::AppendToList => true,
-        Act::If { test, .. } | Act::Unless { test, .. } => is_of_attributes(test),
-        _ => false,
-    }
-}
-
-fn is_of_attributes(test: Test) -> bool
-    ensures { result ≡ is_of_attributes test }
-{
-    match test {
-        Test::TypeIsHidden | Test::HasFontAttribute => true,
+        Act::If { test, .. } | Act::Unless { test, .. } => match test {
+            Test::TypeIsHidden | Test::HasFontAttribute => true,
+            _ => false,
+        },
         _ => false,
     }
 }
