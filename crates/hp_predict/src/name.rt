@@ -1,7 +1,7 @@
 //! The names of tags.
-ghost use Rattle.std.specs.Prelude.{◌≡◌, false, None, IfOk};
+ghost use Rattle.std.specs.Prelude.{◌≡◌, false, IfOk};
 ghost use Rattle.std.specs.Str.{bytes_eq, IsAscii};
-ghost use Rattle.hp_elements.specs.Names.{text_of, known_of, lowered};
+ghost use Rattle.hp_elements.specs.Names.{text_of, lowered};
 ghost use Rattle.hp_elements.specs.Sets.{in_set, turned};
 ghost use Rattle.hp_elements.specs.declared.sets.Namespace.TheVariants as spaces;
 ghost use Rattle.hp_predict.specs.Tags.{counts as spec_counts};
@@ -66,7 +66,10 @@ impl<'t> TagName<'t> {
     {
         match &self.spelling {
             Spelling::Named(own) => other.is(*own),
-            Spelling::Other(text) => other.reads(text),
+            Spelling::Other(text) => match &other.spelling {
+                Spelling::Named(_) => false,
+                Spelling::Other(own) => text.eq_ignore_ascii_case(own),
+            },
         }
     }
 
@@ -77,17 +80,6 @@ impl<'t> TagName<'t> {
         match &self.spelling {
             Spelling::Named(own) => own.same(known),
             Spelling::Other(_) => false,
-        }
-    }
-
-    /// Whether a text, of which no known name is read, is read as this name.
-    fn reads(&self, text: &[u8]) -> bool
-        requires { known_of (lowered text.now) ≡ None }
-        ensures { result ≡ bytes_eq (lowered text.now) self.now }
-    {
-        match &self.spelling {
-            Spelling::Named(_) => false,
-            Spelling::Other(own) => text.eq_ignore_ascii_case(own),
         }
     }
 

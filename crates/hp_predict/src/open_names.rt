@@ -2,7 +2,7 @@
 ghost use Rattle.std.specs.Prelude.{◌≡◌, ◌≤◌, true, [], ◌∷◌, ◌++◌, length, drop, OnOk, IfOk, IfSome, if◌then◌else◌};
 ghost use Rattle.std.specs.Option.{option_map};
 ghost use Rattle.hp_predict.specs.Tags.{counts, counted_tags};
-ghost use Rattle.hp_predict.specs.OpenNames.{is_in_table as spec_is_in_table, is_in_section as spec_is_in_section, with_section, with_row, implied, opened, below, is_unmatched, after_tag, after, unmatched};
+ghost use Rattle.hp_predict.specs.OpenNames.{with_section, with_row, implied, below, is_unmatched, after_tag, after, unmatched};
 
 use crate::name::TagName;
 use crate::tags::next_tag;
@@ -19,33 +19,11 @@ pub struct Scan<'t> {
     pub unmatched: List<TagName<'t>>,
 }
 
-/// Whether the last name is `table`.
-fn is_in_table(names: &Stack<TagName<'_>>) -> bool
-    ensures { result ≡ spec_is_in_table names.now }
-{
-    if names.len() == 0 {
-        false
-    } else {
-        names.at(0).is(Known::TABLE)
-    }
-}
-
-/// Whether the last name is `tbody`, `tfoot` or `thead`.
-fn is_in_section(names: &Stack<TagName<'_>>) -> bool
-    ensures { result ≡ spec_is_in_section names.now }
-{
-    if names.len() == 0 {
-        false
-    } else {
-        names.at(0).is_in(SetName::TableSections)
-    }
-}
-
 /// A `tbody` opens in a table.
 fn open_section(alloc: Global, names: &mut Stack<TagName<'_>>) -> Result<(), NoMemory>
     ensures { OnOk result (names.new ≡ with_section names.old) }
 {
-    if is_in_table(names) {
+    if names.len() > 0 && names.at(0).is(Known::TABLE) {
         names.add(alloc, TagName::of_known(Known::TBODY))
     } else {
         Ok(())
@@ -56,7 +34,7 @@ fn open_section(alloc: Global, names: &mut Stack<TagName<'_>>) -> Result<(), NoM
 fn open_row(alloc: Global, names: &mut Stack<TagName<'_>>) -> Result<(), NoMemory>
     ensures { OnOk result (names.new ≡ with_row names.old) }
 {
-    if is_in_section(names) {
+    if names.len() > 0 && names.at(0).is_in(SetName::TableSections) {
         names.add(alloc, TagName::of_known(Known::TR))
     } else {
         Ok(())
@@ -106,16 +84,9 @@ impl<'t> Scan<'t> {
         } else if is_end {
             self.close(alloc, name)
         } else {
-            self.start(alloc, name)
+            open_implied(alloc, &mut self.names, &name)?;
+            self.names.add(alloc, name)
         }
-    }
-
-    fn start(&mut self, alloc: Global, name: TagName<'t>) -> Result<(), NoMemory>
-        ensures names { OnOk result (self.new.names ≡ opened name.entry self.old.names) }
-        ensures unmatched { self.new.unmatched ≡ self.old.unmatched }
-    {
-        open_implied(alloc, &mut self.names, &name)?;
-        self.names.add(alloc, name)
     }
 
     fn close(&mut self, alloc: Global, name: TagName<'t>) -> Result<(), NoMemory>

@@ -55,20 +55,14 @@ fn put_mode(alloc: Global, templates: &mut Stack<Mode>, name: &TagName<'_>) -> R
     }
 }
 
-/// The element, where it is a form.
-fn form_at(id: u64, name: &TagName<'_>) -> Option<u64>
-    ensures { result ≡ (if is_name knowns.Form name.now then Some id else None) }
-{
-    if name.is(Known::FORM) { Some(id) } else { None }
-}
-
 /// The first form of a pile, which one more element may be.
 fn first_form(form: Option<u64>, id: u64, name: &TagName<'_>) -> Option<u64>
     ensures { result ≡ first_of form (if is_name knowns.Form name.now then Some id else None) }
 {
     match form {
         Some(first) => Some(first),
-        None => form_at(id, name),
+        None if name.is(Known::FORM) => Some(id),
+        None => None,
     }
 }
 
@@ -134,16 +128,6 @@ fn found_at(name: &TagName<'_>, ends: &[TagName<'_>], found: usize) -> usize
     }
 }
 
-/// Piles up html and body.
-fn put_page(alloc: Global, pile: &mut Pile) -> Result<(), NoMemory>
-    requires { length pile.old.stack + 2 < 2 ^ 64 }
-    ensures of { IsOf [] pile.old → OnOk result (IsOf (text_of knowns.Body ∷ text_of knowns.Html ∷ []) pile.new) }
-    ensures count { OnOk result (length pile.new.stack ≡ length pile.old.stack + 2) }
-{
-    pile.put(alloc, &TagName::of_known(Known::HTML))?;
-    pile.put(alloc, &TagName::of_known(Known::BODY))
-}
-
 /// Piles up end tags, the last one first.
 fn put_ends(alloc: Global, pile: &mut Pile, ends: &[TagName<'_>]) -> Result<(), NoMemory>
     requires { length pile.old.stack + length ends.now < 2 ^ 64 }
@@ -179,7 +163,8 @@ pub fn put_all(
     ensures of { IsOf [] pile.old → OnOk result (IsOf (with_ends names.now ends.now ++ text_of knowns.Body ∷ text_of knowns.Html ∷ []) pile.new) }
     ensures count { OnOk result (length pile.new.stack + 2 < 2 ^ 64) }
 {
-    put_page(alloc, pile)?;
+    pile.put(alloc, &TagName::of_known(Known::HTML))?;
+    pile.put(alloc, &TagName::of_known(Known::BODY))?;
     put_ends(alloc, pile, &ends[found_ends(names, ends)..])?;
     put_open(alloc, pile, names)
 }

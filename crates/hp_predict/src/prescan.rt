@@ -1,16 +1,12 @@
 //! The predictor that guesses the open elements from the tags before the chunk and in it.
-ghost use Rattle.std.specs.Prelude.{◌≡◌, ◌+◌, ◌-◌, ◌*◌, ◌<◌, ◌≤◌, ◌^◌, true, Some, None, ◌∷◌, [], ◌++◌, length, take, drop, slice_range, IfOk, if◌then◌else◌};
-ghost use Rattle.std.specs.Option.{unwrap_or};
+ghost use Rattle.std.specs.Prelude.{◌≡◌, ◌+◌, ◌<◌, ◌^◌, true, Some, None, ◌∷◌, [], ◌++◌, length, take, drop, slice_range, IfOk, if◌then◌else◌};
 ghost use Rattle.hp_text.specs.Page.{text_of as text_of_page};
 ghost use Rattle.hp_elements.specs.Names.{text_of};
 ghost use Rattle.hp_elements.specs.RawText.{raw_text_of};
 ghost use Rattle.hp_elements.specs.KnownNames as knowns;
 ghost use Rattle.hp_elements.specs.declared.token.Mode.TheVariants as modes;
-ghost use Rattle.hp_elements.specs.declared.token.Rest.TheVariants as rests;
 ghost use Rattle.hp_control.specs.Truth.{answer_of};
 ghost use Rattle.hp_control.specs.Walks.{reset_mode};
-ghost use Rattle.hp_predict.specs.Tags.{counted_tags};
-ghost use Rattle.hp_predict.specs.OpenNames.{unmatched};
 ghost use Rattle.hp_predict.specs.Guess.{with_ends, guessed, is_text as spec_is_text, lex_for as spec_lex_for, state_for as spec_state_for, ends_in_cr as spec_ends_in_cr};
 ghost use Rattle.hp_predict.specs.Laws.{IsGuess};
 
@@ -41,13 +37,6 @@ impl Model for Prescan {
     ghost view = { λ p. p.state };
 }
 
-/// The last bytes of a text.
-fn last_bytes(text: &[u8]) -> &[u8]
-    ensures { result.now ≡ drop (length text.now - 4096) text.now }
-{
-    &text[text.len().saturating_sub(BEFORE)..]
-}
-
 fn ends_in_cr(text: &[u8]) -> bool
     ensures { result ≡ spec_ends_in_cr text.now }
 {
@@ -72,30 +61,14 @@ fn is_text(name: &Name) -> bool
     raw_text(name).is_some() && !has_name(name, Known::PLAINTEXT)
 }
 
-fn rest_for(name: &Name) -> Rest
-    ensures { result ≡ unwrap_or (raw_text_of name.now) rests.Data }
-{
-    match raw_text(name) {
-        Some(rest) => rest,
-        None => Rest::Data,
-    }
-}
-
-/// The text of a name.
-fn copied(alloc: Global, name: &Name) -> Result<OwnedText, NoMemory>
-    ensures { IfOk result (λ text. text ≡ name.now) }
-{
-    let mut text = OwnedText::new();
-    text.push_str(alloc, name.as_str())?;
-    Ok(text)
-}
-
 /// The lexer in the state for the text of an element of that name.
 fn lex_for(alloc: Global, after_cr: bool, name: &Name) -> Result<LexState, NoMemory>
     ensures { IfOk result (λ lex. lex ≡ spec_lex_for after_cr name.now) }
 {
-    let last_tag = copied(alloc, name)?;
-    let LexState { machine, ahead } = LexState::at_rest(rest_for(name), after_cr);
+    let mut last_tag = OwnedText::new();
+    last_tag.push_str(alloc, name.as_str())?;
+    let rest = raw_text(name).unwrap_or(Rest::Data);
+    let LexState { machine, ahead } = LexState::at_rest(rest, after_cr);
     Ok(LexState {
         machine: Machine {
             last_tag: Some(last_tag),
@@ -151,26 +124,19 @@ fn state_for(
     })
 }
 
-/// The state that is guessed for a text before which these names are open.
-fn guess_from(
-    alloc: Global,
-    after_cr: bool,
-    names: &Stack<TagName<'_>>,
-    text: &[u8],
-) -> Result<Control, NoMemory>
-    requires { length names.now ≤ 3 * 4096 }
-    ensures { IfOk result (λ state. state ≡ spec_state_for after_cr (with_ends names.now (unmatched (counted_tags text.now) []) ++ text_of knowns.Body ∷ text_of knowns.Html ∷ [])) }
-{
-    let closed = read_tags(alloc, text)?;
-    state_for(alloc, after_cr, names, closed.unmatched.as_slice())
-}
-
 /// The state that is guessed for a text, from the text before it.
 fn guess(alloc: Global, before: &[u8], text: &[u8]) -> Result<Control, NoMemory>
     ensures { IfOk result (λ state. state ≡ guessed before.now text.now) }
 {
-    let open = read_tags(alloc, last_bytes(before))?;
-    guess_from(alloc, ends_in_cr(before), &open.names, text)
+    let part = &before[before.len().saturating_sub(BEFORE)..];
+    let open = read_tags(alloc, part)?;
+    let closed = read_tags(alloc, text)?;
+    state_for(
+        alloc,
+        ends_in_cr(before),
+        &open.names,
+        closed.unmatched.as_slice(),
+    )
 }
 
 impl Prescan {

@@ -1,6 +1,5 @@
 //! The predictors that look at no text.
-ghost use Rattle.std.specs.Prelude.{◌≡◌, [], IfOk, if◌then◌else◌};
-ghost use Rattle.hp_control.specs.Truth.{yes_or_no};
+ghost use Rattle.std.specs.Prelude.{◌≡◌, IfOk};
 ghost use Rattle.hp_predict.specs.Says.{quiet_says, contrary_says, quiet_fact, has_all_html as spec_has_all_html, has_body as spec_has_body};
 
 use crate::name::has_name;
@@ -69,36 +68,16 @@ fn has_body(goals: &Kinds) -> bool
     }
 }
 
-fn yes_or_no(yes: bool) -> Answer
-    ensures { result ≡ yes_or_no yes }
-{
-    if yes { Answer::Yes } else { Answer::No }
-}
-
-fn quiet_reach(depth: u64, goals: &Kinds) -> Answer
-    ensures { result ≡ (if spec_has_all_html goals.now then Answer.Depth depth else Answer.NoDepth) }
-{
-    if has_all_html(goals) {
-        Answer::Depth(depth)
-    } else {
-        Answer::NoDepth
-    }
-}
-
 fn quiet_fact(alloc: Global, which: FactKind) -> Result<Answer, NoMemory>
     ensures { IfOk result (λ answer. answer ≡ quiet_fact which) }
 {
     match which {
         FactKind::Quirks => Ok(Answer::No),
-        FactKind::LastTag => no_last_tag(alloc),
+        FactKind::LastTag => {
+            let name = Name::from_text(alloc, "")?;
+            Ok(Answer::LastTag(name))
+        }
     }
-}
-
-fn no_last_tag(alloc: Global) -> Result<Answer, NoMemory>
-    ensures { IfOk result (λ answer. answer ≡ Answer.LastTag []) }
-{
-    let name = Name::from_text(alloc, "")?;
-    Ok(Answer::LastTag(name))
 }
 
 fn quiet_answer(alloc: Global, question: &Question) -> Result<Answer, NoMemory>
@@ -117,8 +96,10 @@ fn quiet_answer(alloc: Global, question: &Question) -> Result<Answer, NoMemory>
             name: Name::of_known(Known::DIV),
             point: Point::No,
         }),
-        Question::Seen { goals, .. } => Ok(yes_or_no(has_body(goals))),
-        Question::Reach { depth, goals, .. } => Ok(quiet_reach(*depth, goals)),
+        Question::Seen { goals, .. } if has_body(goals) => Ok(Answer::Yes),
+        Question::Seen { .. } => Ok(Answer::No),
+        Question::Reach { depth, goals, .. } if has_all_html(goals) => Ok(Answer::Depth(*depth)),
+        Question::Reach { .. } => Ok(Answer::NoDepth),
         Question::RunOf { .. } => Ok(Answer::Count(0)),
         Question::HasTemplate { .. } => Ok(Answer::No),
         Question::ResetFrom { .. } => Ok(Answer::NewMode(Mode::InBody)),

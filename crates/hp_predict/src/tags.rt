@@ -3,7 +3,7 @@ ghost use Rattle.std.specs.Prelude.{◌≡◌, ◌+◌, ◌<◌, false, Some, []
 ghost use Rattle.std.specs.List.{prefix_len};
 ghost use Rattle.std.specs.Str.{IsAscii};
 ghost use Rattle.std.specs.Char.{is_ascii_alphanumeric};
-ghost use Rattle.hp_predict.specs.Tags.{tags, tag_after as spec_tag_after, named as spec_named, begins_with_letter as spec_begins_with_letter};
+ghost use Rattle.hp_predict.specs.Tags.{tags, tag_after as spec_tag_after, named as spec_named};
 ghost use Rattle.hp_predict.specs.Found.{opening as spec_opening, opening_tag, found_tag};
 
 use crate::name::TagName;
@@ -21,16 +21,6 @@ fn name_length(text: &[u8]) -> usize
     text.len()
 }
 
-/// Whether an ASCII letter stands at the front of a text.
-fn begins_with_letter(text: &[u8]) -> bool
-    ensures { result ≡ spec_begins_with_letter text.now }
-{
-    match text {
-        [] => false,
-        [byte, ..] => byte.is_ascii_alphabetic(),
-    }
-}
-
 /// What a tag says before its end.
 #[derive(Clone, Copy)]
 pub struct Opening<'t> {
@@ -44,11 +34,13 @@ fn named<'t>(is_end: bool, text: &'t [u8]) -> Option<Opening<'t>>
     ensures tag { opening_tag result ≡ spec_named is_end text.now }
     ensures ascii { IfSome result (λ opening. IsAscii opening.name.now) }
 {
-    if !begins_with_letter(text) {
-        return None;
+    match text {
+        [first, ..] if first.is_ascii_alphabetic() => Some(Opening {
+            is_end,
+            name: &text[..name_length(text)],
+        }),
+        _ => None,
     }
-    let name = &text[..name_length(text)];
-    Some(Opening { is_end, name })
 }
 
 /// The tag whose `<` stands before a text.

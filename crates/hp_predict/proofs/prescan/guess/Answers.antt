@@ -1,24 +1,40 @@
-use Rattle.std.proofs.Common.{◌≡◌, ◌≤◌, ◌+◌, ◌*◌, ◌++◌, ℕ, [], length, ap, sym, subst, arith}
+use Rattle.std.proofs.Common.{◌≡◌, ◌≤◌, ◌+◌, ◌-◌, ◌*◌, ◌++◌, ℕ, List, [], length, take, drop, ap, sym, subst, ◌∙◌, arith, length-drop}
+use Rattle.std.proofs.lemmas.List.{take_all}
 use Rattle.std.proofs.lemmas.Result.{IfOk-weaker}
+use Rattle.std.specs.Prelude.{IfOk}
+use Rattle.hp_control.specs.States.{ControlState}
 use Rattle.hp_predict.specs.Tags.{counted_tags}
 use Rattle.hp_predict.specs.OpenNames.{Names, unmatched}
 use Rattle.hp_predict.specs.Guess.{with_ends, state_for, guessed}
 use Rattle.hp_predict.proofs.PartLemmas.{page}
-use Rattle.hp_predict.proofs.LengthLemmas.{few_open, few_counted, bytes_length}
+use Rattle.hp_predict.proofs.LengthLemmas.{few_open, few_counted, few_unmatched, bytes_length}
 use Rattle.hp_predict.proofs.StateLemmas.{guess_of}
 use Rattle.hp_predict.proofs.prescan.guess.Goals as goal
 
-pub guess_from-requires : goal.guess_from-requires
-guess_from-requires c =
-    let part = c.last_bytes.result.now in
+part_is : (text : List ℕ) (from : ℕ) → from ≡ length text - 4096 → take (length text - from) (drop from text) ≡ drop (length text - 4096) text
+part_is text from e = take_all (length text - from) (drop from text) (omega (arith, length-drop from text)) ∙ ap (λ (n : ℕ). drop n text) e
+
+pub state_for-requires : goal.state_for-requires
+state_for-requires c =
+    let before = c.args.before.now in
+    let from = c.saturating_sub.result in
+    let part = take (length before - from) (drop from before) in
+    let tags = counted_tags c.args.text.now in
     let a : length c.in_ok-open.open.names ≤ 3 * length (counted_tags part) + 0 = subst (λ (ns : Names). length ns ≤ 3 * length (counted_tags part) + 0) (sym c.in_ok-open.ensures.names) (few_open (counted_tags part) []) in
     let b = few_counted part in
-    let d : length part ≤ 4096 = subst (λ (n : ℕ). n ≤ 4096) (sym (ap length c.last_bytes.ensures)) (bytes_length c.args.before.now) in
+    let d : length part ≤ 4096 = subst (λ (n : ℕ). n ≤ 4096) (sym (ap length (part_is before from c.saturating_sub.ensures))) (bytes_length before) in
+    let e : length c.in_ok-closed.closed.unmatched ≤ length tags = subst (λ (ns : Names). length ns ≤ length tags) (sym c.in_ok-closed.ensures.unmatched) (few_unmatched tags []) in
+    let f = few_counted c.args.text.now in
+    let g = ap length c.as_slice.ensures in
     omega arith
 
 pub returns : goal.returns
 returns c =
+    let before = c.args.before.now in
+    let from = c.saturating_sub.result in
     let text = c.args.text.now in
-    IfOk-weaker c.guess_from.result (λ s. s ≡ state_for c.ends_in_cr.result (with_ends c.in_ok-open.open.names (unmatched (counted_tags text) []) ++ page)) (λ s. s ≡ guessed c.args.before.now text)
-    (λ s is. guess_of c.args.before.now text c.last_bytes.result.now c.in_ok-open.open.names c.ends_in_cr.result s c.last_bytes.ensures c.in_ok-open.ensures.names c.ends_in_cr.ensures is)
-    c.guess_from.ensures
+    let names = c.in_ok-open.open.names in
+    let P : Names → Type 0 = λ ends. IfOk c.state_for.result (λ (s : ControlState). s ≡ state_for c.ends_in_cr.result (with_ends names ends ++ page)) in
+    IfOk-weaker c.state_for.result (λ s. s ≡ state_for c.ends_in_cr.result (with_ends names (unmatched (counted_tags text) []) ++ page)) (λ s. s ≡ guessed before text)
+    (λ s is. guess_of before text (take (length before - from) (drop from before)) names c.ends_in_cr.result s (part_is before from c.saturating_sub.ensures) c.in_ok-open.ensures.names c.ends_in_cr.ensures is)
+    (subst P (c.as_slice.ensures ∙ c.in_ok-closed.ensures.unmatched) c.state_for.ensures)

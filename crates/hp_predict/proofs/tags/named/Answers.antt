@@ -1,5 +1,5 @@
 use Rattle.hp_predict.proofs.TagLemmas.{name_ascii}
 use Rattle.hp_predict.proofs.tags.named.Goals as goal
 
-pub returns-clause-ascii : goal.returns-clause-ascii
-returns-clause-ascii c = name_ascii c.args.text.now c.name_length.result c.name_length.ensures
+pub returns-in-len1-up-clause-ascii : goal.returns-in-len1-up-clause-ascii
+returns-in-len1-up-clause-ascii c = name_ascii c.args.text.now c.name_length.result c.name_length.ensures
