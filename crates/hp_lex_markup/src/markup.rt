@@ -315,20 +315,11 @@ fn in_doctype(state: State) -> bool
         | State::AfterDoctypeSystemKeyword
         | State::BeforeDoctypeSystemIdentifier
         | State::AfterDoctypeSystemIdentifier
-        | State::BogusDoctype => true,
-        _ => in_identifier(state),
-    }
-}
-
-/// Whether the state is one within a doctype's identifier.
-fn in_identifier(state: State) -> bool
-    ensures { result ≡ rows.in_identifier state }
-{
-    match state {
-        State::DoctypePublicIdentifierDoubleQuoted
+        | State::DoctypePublicIdentifierDoubleQuoted
         | State::DoctypePublicIdentifierSingleQuoted
         | State::DoctypeSystemIdentifierDoubleQuoted
-        | State::DoctypeSystemIdentifierSingleQuoted => true,
+        | State::DoctypeSystemIdentifierSingleQuoted
+        | State::BogusDoctype => true,
         _ => false,
     }
 }

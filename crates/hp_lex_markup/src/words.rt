@@ -6,7 +6,7 @@ ghost use Rattle.hp_tokens.specs.Reading.{first};
 ghost use Rattle.hp_tokens.specs.Moves.{Lexing, Move, move, read_as as spec_read_as};
 ghost use Rattle.hp_tokens.specs.Advancing.{held, unread, Steps, EndSteps, ReadsOne, MovesByRows};
 ghost use Rattle.hp_lex_markup.specs.Rows.{reads_word, has_row, row as spec_row};
-ghost use Rattle.hp_lex_markup.specs.Words.{progress as spec_progress, is_open as spec_is_open, word as spec_word, count as spec_count, asks as spec_asks, folded as spec_folded, is_front_progress, is_whole_progress, front_of, begins_of};
+ghost use Rattle.hp_lex_markup.specs.Words.{progress as spec_progress, is_open as spec_is_open, word as spec_word, count as spec_count, asks as spec_asks, folded as spec_folded, front_of, begins_of};
 ghost use Rattle.hp_lex_markup.specs.Markup.{after_word, markup_rules};
 ghost use Rattle.hp_lex_markup.specs.Held.{Gathers, PastWord, MovesByRow, pair_next};
 
@@ -19,7 +19,7 @@ use hp_tokens::{
 use std::alloc::Global;
 
 /// A word that is read at once.
-#[derive(Clone, Copy, Debug, PartialEq, Eq)]
+#[derive(Clone, Copy)]
 pub enum Word {
     /// `--`.
     Hyphens,
@@ -58,31 +58,11 @@ impl Word {
 
 /// How far a text has come with a word: the whole word, with or without more behind it; the front of the word alone; or
 /// something else.
-#[derive(Clone, Copy, Debug, PartialEq, Eq)]
+#[derive(Clone, Copy)]
 pub enum Progress {
     Whole,
     Front,
     Other,
-}
-
-impl Progress {
-    fn is_front(self) -> bool
-        ensures { result ≡ is_front_progress self }
-    {
-        match self {
-            Progress::Front => true,
-            _ => false,
-        }
-    }
-
-    fn is_whole(self) -> bool
-        ensures { result ≡ is_whole_progress self }
-    {
-        match self {
-            Progress::Whole => true,
-            _ => false,
-        }
-    }
 }
 
 /// The code point, with ASCII upper case lowered where it is asked for.
@@ -117,14 +97,14 @@ fn compared(fold: bool, text: &OwnedText, word: &[u8]) -> Progress
 fn is_front(fold: bool, text: &OwnedText, word: &[u8]) -> bool
     ensures { result ≡ front_of fold text.now word.now }
 {
-    compared(fold, text, word).is_front()
+    matches!(compared(fold, text, word), Progress::Front)
 }
 
 /// Whether the text begins with a word.
 fn begins(fold: bool, text: &OwnedText, word: &[u8]) -> bool
     ensures { result ≡ begins_of fold text.now word.now }
 {
-    compared(fold, text, word).is_whole()
+    matches!(compared(fold, text, word), Progress::Whole)
 }
 
 /// Whether more text is needed to know which word it begins with, if any.
