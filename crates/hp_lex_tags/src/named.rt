@@ -1,14 +1,13 @@
 // Named character references: the longest name decides, and what is read ahead for it is held back (13.2.5.73).
-ghost use Rattle.std.specs.Prelude.{◌≡◌, ◌≤◌, ◌++◌, List, Option, Some, IfOk, OnOk, IfSome, true, false, [], take, drop, length};
+ghost use Rattle.std.specs.Prelude.{◌≡◌, ◌≤◌, List, Option, Some, IfOk, OnOk, IfSome, true, false, [], take, drop, length};
 ghost use Rattle.std.specs.Bool.{OnFalse};
 ghost use Rattle.hp_names.specs.Longest.{longest as spec_longest, is_open as spec_is_open, StaysClosed};
 ghost use Rattle.hp_tokens.specs.declared.state.State.TheVariants as states;
 ghost use Rattle.hp_elements.specs.declared.token.Token.{Token};
 ghost use Rattle.hp_tokens.specs.Moves.{Lexing, Move, move};
 ghost use Rattle.hp_tokens.specs.Reading.{first};
-ghost use Rattle.hp_tokens.specs.Rows.{flushed_tokens};
 ghost use Rattle.hp_tokens.specs.Advancing.{held, unread, MovesByRows, ReadsOne, Steps, EndSteps};
-ghost use Rattle.hp_lex_tags.specs.Named.{is_no_reference as spec_is_no_reference, read_buffer, unfound as spec_unfound, gone_back};
+ghost use Rattle.hp_lex_tags.specs.Named.{is_no_reference as spec_is_no_reference, read_buffer};
 ghost use Rattle.hp_lex_tags.specs.Held.{Gathers, Decides, pair_next};
 ghost use Rattle.hp_lex_tags.specs.Rows.{has_row, row};
 ghost use Rattle.hp_lex_tags.specs.Tags.{tag_rules};
@@ -105,28 +104,7 @@ fn read_into(
     }
 }
 
-/// The buffer goes where it goes, and the lexer goes back.
-fn go_back(alloc: Global, machine: &mut Machine, tokens: &mut Tokens<'_>) -> Result<(), NoMemory>
-    ensures machine { OnOk result (machine.new ≡ gone_back machine.old) }
-    ensures tokens { OnOk result (tokens.new ≡ tokens.old ++ flushed_tokens machine.old) }
-{
-    let back = machine.return_to.state();
-    machine.flush(alloc, tokens)?;
-    machine.enter(back);
-    Ok(())
-}
-
-/// The buffer goes where it goes, and letters and digits follow it.
-fn unfound(alloc: Global, machine: &mut Machine, tokens: &mut Tokens<'_>) -> Result<(), NoMemory>
-    ensures machine { OnOk result (machine.new ≡ spec_unfound machine.old) }
-    ensures tokens { OnOk result (tokens.new ≡ tokens.old ++ flushed_tokens machine.old) }
-{
-    machine.flush(alloc, tokens)?;
-    machine.enter(State::AmbiguousAmpersand);
-    Ok(())
-}
-
-/// What the name stands for goes where it goes; the name is dropped from what was read ahead.
+/// What the name stands for goes where it goes, and the lexer goes back; the name is dropped from what was read ahead.
 fn put_found(
     alloc: Global,
     found: &Found,
@@ -140,10 +118,14 @@ fn put_found(
     let name = take_front(alloc, &mut state.ahead, found.length)?;
     let kept = is_no_reference(found, &state.machine, state.peek(input));
     read_into(alloc, &mut state.machine.buffer, found, kept, &name)?;
-    go_back(alloc, &mut state.machine, tokens)
+    let back = state.machine.return_to.state();
+    state.machine.flush(alloc, tokens)?;
+    state.machine.enter(back);
+    Ok(())
 }
 
-/// What the longest name stands for goes where it goes; the name is dropped from what was read ahead.
+/// What the longest name stands for goes where it goes; the name is dropped from what was read ahead. Where there is none, letters
+/// and digits follow the ampersand.
 fn decide(
     alloc: Global,
     state: &mut LexState,
@@ -154,7 +136,11 @@ fn decide(
     ensures { OnOk result (Decides (spec_longest names.now state.old.ahead) state.old input.now tokens.old state.new tokens.new) }
 {
     match longest(&state.ahead, names) {
-        None => unfound(alloc, &mut state.machine, tokens),
+        None => {
+            state.machine.flush(alloc, tokens)?;
+            state.machine.enter(State::AmbiguousAmpersand);
+            Ok(())
+        }
         Some(found) => put_found(alloc, &found, state, input, tokens),
     }
 }

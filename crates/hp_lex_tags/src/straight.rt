@@ -1,7 +1,5 @@
 // The usual tag, read straight from the page: what the rows do code point by code point, at once.
 ghost use Rattle.std.specs.Prelude.{◌≡◌, ◌≢◌, ◌≤◌, ◌<◌, ℕ, List, [], Some, None, OnOk, IfOk, IfSome, IfNone, true, false, refl};
-ghost use Rattle.hp_elements.specs.declared.token.Token.TheVariants as tokens;
-ghost use Rattle.hp_elements.specs.declared.sets.Namespace.TheVariants as namespaces;
 ghost use Rattle.std.specs.Str.{chars};
 ghost use Rattle.hp_names.specs.References.{Reference};
 ghost use Rattle.hp_tokens.specs.declared.state.State.TheVariants as states;
@@ -177,19 +175,6 @@ fn read_references<R: Run>(
     Ok(())
 }
 
-/// What ends a value in quotes, if it comes next.
-#[inline]
-fn close_quoted<R: Run>(input: &mut Cursor<'_>, mark: u8, state: State) -> Way
-    requires ascii { mark < 128 }
-    requires quoted { IsQuoted R.passes mark state }
-    ensures { (names : List Reference) (reading : Reading) → Arrives names state (building.StartTag (tag_of reading)) input.old reading input.new result }
-{
-    if input.take_byte(mark) {
-        return behind_quoted(input);
-    }
-    Way::Left
-}
-
 /// A value in quotes, behind its first run.
 #[inline(never)]
 fn read_behind_run<R: Run>(
@@ -209,7 +194,10 @@ fn read_behind_run<R: Run>(
     let mut value = value;
     read_references::<R>(alloc, names, &mut value, input, mark, state)?;
     keep(alloc, attributes, name, value)?;
-    Ok(close_quoted::<R>(input, mark, state))
+    if input.take_byte(mark) {
+        return Ok(behind_quoted(input));
+    }
+    Ok(Way::Left)
 }
 
 /// A value in quotes, behind the first of them.
@@ -337,24 +325,6 @@ fn read_attribute(
     Ok(behind(input, State::AttributeName))
 }
 
-/// An attribute, or what ends the tag.
-#[inline]
-fn read_on(
-    alloc: Global,
-    names: &Names,
-    attributes: &mut Chain<Attribute>,
-    input: &mut Cursor<'_>,
-    state: State,
-) -> Result<Way, NoMemory>
-    requires { is_between state ≡ true }
-    ensures { IfOk result (TagGrows names.now state attributes.old input.old attributes.new input.new) }
-{
-    if begins_name(input) {
-        return read_attribute(alloc, names, attributes, input, state);
-    }
-    Ok(close(input, state))
-}
-
 /// The attributes, and what ends the tag.
 fn read_attributes(
     alloc: Global,
@@ -367,13 +337,14 @@ fn read_attributes(
     ensures { IfOk result (TagGrows names.now state attributes.old input.old attributes.new input.new) }
 {
     let mut now = state;
-    'attributes: loop {
-        let way = read_on(alloc, names, attributes, input, now)?;
+    'attributes: while begins_name(input) {
+        let way = read_attribute(alloc, names, attributes, input, now)?;
         match way {
             Way::At(next) => now = next,
             _ => return Ok(way),
         }
     }
+    Ok(close(input, now))
 }
 
 /// What follows the name of a start tag.
@@ -407,19 +378,6 @@ fn tell_last(alloc: Global, machine: &mut Machine, name: &Name) -> Result<(), No
             Ok(())
         }
     }
-}
-
-/// The start tag with this name and these attributes.
-#[inline(always)]
-fn start_tag<'p>(name: Name, attributes: Chain<Attribute>, self_closing: bool) -> Token<'p>
-    ensures { result ≡ tokens.Start self_closing (record { namespace = namespaces.Html; name = name; attributes = attributes }) }
-{
-    let tag = Tag {
-        namespace: Namespace::Html,
-        name,
-        attributes,
-    };
-    Token::Start { self_closing, tag }
 }
 
 /// The name of a tag, in lower case.
@@ -473,7 +431,14 @@ fn read_start_tag<'p>(
     let mut attributes = Chain::new();
     let end = read_behind_name(alloc, names, machine, &name, &mut attributes, input)?;
     match end {
-        Some(self_closing) => Ok(Some(start_tag(name, attributes, self_closing))),
+        Some(self_closing) => {
+            let tag = Tag {
+                namespace: Namespace::Html,
+                name,
+                attributes,
+            };
+            Ok(Some(Token::Start { self_closing, tag }))
+        }
         None => {
             *input = start;
             Ok(None)

@@ -23,10 +23,9 @@ returns-in-Some c =
     start_whole c.args.names.now c.args.machine.now c.requires.data c.requires.clear c.args.input.now c.skip_ascii.new.self
     (skipped 60 c.args.input.now c.skip_ascii.new.self (start_first c.args.input.now.text c.requires.opens) refl c.skip_ascii.ensures)
     c.requires.opens c.read_name.new.input front c.in_ok-name.ensures refl
-    c.read_behind_name.new.machine c.read_behind_name.new.input then.to c.in-Some.self_closing c.start_tag.result then.arrives
-    (c.start_tag.ensures
-    ∙ (ap (λ (n : List ℕ). Start c.in-Some.self_closing (record { namespace = Html; name = n; attributes = c.read_behind_name.new.attributes })) (sym then.named)
-    ∙ ap (λ (xs : List Attribute). Start c.in-Some.self_closing (record { namespace = Html; name = then.to.name; attributes = xs })) then.gathers))
+    c.read_behind_name.new.machine c.read_behind_name.new.input then.to c.in-Some.self_closing _ then.arrives
+    (ap (λ (n : List ℕ). Start c.in-Some.self_closing (record { namespace = Html; name = n; attributes = c.read_behind_name.new.attributes })) (sym then.named)
+    ∙ ap (λ (xs : List Attribute). Start c.in-Some.self_closing (record { namespace = Html; name = then.to.name; attributes = xs })) then.gathers)
     (behind ∙ ap (λ (n : List ℕ). tagging (Some n) Data Nothing) (sym then.named))
 
 pub returns : goal.returns
