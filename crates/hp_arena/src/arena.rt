@@ -1,6 +1,6 @@
 //! The nodes, elements and leaves of a tree, and the edits on them.
 
-ghost use Rattle.std.specs.Prelude.{◌≡◌, ◌≢◌, ◌+◌, ◌<◌, ◌≤◌, length, ◌++◌, [], ◌∷◌, ◌^◌, true, false, IfOk, OnOk, OnErr, All, MatchOption, unwrap_or, Some, slice_get, slice_set, vec_len, vec_capacity, ℕ};
+ghost use Rattle.std.specs.Prelude.{◌≡◌, ◌≢◌, ◌+◌, ◌<◌, ◌≤◌, length, ◌++◌, [], ◌∷◌, ◌^◌, true, false, IfOk, OnOk, OnErr, All, MatchOption, Some, slice_get, slice_set, vec_len, vec_capacity, ℕ};
 ghost use Rattle.hp_control.specs.Edits.{room_of, room_of_all};
 ghost use Rattle.hp_control.specs.Tree.{document, detached, put, put_child, applied, is_there, id_of, is_place, may_be_child, leads_into_document, children_moved, with_tag, with_attributes};
 ghost use Rattle.hp_control.specs.Tree.{branch, IsForest};
@@ -11,7 +11,7 @@ ghost use Rattle.hp_arena.specs.Nodes.{kind_of, IsClosed, end_from};
 ghost use Rattle.hp_arena.specs.Readers.{IsSpot, shown, is_item, HasTag};
 
 use crate::attributes::add_attributes;
-use crate::leaves::{Doctype, Leaf, add_leaf, add_text, alone, push_within, text_at};
+use crate::leaves::{Doctype, Leaf, add_leaf, add_text, alone, text_at};
 use crate::links::{Kind, Node, put_before, splice, unlink};
 use crate::readers::{NodeView, Runs, Spot};
 use crate::room::{largest, widen};
@@ -255,15 +255,12 @@ impl<'p> Arena<'p> {
         let node = self.nodes.len() as u32;
         let id = self.elements.len() as u32;
         let room = tag.attributes.len() + 1;
-        push_within(&mut self.nodes, alone(node, Kind::Element(id)));
-        push_within(&mut self.nodes, alone(node + 1, Kind::End(id)));
-        push_within(
-            &mut self.elements,
-            Element {
-                tag: Some(tag),
-                node,
-            },
-        );
+        self.nodes.push_reserved(alone(node, Kind::Element(id)));
+        self.nodes.push_reserved(alone(node + 1, Kind::End(id)));
+        self.elements.push_reserved(Element {
+            tag: Some(tag),
+            node,
+        });
         self.spare -= room;
         self.used += room;
     }
@@ -347,7 +344,7 @@ impl<'p> Arena<'p> {
     {
         let at = node_at(&self.nodes, &self.elements, place);
         let number = self.doctypes.len() as u32;
-        push_within(&mut self.doctypes, doctype);
+        self.doctypes.push_reserved(doctype);
         add_leaf(&mut self.nodes, &mut self.leaves, at, Leaf::Doctype(number));
         self.spare -= 1;
     }
@@ -491,16 +488,6 @@ impl<'p> Arena<'p> {
     }
 }
 
-/// A part of a doctype; the empty text where it is missing.
-fn text_or_empty(part: Option<Text<'_>>) -> Text<'_>
-    ensures { result ≡ unwrap_or part.entry [] }
-{
-    match part {
-        Some(text) => text,
-        None => Text::new(),
-    }
-}
-
 /// A doctype as the tree keeps it: a name that is missing is the empty text.
 #[inline(never)]
 fn kept_doctype<'p>(doctype: hp_elements::Doctype<'p>) -> Doctype<'p>
@@ -508,7 +495,7 @@ fn kept_doctype<'p>(doctype: hp_elements::Doctype<'p>) -> Doctype<'p>
 {
     let parts = doctype.into_parts();
     Doctype {
-        name: text_or_empty(parts.name),
+        name: parts.name.unwrap_or(Text::new()),
         public: parts.public,
         system: parts.system,
     }

@@ -42,16 +42,6 @@ pub fn alone(node: u32, kind: Kind) -> Node
     }
 }
 
-/// Appends an item for which there is room.
-pub fn push_within<T: Drop>(items: &mut Vec<T>, item: T)
-    requires { vec_len items.old < vec_capacity items.old }
-    ensures items { items.new.items ≡ items.old.items ++ item ∷ [] }
-    ensures len { vec_len items.new ≡ vec_len items.old + 1 }
-    ensures capacity { vec_capacity items.old ≤ vec_capacity items.new }
-{
-    items.push_reserved(item);
-}
-
 /// A list of this one text, in a cell that was made before.
 #[inline(always)]
 fn take_cell<'p>(cells: &mut Vec<Chain<Text<'p>>>, text: Text<'p>) -> Chain<Text<'p>>
@@ -235,7 +225,7 @@ pub fn add_leaf<'p>(nodes: &mut Vec<Node>, leaves: &mut Vec<Leaf<'p>>, at: u32, 
 {
     let node = nodes.len() as u32;
     let number = leaves.len() as u32;
-    push_within(leaves, leaf);
-    push_within(nodes, alone(node, Kind::Leaf(number)));
+    leaves.push_reserved(leaf);
+    nodes.push_reserved(alone(node, Kind::Leaf(number)));
     put_before(nodes, at, node);
 }

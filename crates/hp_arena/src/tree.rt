@@ -23,10 +23,16 @@ use std::mem;
 const BATCH: usize = 256;
 
 /// A document tree. Contracts see its branches by their ids, and its room.
-#[derive(Drop)]
 pub struct Tree<'p> {
     arena: Arena<'p>,
     roots: Roots,
+}
+
+impl<'p> Drop for Tree<'p> {
+    #[inline(always)]
+    fn drop(self) {
+        let Tree { arena: _, roots: _ } = self;
+    }
 }
 
 impl<'p> Model for Tree<'p> {
@@ -166,21 +172,26 @@ impl<'p> Tree<'p> {
         ensures spare { self.old.spare ≤ self.new.spare + 1 }
     {
         child.tell();
-        let child = taken_child(child);
+        let child = mem::replace(child, Child::Element(Ref::Fixed(0)));
         self.apply(Edit::Put {
             child,
             place: Place::Into(Ref::Fixed(parent)),
         });
     }
 
-    /// Makes the next element, which has no parent.
+    /// Makes the next element, which has no parent. Some other tag is left in the place of its own.
     #[inline(never)]
     fn new_element(&mut self, tag: &mut Tag)
         requires { length tag.old.attributes < self.old.spare }
         ensures branches { self.new.branches ≡ applied self.old.branches (Edit.NewElement tag.old) }
         ensures spare { self.old.spare ≤ self.new.spare + (length tag.old.attributes + 1) }
     {
-        self.arena.new_element(taken_tag(tag));
+        let other = Tag {
+            namespace: Namespace::Html,
+            name: Name::of_known(Known::HTML),
+            attributes: Chain::new(),
+        };
+        self.arena.new_element(mem::replace(tag, other));
     }
 
     /// Puts a text last into an element.
@@ -190,8 +201,8 @@ impl<'p> Tree<'p> {
         ensures branches { self.new.branches ≡ applied self.old.branches (Edit.Put (Child.Text text.old) (Place.Into (Ref.Fixed parent))) }
         ensures spare { self.old.spare ≤ self.new.spare + 1 }
     {
-        self.arena
-            .put_text_into(taken_text(text), Ref::Fixed(parent));
+        let text = mem::replace(text, Text::new());
+        self.arena.put_text_into(text, Ref::Fixed(parent));
     }
 
     /// Puts an element last into another.
@@ -230,46 +241,11 @@ impl<'p> Tree<'p> {
         ensures spare { self.old.spare ≤ self.new.spare + room_of edit.old }
     {
         edit.tell();
-        self.apply(taken_edit(edit));
-    }
-}
-
-/// Moves a tag out, and leaves some other one.
-fn taken_tag(tag: &mut Tag) -> Tag
-    ensures { result ≡ tag.old }
-{
-    let other = Tag {
-        namespace: Namespace::Html,
-        name: Name::of_known(Known::HTML),
-        attributes: Chain::new(),
-    };
-    mem::replace(tag, other)
-}
-
-/// Moves a text out, and leaves some other one.
-fn taken_text<'p>(text: &mut Text<'p>) -> Text<'p>
-    ensures { result ≡ text.old }
-{
-    mem::replace(text, Text::new())
-}
-
-/// Moves a child out, and leaves some other one.
-fn taken_child<'p>(child: &mut Child<'p>) -> Child<'p>
-    ensures { result ≡ child.old }
-{
-    mem::replace(child, Child::Element(Ref::Fixed(0)))
-}
-
-/// Moves an edit out, and leaves some other one.
-fn taken_edit<'p>(edit: &mut Edit<'p>) -> Edit<'p>
-    ensures { result ≡ edit.old }
-{
-    mem::replace(
-        edit,
-        Edit::Detach {
+        let other = Edit::Detach {
             node: Ref::Fixed(0),
-        },
-    )
+        };
+        self.apply(mem::replace(edit, other));
+    }
 }
 
 impl<'p> Tree<'p> {

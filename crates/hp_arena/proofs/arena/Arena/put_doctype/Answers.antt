@@ -19,8 +19,8 @@ invariant_of-self c =
     rw (c.node_at-at.ensures, c.deref.ensures.value, c.deref-2.ensures.value) at c.add_leaf.ensures.nodes in
     IsSound-leaf c.self.inside _ (Doctype c.len-number.result) c.self.invariant (subst (λ s. 0 < s.spare) (sym c.self.view_is) c.requires.room) (omega arith) refl refl (omega arith) (omega arith) (omega arith)
     c.add_leaf.ensures.nodes_len c.add_leaf.ensures.nodes_capacity c.add_leaf.ensures.leaves_len c.add_leaf.ensures.leaves_capacity
-    (omega (arith, c.push_within.ensures.len)) (omega (arith, c.push_within.ensures.len)) c.push_within.ensures.capacity c.add_leaf.ensures.leaves
-    (rw c.push_within.ensures.items (omega (arith, c.len-number.ensures, c.self.inside.doctypes.ok.0, length-append c.self.inside.doctypes.items (c.args.doctype ∷ []))))
+    (omega (arith, c.push_reserved.ensures.len)) (omega (arith, c.push_reserved.ensures.len)) (omega (arith, c.push_reserved.ensures.capacity)) c.add_leaf.ensures.leaves
+    (rw c.push_reserved.ensures.items (omega (arith, c.len-number.ensures, c.self.inside.doctypes.ok.0, length-append c.self.inside.doctypes.items (c.args.doctype ∷ []))))
     (omega (arith, c.self.invariant.room.cells)) c.self.invariant.room.cell
     (rw c.add_leaf.ensures.leaves (IsTree-added c.self.inside c.self.invariant c.args.place place_in c.add_leaf.new.nodes.items (doctype_item c.args.doctype) (λ id. refl) added (Doctype c.len-number.result)))
 
@@ -33,7 +33,7 @@ returns-clause-branches c =
     let own : leaf_item (c.self.inside.doctypes.items ++ c.args.doctype ∷ []) (Doctype c.len-number.result) ≡ doctype_item c.args.doctype =
     ap (λ n. leaf_item (c.self.inside.doctypes.items ++ c.args.doctype ∷ []) (Doctype n)) number
     ∙ ap doctype_item (get_or-append_seam c.self.inside.doctypes.items c.args.doctype [] no_doctype) in
-    rw (c.add_leaf.ensures.leaves, c.push_within.ensures.items)
+    rw (c.add_leaf.ensures.leaves, c.push_reserved.ensures.items)
     (ap (λ items. branches_of c.add_leaf.new.nodes.items c.self.inside.elements.items items)
     (leaf_items-push (c.self.inside.doctypes.items ++ c.args.doctype ∷ []) c.self.inside.leaves.items (Doctype c.len-number.result)
     ∙ ap (λ items. items ++ leaf_item (c.self.inside.doctypes.items ++ c.args.doctype ∷ []) (Doctype c.len-number.result) ∷ []) (leaf_items-more c.self.inside.doctypes.items (c.args.doctype ∷ []) c.self.inside.leaves.items c.self.invariant.doctypes)

@@ -6,4 +6,4 @@ use Rattle.hp_arena.proofs.RootItems.{roots-applied}
 use Rattle.hp_arena.proofs.tree.Tree.put_text.Goals as goal
 
 pub invariant_of-self : goal.invariant_of-self
-invariant_of-self c = rw (c.put_text_into.ensures.branches) (roots-applied c.self.inside.roots c.self.inside.arena.branches (Put (Text c.taken_text.result) (Into (Fixed c.args.parent))) c.self.invariant)
+invariant_of-self c = rw (c.put_text_into.ensures.branches) (roots-applied c.self.inside.roots c.self.inside.arena.branches (Put (Text c.replace-text.result) (Into (Fixed c.args.parent))) c.self.invariant)
