@@ -54,13 +54,6 @@ fn raw_text(name: &Name) -> Option<Rest>
     }
 }
 
-/// Whether the text of an element of that name is read in the mode text.
-fn is_text(name: &Name) -> bool
-    ensures { result ≡ spec_is_text name.now }
-{
-    raw_text(name).is_some() && !has_name(name, Known::PLAINTEXT)
-}
-
 /// The lexer in the state for the text of an element of that name.
 fn lex_for(alloc: Global, after_cr: bool, name: &Name) -> Result<LexState, NoMemory>
     ensures { IfOk result (λ lex. lex ≡ spec_lex_for after_cr name.now) }
@@ -83,7 +76,7 @@ fn modes_for(templates: &Stack<Mode>, stack: &OpenElements, name: &Name) -> (Mod
     ensures mode { result.0 ≡ (if spec_is_text name.now then modes.Text else reset_mode true templates.now stack.now) }
     ensures original { result.1 ≡ (if spec_is_text name.now then Some (reset_mode true templates.now (drop 1 stack.now)) else None) }
 {
-    if is_text(name) {
+    if raw_text(name).is_some() && !has_name(name, Known::PLAINTEXT) {
         let original = reset_from(true, templates, stack, 1);
         (Mode::Text, Some(original))
     } else {
