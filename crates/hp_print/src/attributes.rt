@@ -1,6 +1,6 @@
 //! The attributes of an element, in the order in which they are printed.
 
-ghost use Rattle.std.specs.Prelude.{◌≡◌, ◌+◌, ◌^◌, ◌++◌, ◌<◌, ◌≤◌, OnOk, IfOk, IfSome, IsTrue, length, vec_len, vec_capacity};
+ghost use Rattle.std.specs.Prelude.{◌≡◌, ◌+◌, ◌^◌, ◌++◌, ◌<◌, ◌≤◌, IfOk, IfSome, IsTrue, length, vec_len, vec_capacity};
 ghost use Rattle.std.specs.List.{insert};
 ghost use Rattle.std.specs.Str.{chars};
 ghost use Rattle.hp_print.specs.Order.{by_units, comes_before, in_order, placed, printed_name, space_word, weight, InOrder};
@@ -114,26 +114,17 @@ fn compare_fronts(name: &str, other: &str) -> Option<Ordering>
     }
 }
 
-/// How the printed names of two attributes compare, where their first letters tell.
-#[inline(always)]
-fn compare_plain(first: Shown<'_>, second: Shown<'_>) -> Option<Ordering>
-    ensures { IfSome result (λ order. order ≡ by_units (printed_name (attribute_of first.entry)) (printed_name (attribute_of second.entry))) }
-{
-    match (first.space, second.space) {
-        (AttributeSpace::Plain, AttributeSpace::Plain) => compare_fronts(first.name, second.name),
-        _ => None,
-    }
-}
-
-/// How the printed names of two attributes compare.
+/// How the printed names of two attributes compare: their first letters may tell.
 #[inline(always)]
 fn compare_names(first: Shown<'_>, second: Shown<'_>) -> Ordering
     ensures { result ≡ by_units (printed_name (attribute_of first.entry)) (printed_name (attribute_of second.entry)) }
 {
-    match compare_plain(first, second) {
-        Some(order) => order,
-        None => compare_whole(first, second),
+    if let (AttributeSpace::Plain, AttributeSpace::Plain) = (first.space, second.space) {
+        if let Some(order) = compare_fronts(first.name, second.name) {
+            return order;
+        }
     }
+    compare_whole(first, second)
 }
 
 /// The same by all their letters.
@@ -156,15 +147,6 @@ fn texts_of<'t>(alloc: Global, attributes: &'t Chain<Attribute>) -> Result<Vec<S
         shown.push(Shown::of(attribute))?;
     }
     Ok(shown)
-}
-
-/// Puts attributes into the order in which they are printed. Up to 20 take no memory for it.
-#[inline(never)]
-fn sort(shown: &mut Vec<Shown<'_>>) -> Result<(), NoMemory>
-    ensures { OnOk result (attributes_of shown.new.items ≡ in_order (attributes_of shown.old.items)) }
-{
-    shown.sort_by(|first, second| compare_names(*first, *second))?;
-    Ok(())
 }
 
 /// Whether an attribute doesn't come before the one that it follows, if any.
@@ -267,7 +249,7 @@ fn sorted<'t>(alloc: Global, attributes: &'t Chain<Attribute>) -> Result<Vec<Sho
     ensures { IfOk result (λ sorted. attributes_of sorted.items ≡ in_order attributes.now) }
 {
     let mut sorted = texts_of(alloc, attributes)?;
-    sort(&mut sorted)?;
+    sorted.sort_by(|first, second| compare_names(*first, *second))?;
     Ok(sorted)
 }
 

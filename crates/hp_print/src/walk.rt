@@ -1,6 +1,6 @@
 //! The walk over the tree, with a stack of its own.
 
-ghost use Rattle.std.specs.Prelude.{◌≡◌, ◌+◌, ◌<◌, ◌≤◌, ◌++◌, ◌∷◌, [], Err, IfOk, OnOk, length, drop, vec_len, vec_capacity};
+ghost use Rattle.std.specs.Prelude.{◌≡◌, ◌+◌, ◌<◌, ◌≤◌, [], Err, IfOk, OnOk, length, drop, vec_len, vec_capacity};
 ghost use Rattle.std.specs.Io.KnownBytes.{append_known};
 ghost use Rattle.hp_text.specs.Device.{Rose};
 ghost use Rattle.hp_arena.specs.Readers.{parent_of, place_of, HasTag};
@@ -64,7 +64,8 @@ pub fn write_tree<K: Sink>(alloc: Global, tree: &Tree<'_>, sink: &mut K) -> Resu
     if tree.summed_levels() > ABSURD {
         return Err(Refusal::NoMemory);
     }
-    let Ok(mut stack) = marks(alloc, tree) else {
+    // A stack that is deep enough for the tree.
+    let Ok(mut stack) = Vec::with_capacity(alloc, tree.len() as usize) else {
         return Err(Refusal::NoMemory);
     };
     let Ok(mut list) = attribute_list(alloc, tree) else {
@@ -79,15 +80,6 @@ pub fn write_tree<K: Sink>(alloc: Global, tree: &Tree<'_>, sink: &mut K) -> Resu
     } else {
         Err(Refusal::Fault)
     }
-}
-
-/// Memory for a stack that is deep enough for the tree.
-fn marks(alloc: Global, tree: &Tree<'_>) -> Result<Vec<Mark>, NoMemory>
-    ensures items { IfOk result (λ stack. stack.items ≡ []) }
-    ensures room { IfOk result (λ stack. length tree.now.branches ≤ vec_capacity stack) }
-{
-    let stack = Vec::with_capacity(alloc, tree.len() as usize)?;
-    Ok(stack)
 }
 
 /// Memory for the attributes of any element of the tree.
@@ -140,20 +132,6 @@ fn step<'t, 'p>(tree: &'t Tree<'p>, stack: &mut Vec<Mark>, mark: Mark) -> NodeVi
     view
 }
 
-/// Puts a mark on the stack.
-#[inline]
-fn push(stack: &mut Vec<Mark>, mark: Mark)
-    requires { vec_len stack.old < vec_capacity stack.old }
-    ensures items { stack.new.items ≡ stack.old.items ++ mark ∷ [] }
-    ensures len { vec_len stack.new ≡ vec_len stack.old + 1 }
-    ensures capacity { vec_capacity stack.old ≤ vec_capacity stack.new }
-{
-    match stack.push(mark) {
-        Ok(()) => {}
-        Err(_) => unreachable!(),
-    }
-}
-
 /// Marks the item after the one at a mark, if there is one.
 #[inline]
 fn push_next(tree: &Tree<'_>, stack: &mut Vec<Mark>, mark: Mark)
@@ -166,14 +144,11 @@ fn push_next(tree: &Tree<'_>, stack: &mut Vec<Mark>, mark: Mark)
 {
     let _elements = tree.len();
     if let Some(at) = tree.next_sibling(mark.at) {
-        push(
-            stack,
-            Mark {
-                at,
-                level: mark.level,
-                templates: mark.templates,
-            },
-        );
+        stack.push_reserved(Mark {
+            at,
+            level: mark.level,
+            templates: mark.templates,
+        });
     }
 }
 
@@ -190,13 +165,10 @@ fn push_first(tree: &Tree<'_>, stack: &mut Vec<Mark>, id: u32, level: u32, templ
 {
     let _elements = tree.len();
     if let Some(at) = tree.first_inside(id) {
-        push(
-            stack,
-            Mark {
-                at,
-                level,
-                templates,
-            },
-        );
+        stack.push_reserved(Mark {
+            at,
+            level,
+            templates,
+        });
     }
 }

@@ -19,7 +19,7 @@ returns-in-Some-clause-pushed c =
     let place = in-place t p k c.in-Some.at next in
     let left : rest t.branches m ≡ drop ((place_of mark.at) + 1) (branch t.branches (parent_of mark.at)).inside = rw (place.0, place.1) refl in
     let high : length c.args.stack.now.items ≤ m.level = omega (arith, c.requires.rising, c.args.stack.now.ok.0) in
-    rw c.push.ensures.items
+    rw c.push_reserved.ensures.items
     (pushed_some t c.args.stack.now.items m mark.level mark.templates (drop ((place_of mark.at) + 1) (branch t.branches (parent_of mark.at)).inside)
     (record { at = in-own t p k c.in-Some.at next; deep = rw place.0 c.requires.mark.deep; templates = c.requires.mark.templates }) high refl refl left)
 
@@ -33,8 +33,8 @@ returns-in_default-clause-pushed c =
 pub next_sibling-requires : goal.next_sibling-requires
 next_sibling-requires c = in-there c.args.tree.now (parent_of c.args.mark.at) (place_of c.args.mark.at) c.args.mark.at c.requires.mark.at
 
-pub push-requires : goal.push-requires
-push-requires c =
+pub push_reserved-requires : goal.push_reserved-requires
+push_reserved-requires c =
     let t = c.args.tree.now.branches in
     let below : c.args.mark.level < length t = deep-room t c.len-elements.ensures.forest c.args.mark.level (parent_of c.args.mark.at) c.requires.mark.deep in
     omega (arith, c.requires.rising, c.requires.room)
