@@ -158,50 +158,6 @@ pub(crate) fn next_plain<'p>(
     }
 }
 
-/// The end of input in text, tags and character references.
-fn end_in_tags(
-    alloc: Global,
-    state: &mut LexState,
-    names: &Names,
-    tokens: &mut Tokens<'static>,
-) -> Result<Turn, NoMemory>
-    requires here { IsTrue (tags.is_here state.old.machine.state) }
-    requires held { held state.old ≤ 2 ^ 32 }
-    ensures { IfOk result (λ turn. (rested : ℕ) → EndTurned (table names.now) tags.is_here (lexing state.old end_of_text rested) tokens.old state.new tokens.new turn) }
-{
-    hp_lex_tags::at_end(alloc, state, names, tokens)
-}
-
-/// The end of input in raw text and script data.
-fn end_in_raw(
-    alloc: Global,
-    state: &mut LexState,
-    names: &Names,
-    tokens: &mut Tokens<'static>,
-) -> Result<Turn, NoMemory>
-    requires here { IsTrue (raw.is_here state.old.machine.state) }
-    requires held { held state.old ≤ 2 ^ 32 }
-    ensures { IfOk result (λ turn. (rested : ℕ) → EndTurned (table names.now) raw.is_here (lexing state.old end_of_text rested) tokens.old state.new tokens.new turn) }
-{
-    let _ = names;
-    hp_lex_raw::at_end(alloc, state, tokens)
-}
-
-/// The end of input in markup declarations, comments, doctypes and CDATA sections.
-fn end_in_markup(
-    alloc: Global,
-    state: &mut LexState,
-    names: &Names,
-    tokens: &mut Tokens<'static>,
-) -> Result<Turn, NoMemory>
-    requires here { IsTrue (markup_rows.is_here state.old.machine.state) }
-    requires held { held state.old ≤ 2 ^ 32 }
-    ensures { IfOk result (λ turn. (rested : ℕ) → EndTurned (table names.now) markup_rows.is_here (lexing state.old end_of_text rested) tokens.old state.new tokens.new turn) }
-{
-    let _ = names;
-    hp_lex_markup::at_end(alloc, state, tokens)
-}
-
 /// Makes the moves of the end of input in the part of the table that the state is in, and appends what they emit.
 fn make_end_moves(
     alloc: Global,
@@ -213,12 +169,12 @@ fn make_end_moves(
     ensures { IfOk result (λ turn. (rested : ℕ) → EndTurned (table names.now) (part_of state.old.machine.state) (lexing state.old end_of_text rested) tokens.old state.new tokens.new turn) }
 {
     if hp_lex_tags::is_here(state.machine.state) {
-        return end_in_tags(alloc, state, names, tokens);
+        return hp_lex_tags::at_end(alloc, state, names, tokens);
     }
     if hp_lex_raw::is_here(state.machine.state) {
-        return end_in_raw(alloc, state, names, tokens);
+        return hp_lex_raw::at_end(alloc, state, tokens);
     }
-    end_in_markup(alloc, state, names, tokens)
+    hp_lex_markup::at_end(alloc, state, tokens)
 }
 
 /// Makes the moves of the end of input, in one part of the table after the other: the tokens that they emit, `EndOfInput` last.
