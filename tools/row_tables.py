@@ -199,12 +199,10 @@ def main(crate, what):
             print()
             print('pub(crate) static %s: [u8; %d] = [%s];' % (name.upper(), len(every), ', '.join(map(str, numbers))))
         else:
-            print('        // %s' % name.replace('_', ' '))
-            for number, (_, plan) in enumerate(rows[name]):
-                print('        %d => &[%s],' % (first + number, ', '.join(rust_act(act) for act in flat(plan))))
+            print('    // %s, from %d' % (name.replace('_', ' '), first))
+            for _, plan in rows[name]:
+                print('    &[%s],' % ', '.join(rust_act(act) for act in flat(plan)))
         first += len(rows[name])
-    if what == 'acts':
-        print('        %d.. => &[],' % first)
 
 
 if __name__ == '__main__':

@@ -1,4 +1,7 @@
 //! The acts of the rules, and what they test.
+
+ghost use Rattle.std.specs.Prelude.{◌≡◌, [], map, slice_index_or};
+
 use crate::known::Known;
 use crate::sets::SetName;
 use crate::token::{Mode, Rest};
@@ -151,4 +154,14 @@ pub enum Act {
     EmptyPending,
     AppendPending,
     Flush,
+}
+
+/// The acts of the row of that number in a table of rows, and none past its end.
+pub fn acts_in(rows: &[&'static [Act]], row: u16) -> &'static [Act]
+    ensures { result.now ≡ slice_index_or (map (λ acts. acts.now) rows.now) row [] }
+{
+    match rows.get(usize::from(row)) {
+        Some(acts) => acts,
+        None => &[],
+    }
 }

@@ -24,7 +24,7 @@ mod tag;
 mod text;
 mod token;
 
-pub use act::{Act, Scope, Test, Which};
+pub use act::{Act, Scope, Test, Which, acts_in};
 pub use attribute_name::AttributeName;
 pub use chain::{Chain, ChainIter};
 pub use duplicate::Duplicate;

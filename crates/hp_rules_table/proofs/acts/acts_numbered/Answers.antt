@@ -1,11 +1,5 @@
-use Rattle.std.proofs.Common.{◌≤◌, [], map, sym, arith}
-use Rattle.std.proofs.lemmas.List.{get_or_past}
-use Rattle.hp_elements.specs.Rules.{acts_of}
-use Rattle.hp_rules_table.specs.Table.{all_rows}
+-- the table's rows are the rows of specs/, flat
 use Rattle.hp_rules_table.proofs.acts.acts_numbered.Goals as goal
 
--- past the last row there are no acts
-pub returns-in-50-to-65535 : goal.returns-in-50-to-65535
-returns-in-50-to-65535 c =
-    let past : 50 ≤ c.args.row = omega arith in
-    sym (get_or_past (map acts_of all_rows) c.args.row [] past)
+pub returns : goal.returns
+returns c = c.acts_in.ensures
