@@ -8,5 +8,4 @@ pub mod NothingLemmas
 pub mod TextTests
 pub mod StartLemmas
 pub mod OlderLemmas
-pub mod PartLemmas
 mod Setting

@@ -8,12 +8,10 @@ pub record AreListsOf (s t : ControlState) : Type 0 where
   pub templates : s.templates ≡ t.templates
   pub pending : s.pending ≡ t.pending
 
-pub record AreModesOf (s t : ControlState) : Type 0 where
+pub record AreFactsOf (s t : ControlState) : Type 0 where
   pub mode : s.mode ≡ t.mode
   pub original : s.original ≡ t.original
   pub next : s.next ≡ t.next
-
-pub record AreFactsOf (s t : ControlState) : Type 0 where
   pub head : s.head ≡ t.head
   pub form : s.form ≡ t.form
   pub frameset_ok : s.frameset_ok ≡ t.frameset_ok

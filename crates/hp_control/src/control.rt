@@ -50,14 +50,19 @@ impl Model for Control {
 
 impl Control {
     ghost use Rattle.hp_control.specs.States.{IsValid, Fits, start};
-    ghost use Rattle.hp_control.specs.Parts.{AreListsOf, AreModesOf, AreFactsOf};
+    ghost use Rattle.hp_control.specs.Parts.{AreListsOf, AreFactsOf};
 
     /// The state before the first token: no element was made, and the lexer is in the data state.
     pub fn start() -> Control
         ensures { result ≡ start }
     {
+        let LexState { machine, ahead } = LexState::at_rest(Rest::Data, false);
+        let machine = Machine {
+            last_tag: Some(OwnedText::new()),
+            ..machine
+        };
         Control {
-            lex: lex_start(),
+            lex: LexState { machine, ahead },
             mode: Mode::Initial,
             original: None,
             templates: Stack::new(),
@@ -107,10 +112,7 @@ impl Control {
     pub fn same(&self, other: &Control) -> bool
         ensures { IsTrue result ↔ (self.now ≡ other.now) }
     {
-        self.lex.same(&other.lex)
-            && self.has_lists_of(other)
-            && self.has_modes_of(other)
-            && self.has_facts_of(other)
+        self.lex.same(&other.lex) && self.has_lists_of(other) && self.has_facts_of(other)
     }
 
     fn has_lists_of(&self, other: &Control) -> bool
@@ -122,18 +124,13 @@ impl Control {
             && self.pending.same(&other.pending)
     }
 
-    fn has_modes_of(&self, other: &Control) -> bool
-        ensures { IsTrue result ↔ AreModesOf self.now other.now }
+    fn has_facts_of(&self, other: &Control) -> bool
+        ensures { IsTrue result ↔ AreFactsOf self.now other.now }
     {
         self.mode == other.mode
             && same_original(self.original, other.original)
             && self.next == other.next
-    }
-
-    fn has_facts_of(&self, other: &Control) -> bool
-        ensures { IsTrue result ↔ AreFactsOf self.now other.now }
-    {
-        self.head == other.head
+            && self.head == other.head
             && self.form == other.form
             && self.frameset_ok == other.frameset_ok
             && self.quirks == other.quirks
@@ -152,21 +149,5 @@ impl Control {
         ensures { IsTrue result ↔ Fits self.now }
     {
         self.next < 1 << 60 && self.formatting.len() <= 1 << 26
-    }
-}
-
-ghost use Rattle.hp_control.specs.States.{lex_start};
-
-/// The lexer in the data state, before the first start tag.
-fn lex_start() -> LexState
-    ensures { result ≡ lex_start }
-{
-    let LexState { machine, ahead } = LexState::at_rest(Rest::Data, false);
-    LexState {
-        machine: Machine {
-            last_tag: Some(OwnedText::new()),
-            ..machine
-        },
-        ahead,
     }
 }

@@ -74,20 +74,6 @@ pub(crate) struct Lists {
     pub(crate) formatting: Stack<FormattingEntry>,
 }
 
-/// Copies the lists of a state onto lists without items. At an `Err` those are spent.
-fn copy_onto(alloc: Global, control: &Control, lists: &mut Lists) -> Result<(), NoMemory>
-    requires templates { lists.old.templates ≡ [] }
-    requires stack { lists.old.stack ≡ [] }
-    requires formatting { lists.old.formatting ≡ [] }
-    ensures templates { IfOk result (λ _. lists.new.templates ≡ control.now.templates) }
-    ensures stack { IfOk result (λ _. lists.new.stack ≡ control.now.stack) }
-    ensures formatting { IfOk result (λ _. lists.new.formatting ≡ control.now.formatting) }
-{
-    copy_modes(alloc, &control.templates, &mut lists.templates)?;
-    copy_stack(alloc, &control.stack, &mut lists.stack)?;
-    copy_list(alloc, &control.formatting, &mut lists.formatting)
-}
-
 /// The lists of a state once more.
 pub(crate) fn copy_lists(alloc: Global, control: &Control) -> Result<Lists, NoMemory>
     ensures templates { IfOk result (λ lists. lists.templates ≡ control.now.templates) }
@@ -99,6 +85,8 @@ pub(crate) fn copy_lists(alloc: Global, control: &Control) -> Result<Lists, NoMe
         stack: OpenElements::new(),
         formatting: Stack::new(),
     };
-    copy_onto(alloc, control, &mut lists)?;
+    copy_modes(alloc, &control.templates, &mut lists.templates)?;
+    copy_stack(alloc, &control.stack, &mut lists.stack)?;
+    copy_list(alloc, &control.formatting, &mut lists.formatting)?;
     Ok(lists)
 }

@@ -146,9 +146,23 @@ impl<'p> Edits<'p> {
             lose(tag);
             return Err(AllocError);
         };
-        add_element(alloc, &mut self.items, tag, node, place)?;
-        self.room = room;
-        Ok(())
+        begin(alloc, &mut self.items);
+        let Some(items) = &mut self.items else {
+            unreachable!();
+        };
+        match items.reserve(2) {
+            Ok(()) => {
+                items.push_reserved(Edit::NewElement { tag });
+                let child = Child::Element(node);
+                items.push_reserved(Edit::Put { child, place });
+                self.room = room;
+                Ok(())
+            }
+            Err(failed) => {
+                lose(tag);
+                Err(failed)
+            }
+        }
     }
 
     pub fn len(&self) -> usize
@@ -196,36 +210,6 @@ impl<'p> Edits<'p> {
             mem::swap(items, taken);
         }
         self.room = 0;
-    }
-}
-
-/// An element more, put into a place. At an `Err` the edits are as before.
-#[inline(always)]
-fn add_element<'p>(
-    alloc: Global,
-    edits: &mut Option<Vec<Edit<'p>>>,
-    tag: Tag,
-    node: Ref,
-    place: Place,
-) -> Result<(), AllocError>
-    ensures ok { OnOk result (held edits.new ≡ (held edits.old ++ NewElement tag ∷ []) ++ Put (Element node) place ∷ []) }
-    ensures err { OnErr result (held edits.new ≡ held edits.old) }
-{
-    begin(alloc, edits);
-    match edits {
-        Some(items) => match items.reserve(2) {
-            Ok(()) => {
-                items.push_reserved(Edit::NewElement { tag });
-                let child = Child::Element(node);
-                items.push_reserved(Edit::Put { child, place });
-                Ok(())
-            }
-            Err(failed) => {
-                lose(tag);
-                Err(failed)
-            }
-        },
-        None => unreachable!(),
     }
 }
 

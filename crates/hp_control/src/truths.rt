@@ -202,12 +202,6 @@ fn is_entry(
     }
 }
 
-fn same_flags(after_cr: bool, other_cr: bool, skip_lf: bool, other_lf: bool) -> bool
-    ensures { IsTrue result ↔ ((after_cr ≡ other_cr) × (skip_lf ≡ other_lf)) }
-{
-    after_cr == other_cr && skip_lf == other_lf
-}
-
 fn same_modes(mode: Mode, other: Mode, original: Option<Mode>, other_original: Option<Mode>) -> bool
     ensures { IsTrue result ↔ ((mode ≡ other) × (original ≡ other_original)) }
 {
@@ -233,8 +227,9 @@ fn is_resting(
             skip_lf: said_lf,
         } => {
             *said_rest == rest
-                && same_flags(*said_cr, after_cr, *said_lf, skip_lf)
                 && same_modes(*said_mode, mode, *said_original, original)
+                && *said_cr == after_cr
+                && *said_lf == skip_lf
         }
         _ => false,
     }
