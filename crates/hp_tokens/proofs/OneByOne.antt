@@ -1,5 +1,6 @@
 -- Step after step.
 use Rattle.std.proofs.Common.{◌≡◌, ℕ, ◌≤◌, ◌^◌, List, [], ◌∷◌, ◌++◌, Bool, true, false, ◌||◌, refl, ap, ◌∙◌, sym, subst, append-nil, append_assoc}
+use Rattle.std.specs.Prelude.{if◌then◌else◌}
 use Rattle.std.proofs.lemmas.Grind.{flat_map-append}
 use Rattle.hp_elements.specs.declared.token.Token.{Token}
 use Rattle.hp_tokens.specs.declared.lexing.LexState.{LexState}
@@ -7,10 +8,11 @@ use Rattle.hp_tokens.specs.Reading.{Unread}
 use Rattle.hp_tokens.specs.States.{is_resting}
 use Rattle.hp_tokens.specs.declared.state.State.{State}
 use Rattle.hp_tokens.specs.declared.rows.Step.TheVariants as steps
+use Rattle.hp_tokens.specs.declared.rows.Turn.{Turn}
 use Rattle.hp_tokens.specs.declared.rows.Turn.TheVariants as turns
 use Rattle.hp_tokens.specs.Moves.{Lexing, Emitted, Move, Rules, move, needs_more, asks_cdata, asks_last_tag, makes, end_move, ends}
 use Rattle.hp_tokens.specs.Runs.{Leads, here, onward, Waits}
-use Rattle.hp_tokens.specs.Advancing.{place_of, lexing, single, singles, tokens_of, Began, AreRuns, Appends, Says, Goes, Advances, held, end_of_text, AlongEnd, Ends, Leaves, Steps, Turned, at_rest}
+use Rattle.hp_tokens.specs.Advancing.{place_of, lexing, single, singles, tokens_of, Began, AreRuns, Appends, Says, Goes, Advances, held, end_of_text, AlongEnd, Ends, Leaves, Stepped, Steps, Turned, at_rest, without_move, elsewhere}
 use Rattle.hp_tokens.proofs.Pieces.{Leads-join}
 
 tokens_of-append : (xs ys : List Emitted) → tokens_of (xs ++ ys) ≡ tokens_of xs ++ tokens_of ys
@@ -124,6 +126,48 @@ asking_waits rules l foreign html h = record { no_move = λ m es e. let x : asks
 
 naming_waits : (rules : Rules) (l : Lexing) → move rules l ≡ asks_last_tag → Waits (move rules) l
 naming_waits rules l h = record { no_move = λ m es e. let x : asks_last_tag ≡ makes m es = sym h ∙ e in cc }
+
+-- no step is made: something was appended, or what the step says is answered
+stopped : (rules : Rules) (own : State → Bool) (old new : Lexing) (old_tokens new_tokens : List Token) (rested : ℕ) (emitted : Bool) (answer turn : Turn)
+    → answer ≡ (if emitted then turns.Emitted else turn) → Advances rules old old_tokens new new_tokens rested emitted → Waits (move rules) new
+    → (Advances rules old old_tokens new new_tokens rested false → Turned rules own old old_tokens new new_tokens rested turn)
+    → Turned rules own old old_tokens new new_tokens rested answer
+stopped rules own old new old_tokens new_tokens rested true answer turn is a w t =
+    let P : Turn → Type 0 = λ x. Turned rules own old old_tokens new new_tokens rested x in subst P (sym is) (a, without_move w)
+stopped rules own old new old_tokens new_tokens rested false answer turn is a w t =
+    let P : Turn → Type 0 = λ x. Turned rules own old old_tokens new new_tokens rested x in subst P (sym is) (t a)
+
+module _ (rules : Rules) (own : State → Bool) (old mid new : Lexing) (old_tokens mid_tokens new_tokens : List Token) (rested : ℕ) (emitted : Bool) (answer : Turn)
+    (a : Advances rules old old_tokens mid mid_tokens rested emitted) where
+  pub needing : answer ≡ (if emitted then turns.Emitted else turns.NeedsMore) → Stepped (move rules) mid mid_tokens new new_tokens steps.NeedsMore
+      → Turned rules own old old_tokens new new_tokens rested answer
+  needing is s =
+      let same : move rules new ≡ needs_more = same_move rules mid new needs_more s.1 s.0 in
+      stopped rules own old new old_tokens new_tokens rested emitted answer turns.NeedsMore is
+      (stayed rules old mid new old_tokens mid_tokens new_tokens rested emitted emitted a s.1 s.2 refl) (needing_waits rules new same) (λ b. (b, same))
+
+  pub asking : answer ≡ (if emitted then turns.Emitted else turns.AskCdata) → Stepped (move rules) mid mid_tokens new new_tokens steps.AskCdata
+      → Turned rules own old old_tokens new new_tokens rested answer
+  asking is s =
+      let same : move rules new ≡ asks_cdata s.0.0 s.0.1 = same_move rules mid new (asks_cdata s.0.0 s.0.1) s.1 s.0.2 in
+      stopped rules own old new old_tokens new_tokens rested emitted answer turns.AskCdata is
+      (stayed rules old mid new old_tokens mid_tokens new_tokens rested emitted emitted a s.1 s.2 refl) (asking_waits rules new s.0.0 s.0.1 same) (λ b. (b, (s.0.0, s.0.1, same)))
+
+  pub naming : answer ≡ (if emitted then turns.Emitted else turns.AskLastTag) → Stepped (move rules) mid mid_tokens new new_tokens steps.AskLastTag
+      → Turned rules own old old_tokens new new_tokens rested answer
+  naming is s =
+      let same : move rules new ≡ asks_last_tag = same_move rules mid new asks_last_tag s.1 s.0 in
+      stopped rules own old new old_tokens new_tokens rested emitted answer turns.AskLastTag is
+      (stayed rules old mid new old_tokens mid_tokens new_tokens rested emitted emitted a s.1 s.2 refl) (naming_waits rules new same) (λ b. (b, same))
+
+-- the state belongs to another crate
+pub left_here : (rules : Rules) (own : State → Bool) (old new : Lexing) (old_tokens new_tokens : List Token) (rested : ℕ) (emitted : Bool) (answer : Turn)
+    → answer ≡ (if emitted then turns.Emitted else turns.Moved) → Advances rules old old_tokens new new_tokens rested emitted → own new.machine.state ≡ false
+    → Turned rules own old old_tokens new new_tokens rested answer
+left_here rules own old new old_tokens new_tokens rested true answer is a there =
+    let P : Turn → Type 0 = λ x. Turned rules own old old_tokens new new_tokens rested x in subst P (sym is) (a, elsewhere there)
+left_here rules own old new old_tokens new_tokens rested false answer is a there =
+    let P : Turn → Type 0 = λ x. Turned rules own old old_tokens new new_tokens rested x in subst P (sym is) (a, there)
 
 -- what is kept as the last rest
 resettle : (s : LexState) (input : Unread) (r : ℕ) → lexing s input r ≡ lexing s input (lexing s input r).rested

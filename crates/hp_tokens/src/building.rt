@@ -142,7 +142,6 @@ impl Building {
 }
 
 ghost use Rattle.std.specs.Str.{chars};
-ghost use Rattle.hp_elements.specs.declared.tag.AttributeSpace.TheVariants as spaces;
 ghost use Rattle.hp_tokens.specs.Parts.{put_in_tag, appended, added, has_name};
 
 fn put_tag(alloc: Global, tag: &mut NewTag, part: Part, text: &str) -> Result<(), NoMemory>
@@ -188,23 +187,16 @@ pub(crate) fn finish(
     match attribute {
         None => Ok(()),
         Some(attribute) => {
-            let finished = finished_attribute(alloc, attribute)?;
+            let value = attribute.value.into_text(alloc)?;
+            let name = Name::from_text(alloc, attribute.name.as_str())?;
+            let finished = Attribute {
+                space: AttributeSpace::Plain,
+                name,
+                value,
+            };
             add(alloc, attributes, finished)
         }
     }
-}
-
-/// The attribute that was built.
-fn finished_attribute(alloc: Global, attribute: NewAttribute) -> Result<Attribute, NoMemory>
-    ensures { IfOk result (λ finished. finished ≡ record { space = spaces.Plain; name = attribute.name; value = attribute.value }) }
-{
-    let value = attribute.value.into_text(alloc)?;
-    let name = Name::from_text(alloc, attribute.name.as_str())?;
-    Ok(Attribute {
-        space: AttributeSpace::Plain,
-        name,
-        value,
-    })
 }
 
 fn copied_tag(alloc: Global, tag: &NewTag) -> Result<NewTag, NoMemory>

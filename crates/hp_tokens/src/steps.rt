@@ -206,7 +206,7 @@ pub fn advance<'p, L: Lexes>(
     }
     'moves: while L::is_here(state.machine.state) {
         match lexer.step(alloc, state, input, tokens)? {
-            Step::Made { emitted: now } => emitted = emitted || now,
+            Step::Made { emitted: now } => emitted |= now,
             Step::NeedsMore => return Ok(turned(emitted, Turn::NeedsMore)),
             Step::AskCdata => return Ok(turned(emitted, Turn::AskCdata)),
             Step::AskLastTag => return Ok(turned(emitted, Turn::AskLastTag)),

@@ -3,26 +3,12 @@ use Rattle.hp_tokens.specs.States.{is_resting}
 use Rattle.hp_tokens.specs.Moves.{Lexing, move}
 use Rattle.hp_tokens.specs.Advancing.{lexing, Stepped, Goes, Advances, Along, place_of, at_rest}
 use Rattle.hp_tokens.specs.declared.rows.Step.{Step}
-use Rattle.hp_tokens.proofs.OneByOne.{none_yet, one_more, rests, settled_at_rest, settled_elsewhere, moved_on}
+use Rattle.hp_tokens.proofs.OneByOne.{none_yet, one_more, rests, settled_at_rest, settled_elsewhere, moved_on, needing, asking, naming, left_here}
 use Rattle.hp_tokens.proofs.steps.advance.Given.{Over}
 use Rattle.hp_tokens.proofs.steps.advance.Goals as goal
-use Rattle.hp_tokens.proofs.steps.advance.Goals.{then-is_resting, else-is_resting, then-emitted, else-emitted, Joined-emitted}
+use Rattle.hp_tokens.proofs.steps.advance.Goals.{then-is_resting, else-is_resting, In-Made}
 
-either_flag : (a b e : Bool) → a ≡ true → e ≡ a → (a || b) ≡ e
-either_flag true b e h k = sym k
-either_flag false b e h k = cc
-
-second_flag : (a b e : Bool) → a ≡ false → e ≡ b → (a || b) ≡ e
-second_flag true b e h k = cc
-second_flag false b e h k = sym k
-
-flag : (g : Over) (c : Joined-emitted g) → (c.moves.emitted || c.in-Made.now) ≡ c.if-emitted.emitted
-flag g c = elim c.if-emitted.branch [
-  | then-emitted w ↦ either_flag c.moves.emitted c.in-Made.now _ w.if-emitted.true w.emitted-is
-  | else-emitted w ↦ second_flag c.moves.emitted c.in-Made.now _ w.if-emitted.false w.emitted-is
-]
-
-gone : (g : Over) (c : Joined-emitted g)
+gone : (g : Over) (c : In-Made g)
     → Goes (move (g.L.Lexes.rules c.args.lexer.now)) (lexing c.moves.state c.moves.input c.moves.rested) c.moves.tokens
     (lexing c.step.new.state c.step.new.input c.moves.rested) c.step.new.tokens c.in-Made.now
 gone g c =
@@ -30,13 +16,13 @@ gone g c =
     (lexing c.step.new.state c.step.new.input c.moves.rested) c.step.new.tokens s in
     subst P c.in-Made.is (c.in_ok-now.ensures.step c.moves.rested c.moves.invariant.settled)
 
-further : (g : Over) (c : Joined-emitted g) (emitted : Bool) → c.if-emitted.emitted ≡ emitted
+further : (g : Over) (c : In-Made g) (emitted : Bool) → (c.moves.emitted || c.in-Made.now) ≡ emitted
     → Advances (g.L.Lexes.rules c.args.lexer.now) (lexing c.args.state.now c.args.input.now c.args.rested.now) c.args.tokens.now
     (lexing c.step.new.state c.step.new.input c.moves.rested) c.step.new.tokens c.moves.rested emitted
 further g c emitted is =
     let P : Bool → Type 0 = λ e. Advances (g.L.Lexes.rules c.args.lexer.now) (lexing c.args.state.now c.args.input.now c.args.rested.now) c.args.tokens.now
     (lexing c.step.new.state c.step.new.input c.moves.rested) c.step.new.tokens c.moves.rested e in
-    subst P (flag g c ∙ is)
+    subst P is
     (one_more (g.L.Lexes.rules c.args.lexer.now) _ _ _ _ _ _ c.moves.rested c.moves.emitted c.in-Made.now c.moves.invariant.advances (gone g c) c.moves.invariant.settled)
 
 pub moves-init : goal.moves-init
@@ -61,9 +47,9 @@ moves-init g c = elim c.if-is_resting.branch [
       }
 ]
 
-pub returns-then-emitted-2-clause-turn : goal.returns-then-emitted-2-clause-turn
-returns-then-emitted-2-clause-turn g c = (
-  further g (goal.at.returns-then-emitted-2-clause-turn g c).Joined-emitted true c.if-emitted-2.true,
+pub returns-then-emitted-clause-turn : goal.returns-then-emitted-clause-turn
+returns-then-emitted-clause-turn g c = (
+  further g (goal.at.returns-then-emitted-clause-turn g c).In-Made true c.if-emitted.true,
   at_rest (sym c.is_resting-in-moves.ensures ∙ c.if-is_resting-2.true),
 )
 
@@ -74,12 +60,12 @@ moves-preserved-then-is_resting-2 g c =
     let P : ℕ → Type 0 = λ r. r ≡ (lexing c.step.new.state c.step.new.input r).rested in
     let R : Bool → Type 0 = λ e. Along (g.L.Lexes.rules c.args.lexer.now) c.args.state.now c.args.input.now c.args.rested.now c.args.tokens.now
     c.step.new.state c.step.new.input c.place-then-is_resting-2.result c.step.new.tokens e in
-    subst R (sym c.if-emitted-2.false) record {
+    subst R (sym c.if-emitted.false) record {
       held = c.in_ok-now.ensures.held;
       settled = subst P (sym at) (settled_at_rest c.step.new.state c.step.new.input here);
       advances =
           moved_on (g.L.Lexes.rules c.args.lexer.now) _ _ c.step.new.state c.step.new.input c.step.new.tokens c.moves.rested _ here
-          (further g (goal.at.moves-preserved-then-is_resting-2 g c).Joined-emitted false c.if-emitted-2.false);
+          (further g (goal.at.moves-preserved-then-is_resting-2 g c).In-Made false c.if-emitted.false);
     }
 
 pub moves-preserved : goal.moves-preserved
@@ -88,5 +74,31 @@ moves-preserved g c =
     record {
       held = c.in_ok-now.ensures.held;
       settled = settled_elsewhere c.step.new.state c.step.new.input c.moves.rested there;
-      advances = further g (goal.at.moves-preserved g c).Joined-emitted _ refl;
+      advances = further g (goal.at.moves-preserved g c).In-Made _ refl;
     }
+
+pub returns-in-NeedsMore-clause-turn : goal.returns-in-NeedsMore-clause-turn
+returns-in-NeedsMore-clause-turn g c =
+    let P : Step → Type 0 = λ s. Stepped (move (g.L.Lexes.rules c.args.lexer.now)) (lexing c.moves.state c.moves.input c.moves.rested) c.moves.tokens
+    (lexing c.step.new.state c.step.new.input c.moves.rested) c.step.new.tokens s in
+    needing (g.L.Lexes.rules c.args.lexer.now) g.L.Lexes.here _ _ _ _ _ _ c.moves.rested c.moves.emitted _ c.moves.invariant.advances c.turned.ensures
+    (subst P c.in-NeedsMore.is (c.in_ok-now.ensures.step c.moves.rested c.moves.invariant.settled))
+
+pub returns-in-AskCdata-clause-turn : goal.returns-in-AskCdata-clause-turn
+returns-in-AskCdata-clause-turn g c =
+    let P : Step → Type 0 = λ s. Stepped (move (g.L.Lexes.rules c.args.lexer.now)) (lexing c.moves.state c.moves.input c.moves.rested) c.moves.tokens
+    (lexing c.step.new.state c.step.new.input c.moves.rested) c.step.new.tokens s in
+    asking (g.L.Lexes.rules c.args.lexer.now) g.L.Lexes.here _ _ _ _ _ _ c.moves.rested c.moves.emitted _ c.moves.invariant.advances c.turned-in-AskCdata.ensures
+    (subst P c.in-AskCdata.is (c.in_ok-now.ensures.step c.moves.rested c.moves.invariant.settled))
+
+pub returns-in-AskLastTag-clause-turn : goal.returns-in-AskLastTag-clause-turn
+returns-in-AskLastTag-clause-turn g c =
+    let P : Step → Type 0 = λ s. Stepped (move (g.L.Lexes.rules c.args.lexer.now)) (lexing c.moves.state c.moves.input c.moves.rested) c.moves.tokens
+    (lexing c.step.new.state c.step.new.input c.moves.rested) c.step.new.tokens s in
+    naming (g.L.Lexes.rules c.args.lexer.now) g.L.Lexes.here _ _ _ _ _ _ c.moves.rested c.moves.emitted _ c.moves.invariant.advances c.turned-in-AskLastTag.ensures
+    (subst P c.in-AskLastTag.is (c.in_ok-now.ensures.step c.moves.rested c.moves.invariant.settled))
+
+pub returns-clause-turn : goal.returns-clause-turn
+returns-clause-turn g c =
+    left_here (g.L.Lexes.rules c.args.lexer.now) g.L.Lexes.here _ _ _ _ c.moves.rested c.moves.emitted _ c.turned-2.ensures c.moves.invariant.advances
+    (sym c.is_here.ensures ∙ c.moves-test.false)
