@@ -1,6 +1,7 @@
 -- What a call that may fail leaves of a list.
-use Rattle.std.proofs.Common.{◌≡◌, ◌≤◌, ℕ, List, [], ◌∷◌, ◌++◌, length, cond, Result, Ok, Err, OnOk, OnErr, is_ok, get_or, ap, sym, ◌∙◌, arith}
+use Rattle.std.proofs.Common.{◌≡◌, ◌≤◌, ℕ, List, [], ◌∷◌, ◌++◌, length, cond, Result, Ok, Err, OnOk, OnErr, is_ok, get_or, ap, sym, subst, ◌∙◌, arith}
 use Rattle.std.specs.List.{insert}
+use Rattle.std.proofs.lemmas.List.Edits.{insert_end}
 
 -- the items are other ones at an `Ok`, and the same at an `Err`
 pub kept : {T R E : Type 0} (r : Result R E) (now more old : List T) → now ≡ cond (is_ok r) more old → OnOk r (now ≡ more) × OnErr r (now ≡ old)
@@ -30,3 +31,13 @@ pub put_last : {T R E : Type 0} (r : Result R E) (now items : List T) (at : ℕ)
 put_last r now items at first item ok err some within e =
     let place : at ≡ 1 = omega (arith, ap length e) in
     rw (place, e) (ok, err)
+
+-- what is put at the end stands behind the others
+pub put_at_end : {T R E : Type 0} (r : Result R E) (now items old : List T) (at : ℕ) (item : T) → items ≡ old → at ≡ length items → OnOk r (now ≡ insert items at item) → OnErr r (now ≡ items)
+    → OnOk r (now ≡ old ++ item ∷ []) × OnErr r (now ≡ old)
+put_at_end {T} r now items old at item same end ok err =
+    let P : List T → Type 0 = λ xs. OnOk r (now ≡ xs) in
+    let Q : List T → Type 0 = λ xs. OnErr r (now ≡ xs) in (
+      subst P (ap (λ (n : ℕ). insert items n item) end ∙ (insert_end items item ∙ ap (λ (xs : List T). xs ++ item ∷ []) same)) ok,
+      subst Q same err,
+    )

@@ -122,21 +122,11 @@ impl<T: Drop> List<T> {
                 self.items = Items::One([item]);
                 Ok(())
             }
-            Items::One(_) => self.push_behind(alloc, item),
+            Items::One(_) => {
+                let end = self.len();
+                self.insert(alloc, end, item)
+            }
         }
-    }
-
-    /// Appends an item to what the list has, which moves to the heap where it isn't there.
-    #[inline(never)]
-    fn push_behind(&mut self, alloc: Global, item: T) -> Result<(), AllocFailed<T>>
-        ensures ok { OnOk result (self.new ≡ self.old ++ item ∷ []) }
-        ensures err { OnErr result (self.new ≡ self.old) }
-        ensures returned { IfErr result (λ failed. failed.value ≡ item) }
-    {
-        let items = mem::replace(&mut self.items, Items::Empty);
-        let (items, answer) = pushed(alloc, items, item);
-        self.items = items;
-        answer
     }
 
     /// Takes the last item off the list; `None` where there is none.
@@ -154,6 +144,7 @@ impl<T: Drop> List<T> {
 
     /// Puts an item at a place, counted from 0, before what stands there. At an `Err`, which comes only for want of memory,
     /// the list is as before and the item comes back.
+    #[inline(never)]
     pub fn insert(&mut self, alloc: Global, at: usize, item: T) -> Result<(), AllocFailed<T>>
         requires { at ≤ length self.old }
         ensures ok { OnOk result (self.new ≡ insert self.old at item) }
@@ -290,26 +281,6 @@ fn removed<T: Drop>(items: Items<T>, at: usize) -> (Items<T>, T)
         Items::Many(mut items) => {
             let item = items.remove(at);
             (Items::Many(items), item)
-        }
-    }
-}
-
-/// The items with one more at the end; where there is no memory, the items as they are, and the item.
-fn pushed<T: Drop>(
-    alloc: Global,
-    items: Items<T>,
-    item: T,
-) -> (Items<T>, Result<(), AllocFailed<T>>)
-    ensures ok { OnOk result.1 (listed result.0 ≡ listed items ++ item ∷ []) }
-    ensures err { OnErr result.1 (listed result.0 ≡ listed items) }
-    ensures returned { IfErr result.1 (λ failed. failed.value ≡ item) }
-{
-    match items {
-        Items::Empty => (Items::One([item]), Ok(())),
-        Items::One([first]) => two(alloc, first, item),
-        Items::Many(mut items) => {
-            let answer = items.push(item);
-            (Items::Many(items), answer)
         }
     }
 }
