@@ -1,6 +1,6 @@
 -- What a call that may fail leaves of a list.
-use Rattle.std.proofs.Common.{◌≡◌, ◌≤◌, ℕ, List, [], ◌∷◌, ◌++◌, length, cond, Result, Ok, Err, OnOk, OnErr, is_ok, get_or, ap, sym, subst, ◌∙◌, arith}
-use Rattle.std.specs.List.{insert}
+use Rattle.std.proofs.Common.{◌≡◌, ◌≤◌, ◌+◌, ℕ, zero, suc, List, [], ◌∷◌, ◌++◌, length, cond, Result, Ok, Err, OnOk, OnErr, is_ok, get_or, ap, sym, subst, ◌∙◌, arith}
+use Rattle.std.specs.List.{insert, remove}
 use Rattle.std.proofs.lemmas.List.Edits.{insert_end}
 
 -- the items are other ones at an `Ok`, and the same at an `Err`
@@ -41,3 +41,11 @@ put_at_end {T} r now items old at item same end ok err =
       subst P (ap (λ (n : ℕ). insert items n item) end ∙ (insert_end items item ∙ ap (λ (xs : List T). xs ++ item ∷ []) same)) ok,
       subst Q same err,
     )
+
+-- the last item, behind what is left where it is taken out
+pub last_out : {T : Type 0} (items : List T) (at : ℕ) (item : T) → length items ≡ at + 1 → item ≡ get_or items at item → items ≡ remove items at ++ item ∷ []
+last_out [] at item one is = absurd (omega (arith, one))
+last_out (x ∷ []) zero item one is = ap (λ y. y ∷ []) (sym is)
+last_out (x ∷ []) (suc at) item one is = absurd (omega (arith, one))
+last_out (x ∷ y ∷ ys) zero item one is = absurd (omega (arith, one))
+last_out (x ∷ y ∷ ys) (suc at) item one is = ap (λ zs. x ∷ zs) (last_out (y ∷ ys) at item (omega (arith, one)) is)

@@ -136,10 +136,11 @@ impl<T: Drop> List<T> {
         if let Items::Many(items) = &mut self.items {
             return items.pop();
         }
-        let items = mem::replace(&mut self.items, Items::Empty);
-        let (items, last) = popped(items);
-        self.items = items;
-        last
+        let count = self.len();
+        if count == 0 {
+            return None;
+        }
+        Some(self.remove(count - 1))
     }
 
     /// Puts an item at a place, counted from 0, before what stands there. At an `Err`, which comes only for want of memory,
@@ -251,20 +252,6 @@ fn truncated<T: Drop>(items: Items<T>, len: usize) -> Items<T>
         Items::Many(mut items) => {
             items.truncate(len);
             Items::Many(items)
-        }
-    }
-}
-
-/// The items without the last one, and that one.
-fn popped<T: Drop>(items: Items<T>) -> (Items<T>, Option<T>)
-    ensures { MatchOption result.1 ((listed items ≡ []) × (listed result.0 ≡ [])) (λ item. listed items ≡ listed result.0 ++ item ∷ []) }
-{
-    match items {
-        Items::Empty => (Items::Empty, None),
-        Items::One([item]) => (Items::Empty, Some(item)),
-        Items::Many(mut items) => {
-            let last = items.pop();
-            (Items::Many(items), last)
         }
     }
 }
