@@ -4,7 +4,6 @@ ghost use Rattle.hp_control.specs.States.{is_html, is_named};
 ghost use Rattle.hp_control.specs.KindTests.{within};
 
 use crate::element::OpenElement;
-use crate::spelled::has_name;
 use hp_elements::{Kinds, Known, Namespace};
 
 /// Whether it is an HTML element.
@@ -22,7 +21,7 @@ pub fn is_html(element: &OpenElement) -> bool
 pub fn is_named(known: Known, element: &OpenElement) -> bool
     ensures { result ≡ is_named known element.now }
 {
-    is_html(element) && has_name(&element.name, known)
+    is_html(element) && element.name.is(known)
 }
 
 /// Whether the element is of these kinds.
