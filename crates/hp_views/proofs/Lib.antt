@@ -2,6 +2,9 @@ pub mod Ends
 pub mod AtOnce
 pub mod Carrying
 pub mod Resetting
+pub mod Tables
+pub mod Walking
 pub mod Wholes
+pub mod Made
 pub mod Paragraphs
 pub mod Popping

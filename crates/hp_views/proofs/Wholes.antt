@@ -1,5 +1,6 @@
 -- A state put together again of a view's parts, and a view of a state's parts.
-use Rattle.std.specs.Prelude.{◌≡◌, ℕ, Bool, not, Option}
+use Rattle.std.specs.Prelude.{◌≡◌, ℕ, Bool, false, not, Option, Some, None}
+use Rattle.std.specs.Option.{unwrap_or}
 use Rattle.std.proofs.Common.{sym, ap, ◌∙◌}
 use Rattle.hp_tokens.specs.declared.lexing.LexState.{LexState}
 use Rattle.hp_control.specs.declared.change.Change.{Change}
@@ -11,6 +12,20 @@ use Rattle.hp_control.specs.Faithful.{Split, state_over, with_page}
 use Rattle.hp_control.specs.Viewing.{state_of}
 use Rattle.hp_views.specs.Begins.{ended, form_of, form_left, head_of, quirks_of, whole_change, whole_of, with_lexer}
 use Rattle.hp_views.specs.BeginLaws.{ended_whole, whole_again}
+use Rattle.hp_views.specs.declared.view.PageFacts.{PageFacts}
+use Rattle.hp_views.specs.View.{page_of}
+
+-- the facts of a page; none where there is an older state
+abbrev pub facts_or_none : Option PageFacts → PageFacts
+facts_or_none page = unwrap_or page (record { head = None; quirks = false })
+
+pub head_told : (page : Option PageFacts) (facts : PageFacts) → facts ≡ facts_or_none page → facts.head ≡ head_of (page_of page)
+head_told None facts e = ap (λ (f : PageFacts). f.head) e
+head_told (Some p) facts e = ap (λ (f : PageFacts). f.head) e
+
+pub quirks_told : (page : Option PageFacts) (facts : PageFacts) → facts ≡ facts_or_none page → facts.quirks ≡ quirks_of (page_of page)
+quirks_told None facts e = ap (λ (f : PageFacts). f.quirks) e
+quirks_told (Some p) facts e = ap (λ (f : PageFacts). f.quirks) e
 
 abbrev pub parts : LexState → Split → Option ℕ → Option ℕ → Bool → ControlState
 parts lex v h f q = state_of lex v.change.mode v.change.original v.change.templates v.change.stack v.change.formatting h f (not v.change.frameset_off) q v.change.pending v.change.skip_lf v.change.made

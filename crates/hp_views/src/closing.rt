@@ -12,8 +12,7 @@ ghost use Rattle.hp_elements.specs.KnownNames as known;
 ghost use Rattle.hp_views.specs.ClosingPlans.{is_item_plan};
 
 use crate::view::View;
-use crate::walks::{Walk, paragraph_walk};
-use hp_control::{Below, Refusal};
+use hp_control::{Below, Refusal, WalkEnd};
 use hp_elements::{ElementName, Kinds, Known, Name, Scope, SetName};
 use std::alloc::Global;
 
@@ -87,10 +86,10 @@ impl<'p, B: Below> View<'p, B> {
     pub fn has_paragraph(&mut self, alloc: Global) -> Result<bool, Refusal>
         ensures { Answers result (sight B.heard self.old) (sight B.heard self.new) (in_scope_plan scope.Button (kinds.Html (text_of known.P))) }
     {
-        match paragraph_walk(&self.change.stack) {
-            Walk::Found(_) => Ok(true),
-            Walk::Stopped => Ok(false),
-            Walk::PastAll => {
+        match self.change.stack.paragraph() {
+            WalkEnd::Goal => Ok(true),
+            WalkEnd::Stop => Ok(false),
+            WalkEnd::BelowAll => {
                 let ends = Kinds::Set(SetName::ButtonScopeEnds);
                 self.seen_below(alloc, Kinds::Html(Name::of_known(Known::P)), ends)
             }

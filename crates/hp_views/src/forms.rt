@@ -1,6 +1,6 @@
 //! The end of a form (13.2.6.4.7).
 ghost use Rattle.std.specs.Prelude.{◌≡◌, ◌<◌, ◌^◌};
-ghost use Rattle.hp_views.specs.FormPlans.{outside_plan, own_form_plan, older_form_plan, leave_older_plan, older_off_plan};
+ghost use Rattle.hp_views.specs.FormPlans.{own_form_plan, older_form_plan, leave_older_plan, older_off_plan};
 ghost use Rattle.hp_views.specs.Steps.{end_form_step};
 ghost use Rattle.hp_views.specs.View.{sight, Carries, Meets};
 
@@ -17,16 +17,8 @@ impl<'p, B: Below> View<'p, B> {
         ensures { Meets result (sight B.heard self.old) (sight B.heard self.new) end_form_step }
     {
         if self.template_in_stack(alloc)? {
-            self.end_form_in_template(alloc)
-        } else {
-            self.end_form_outside(alloc)
+            return self.end_form_in_template(alloc);
         }
-    }
-
-    /// The end of a form outside of templates: the pointer is emptied, and its element, where it is in scope, leaves the stack.
-    fn end_form_outside(&mut self, alloc: Global) -> Result<(), Refusal>
-        ensures { Carries result (sight B.heard self.old) (sight B.heard self.new) outside_plan }
-    {
         match self.change.form {
             FormChange::Cleared => Ok(()),
             FormChange::Own(id) => self.end_own_form(alloc, id),
@@ -34,7 +26,7 @@ impl<'p, B: Below> View<'p, B> {
         }
     }
 
-    /// The same of an own form.
+    /// The end of an own form outside of templates: the pointer is emptied, and its element, where it is in scope, leaves the stack.
     fn end_own_form(&mut self, alloc: Global, id: u64) -> Result<(), Refusal>
         ensures { Carries result (sight B.heard self.old) (sight B.heard self.new) (own_form_plan id) }
     {

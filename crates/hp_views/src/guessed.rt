@@ -14,10 +14,30 @@ use hp_tokens::LexState;
 use std::alloc::Global;
 use std::mem;
 
-/// Nothing is changed yet, in this state of the lexer and this mode.
-fn begun(lex: LexState, mode: Mode, original: Option<Mode>, skip_lf: bool) -> Change
-    ensures { result ≡ begun lex mode original skip_lf }
+/// Nothing is changed yet, where that was answered at the start.
+fn begun_by(answer: &Answer) -> Change
+    ensures { result ≡ begun_by answer.now }
 {
+    let (lex, mode, original, skip_lf) = match answer {
+        Answer::Resting {
+            rest,
+            after_cr,
+            mode,
+            original,
+            skip_lf,
+        } => (
+            LexState::at_rest(*rest, *after_cr),
+            *mode,
+            *original,
+            *skip_lf,
+        ),
+        _ => (
+            LexState::at_rest(Rest::Data, false),
+            Mode::Initial,
+            None,
+            false,
+        ),
+    };
     Change {
         popped: 0,
         cuts: 0,
@@ -35,43 +55,6 @@ fn begun(lex: LexState, mode: Mode, original: Option<Mode>, skip_lf: bool) -> Ch
         made: 0,
     }
 }
-
-ghost use Rattle.hp_views.specs.Begins.{begun};
-
-/// Nothing is changed yet, where that was answered at the start.
-fn begun_by(answer: &Answer) -> Change
-    ensures { result ≡ begun_by answer.now }
-{
-    match answer {
-        Answer::Resting {
-            rest,
-            after_cr,
-            mode,
-            original,
-            skip_lf,
-        } => begun(
-            LexState::at_rest(*rest, *after_cr),
-            *mode,
-            *original,
-            *skip_lf,
-        ),
-        _ => begun(
-            LexState::at_rest(Rest::Data, false),
-            Mode::Initial,
-            None,
-            false,
-        ),
-    }
-}
-
-/// Whether the chunk begins among pending table characters.
-fn is_table_text(mode: Mode) -> bool
-    ensures { result ≡ is_table_text mode }
-{
-    matches!(mode, Mode::InTableText)
-}
-
-ghost use Rattle.hp_control.specs.Outcome.{is_table_text};
 
 /// Ends a change with this state of the lexer.
 pub(crate) fn end_with(change: &mut Change, lex: LexState, last_tag_set: bool)
@@ -92,7 +75,7 @@ impl<'p, P: Predictor + Drop> View<'p, Guess<P>> {
         let change = begun_by(&answer);
         let view = View {
             below,
-            older_text: is_table_text(change.mode),
+            older_text: matches!(change.mode, Mode::InTableText),
             change,
             edits: Edits::new(),
             page: None,

@@ -1,6 +1,4 @@
 //! The head element, on the stack again and off it.
-ghost use Rattle.std.specs.Prelude.{◌≡◌, IfOk};
-ghost use Rattle.hp_control.specs.Acts.{head_element as spec_head_element};
 ghost use Rattle.hp_views.specs.Steps.{push_head_step, take_head_off_step};
 ghost use Rattle.hp_views.specs.View.{sight, Meets};
 
@@ -9,18 +7,6 @@ use crate::walks::{Walk, open_walk};
 use hp_control::{Below, Crossing, OpenElement, Refusal};
 use hp_elements::{Known, Name, Namespace, Point};
 use std::alloc::Global;
-
-/// The head element of that id.
-fn head_element(id: u64) -> OpenElement
-    ensures { result ≡ spec_head_element id }
-{
-    OpenElement {
-        id,
-        namespace: Namespace::Html,
-        name: Name::of_known(Known::HEAD),
-        point: Point::No,
-    }
-}
 
 impl<'p, B: Below> View<'p, B> {
     /// Pushes the head element onto the stack again, where there is one and it isn't there.
@@ -36,7 +22,13 @@ impl<'p, B: Below> View<'p, B> {
         if let Walk::Found(_) = open_walk(&self.change.stack, id) {
             return Ok(());
         }
-        self.change.stack.push(alloc, head_element(id))?;
+        let head = OpenElement {
+            id,
+            namespace: Namespace::Html,
+            name: Name::of_known(Known::HEAD),
+            point: Point::No,
+        };
+        self.change.stack.push(alloc, head)?;
         Ok(())
     }
 

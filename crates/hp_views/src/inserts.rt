@@ -1,6 +1,5 @@
 //! The edits that acts make.
-ghost use Rattle.std.specs.Prelude.{◌≡◌, ◌∷◌, true, IfOk, Some};
-ghost use Rattle.hp_elements.specs.Names.{known_of};
+ghost use Rattle.std.specs.Prelude.{◌≡◌, ◌∷◌, true, IfOk};
 ghost use Rattle.hp_control.specs.Acts.{element_for, point_in};
 ghost use Rattle.hp_control.specs.Plan.{gives};
 ghost use Rattle.hp_views.specs.Steps.{add_body_step, add_first_step, detach_step, insert_document_step, insert_step, put_document_step, put_first_step, put_step};
@@ -11,7 +10,7 @@ ghost use Rattle.hp_views.specs.PlacePlans.{with_edit, insert_at, insert_plan, c
 use crate::place::{first_id, second_id};
 use crate::view::View;
 use hp_control::{Below, Child, Crossing, Edit, OpenElement, OpenElements, Place, Ref, Refusal};
-use hp_elements::{Attribute, Chain, Known, Name, Namespace, NoMemory, Point, Tag};
+use hp_elements::{Attribute, Chain, Name, Namespace, NoMemory, Point, Tag};
 use std::alloc::Global;
 
 /// Pushes the element of this id that is made for the tag, and is that point.
@@ -26,32 +25,21 @@ fn push_made(
     requires point { point ≡ point_in tag.now.namespace tag.now }
     ensures { IfOk result (λ _. stack.new ≡ element_for id tag.now ∷ stack.old) }
 {
-    match tag.namespace {
-        Namespace::Html => match tag.name.known() {
-            Some(known) => stack.push(alloc, html_element(id, tag, known)),
-            None => push_other(stack, alloc, id, tag, point),
-        },
-        Namespace::MathMl | Namespace::Svg => push_other(stack, alloc, id, tag, point),
+    if let Namespace::Html = tag.namespace
+        && let Some(known) = tag.name.known()
+    {
+        let element = OpenElement {
+            id,
+            namespace: Namespace::Html,
+            name: Name::of_known(known),
+            point: Point::No,
+        };
+        return stack.push(alloc, element);
     }
+    push_other(stack, alloc, id, tag, point)
 }
 
-/// The element for an HTML tag of that known name.
-#[inline(always)]
-fn html_element(id: u64, tag: &Tag, known: Known) -> OpenElement
-    requires html { tag.now.namespace ≡ Html }
-    requires known { Some known ≡ known_of tag.now.name }
-    ensures { result ≡ element_for id tag.now }
-{
-    let _ = tag;
-    OpenElement {
-        id,
-        namespace: Namespace::Html,
-        name: Name::of_known(known),
-        point: Point::No,
-    }
-}
-
-/// The same for any tag.
+/// The same for any tag, out of line.
 #[inline(never)]
 fn push_other(
     stack: &mut OpenElements,

@@ -2,7 +2,7 @@
 ghost use Rattle.std.specs.Prelude.{◌≡◌};
 ghost use Rattle.hp_views.specs.Steps.{append_step, clear_step, marker_step};
 ghost use Rattle.hp_views.specs.View.{sight, Answers, Carries, Meets};
-ghost use Rattle.hp_views.specs.ListPlans.{clear_on, listed_plan, is_there};
+ghost use Rattle.hp_views.specs.ListPlans.{clear_on, listed_plan};
 ghost use Rattle.hp_views.specs.declared.walks.Walk.TheVariants.{PastAll};
 
 use crate::asking::older_listed;
@@ -11,15 +11,6 @@ use crate::walks::{Walk, marker_walk, name_walk};
 use hp_control::{Below, EntryKind, FormattingEntry, Refusal};
 use hp_elements::{Name, Tag};
 use std::alloc::Global;
-
-fn is_there(kind: EntryKind) -> bool
-    ensures { result ≡ is_there kind }
-{
-    match kind {
-        EntryKind::Absent => false,
-        EntryKind::Closed | EntryKind::Hidden | EntryKind::InScope => true,
-    }
-}
 
 impl<'p, B: Below> View<'p, B> {
     /// A marker at the list's end.
@@ -80,7 +71,7 @@ impl<'p, B: Below> View<'p, B> {
                 let depth = self.change.popped;
                 let cuts = self.change.cuts;
                 let standing = older_listed(&mut self.below, alloc, depth, cuts, name)?;
-                Ok(is_there(standing.kind))
+                Ok(!matches!(standing.kind, EntryKind::Absent))
             }
         }
     }

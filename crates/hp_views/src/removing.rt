@@ -6,7 +6,7 @@ ghost use Rattle.hp_views.specs.View.{sight, Carries};
 
 use crate::view::View;
 use crate::walks::{Walk, listed_walk, open_walk};
-use hp_control::{Below, FormattingEntry, Refusal, Stack};
+use hp_control::{Below, Refusal};
 use std::alloc::Global;
 
 impl<'p, B: Below> View<'p, B> {
@@ -36,30 +36,10 @@ impl<'p, B: Below> View<'p, B> {
     pub fn has_entry(&self, id: u64) -> bool
         ensures { result ≡ has_entry id self.now.change.formatting }
     {
-        is_listed(&self.change.formatting, id)
-    }
-}
-
-/// Whether an entry of the list has this id.
-fn is_listed(list: &Stack<FormattingEntry>, id: u64) -> bool
-    ensures { result ≡ has_entry id list.now }
-{
-    for depth in 0..list.len() {
-        if is_entry(list.at(depth), id) {
-            return true;
+        match listed_walk(&self.change.formatting, id) {
+            Walk::Found(_) => true,
+            Walk::Stopped => false,
+            Walk::PastAll => false,
         }
     }
-    false
 }
-
-/// Whether the entry has this id.
-fn is_entry(entry: &FormattingEntry, wanted: u64) -> bool
-    ensures { result ≡ is_entry wanted entry.now }
-{
-    match entry {
-        FormattingEntry::Marker => false,
-        FormattingEntry::Element { id, .. } => *id == wanted,
-    }
-}
-
-ghost use Rattle.hp_views.specs.RemovePlans.{is_entry};

@@ -1,16 +1,16 @@
 //! Resetting the insertion mode (13.2.4.1).
 ghost use Rattle.std.specs.Prelude.{◌≡◌, ◌<◌, ◌≤◌, ◌+◌, drop, length, slice_index_or, ℕ};
 ghost use Rattle.hp_control.specs.declared.element.OpenElement.{OpenElement};
-ghost use Rattle.hp_control.specs.Walks.{is_cell as spec_is_cell, mode_of as spec_mode_of, last_template_mode as spec_last_template_mode, html_mode as spec_html_mode};
+ghost use Rattle.hp_control.specs.Walks.{mode_of as spec_mode_of};
 ghost use Rattle.hp_views.specs.Steps.{reset_step};
-ghost use Rattle.hp_views.specs.View.{page_of, sight, split_of, Carries, Answers, Meets};
-ghost use Rattle.hp_views.specs.ResetPlans.{decides, table_plan, is_first as spec_is_first};
+ghost use Rattle.hp_views.specs.View.{sight, split_of, Carries, Answers, Meets};
+ghost use Rattle.hp_views.specs.ResetPlans.{table_plan};
 
 use crate::asking::older_reset;
 use crate::place::{a_table, a_template};
-use crate::view::{PageFacts, View};
+use crate::view::View;
 use crate::walks::{Walk, element_walk_from};
-use hp_control::{Below, OpenElement, OpenElements, Refusal, Stack, is_named, is_within};
+use hp_control::{Below, OpenElement, Refusal, Stack, is_named, is_within};
 use hp_elements::{Kinds, Known, Mode, SetName};
 use std::alloc::Global;
 
@@ -21,12 +21,6 @@ pub enum Decides {
     /// It is a select: in select, in or out of a table.
     Select,
     To(Mode),
-}
-
-fn is_cell(element: &OpenElement) -> bool
-    ensures { result ≡ spec_is_cell element.now }
-{
-    is_named(Known::TD, element) || is_named(Known::TH, element)
 }
 
 /// The mode of an element that decides one wherever it stands.
@@ -52,26 +46,6 @@ fn mode_of(element: &OpenElement) -> Option<Mode>
     }
 }
 
-fn last_template_mode(modes: &Stack<Mode>) -> Mode
-    ensures { result ≡ spec_last_template_mode modes.now }
-{
-    if modes.is_empty() {
-        Mode::InBody
-    } else {
-        *modes.at(0)
-    }
-}
-
-fn html_mode(has_head: bool) -> Mode
-    ensures { result ≡ spec_html_mode has_head }
-{
-    if has_head {
-        Mode::AfterHead
-    } else {
-        Mode::BeforeHead
-    }
-}
-
 /// What an element decides, of which it is said whether it is the first of all, and whether the page has a head.
 fn decided(
     element: &OpenElement,
@@ -84,17 +58,26 @@ fn decided(
     if is_named(Known::SELECT, element) {
         return Decides::Select;
     }
-    if is_cell(element) && !is_first {
+    let is_cell = is_named(Known::TD, element) || is_named(Known::TH, element);
+    if is_cell && !is_first {
         return Decides::To(Mode::InCell);
     }
     if is_named(Known::TEMPLATE, element) {
-        return Decides::To(last_template_mode(templates));
+        return Decides::To(if templates.is_empty() {
+            Mode::InBody
+        } else {
+            *templates.at(0)
+        });
     }
     if is_named(Known::HEAD, element) && !is_first {
         return Decides::To(Mode::InHead);
     }
     if is_named(Known::HTML, element) {
-        return Decides::To(html_mode(has_head));
+        return Decides::To(if has_head {
+            Mode::AfterHead
+        } else {
+            Mode::BeforeHead
+        });
     }
     match mode_of(element) {
         Some(mode) => Decides::To(mode),
@@ -102,28 +85,7 @@ fn decided(
     }
 }
 
-ghost use Rattle.hp_views.specs.ResetPlans.{decided_by, decides_at, has_head as spec_has_head};
-
-/// Whether the page has a head.
-fn has_head(page: Option<PageFacts>) -> bool
-    ensures { result ≡ spec_has_head (page_of page) }
-{
-    match page {
-        Some(facts) => facts.head.is_some(),
-        None => true,
-    }
-}
-
-/// Whether the own element at that depth is the first of all.
-fn is_first_at(page: Option<PageFacts>, stack: &OpenElements, depth: usize) -> bool
-    requires { depth < length stack.now }
-    ensures { result ≡ spec_is_first (page_of page) (drop (depth + 1) stack.now) }
-{
-    match page {
-        Some(_) => stack.len() - 1 - depth == 0,
-        None => false,
-    }
-}
+ghost use Rattle.hp_views.specs.ResetPlans.{decided_by, decides_at};
 
 impl<'p, B: Below> View<'p, B> {
     /// What the own element at that depth decides.
@@ -131,13 +93,15 @@ impl<'p, B: Below> View<'p, B> {
         requires { depth < length self.now.change.stack }
         ensures { result ≡ decides_at (split_of self.now) (drop depth self.now.change.stack) }
     {
-        let stack = &self.change.stack;
-        decided(
-            stack.at(depth),
-            is_first_at(self.page, stack, depth),
-            &self.change.templates,
-            has_head(self.page),
-        )
+        let element = self.change.stack.at(depth);
+        let templates = &self.change.templates;
+        match self.page {
+            Some(facts) => {
+                let is_first = self.change.stack.len() - 1 - depth == 0;
+                decided(element, is_first, templates, facts.head.is_some())
+            }
+            None => decided(element, false, templates, true),
+        }
     }
 
     /// Whether a table stands before a template from that depth downward.

@@ -2,7 +2,7 @@
 ghost use Rattle.std.specs.Prelude.{◌≡◌, drop};
 ghost use Rattle.hp_views.specs.Walks.{walk_of, run_walk, id_walk, id_scope_walk, id_stop_walk, id_entry_walk, marker_of, entry_walk, IsWithin, EndsAs};
 
-use hp_control::{FormattingEntry, OpenElements, Stack, WalkEnd, is_within};
+use hp_control::{FormattingEntry, OpenElements, Stack, is_within};
 use hp_elements::{Kinds, Name, SetName};
 
 /// Where a walk ended: at a goal, at a stop, or below the last of its own.
@@ -30,31 +30,6 @@ pub fn element_walk(stack: &OpenElements, goals: &Kinds, stops: &Kinds) -> Walk
     }
     Walk::PastAll
 }
-
-/// Walks down to a p element in button scope; where it is found doesn't count.
-#[tactic(auto, using(crate::proofs::Paragraphs::paragraph_walked))]
-pub fn paragraph_walk(stack: &OpenElements) -> Walk
-    ensures { EndsAs (walk_of (kinds.Html (text_of known.P)) (kinds.Set sets.ButtonScopeEnds) stack.now) result }
-{
-    walk_to(stack.paragraph())
-}
-
-/// The walk that ends so.
-fn walk_to(end: WalkEnd) -> Walk
-    ensures { result ≡ walk_to end }
-{
-    match end {
-        WalkEnd::Goal => Walk::Found(0),
-        WalkEnd::Stop => Walk::Stopped,
-        WalkEnd::BelowAll => Walk::PastAll,
-    }
-}
-
-ghost use Rattle.hp_elements.specs.Names.{text_of};
-ghost use Rattle.hp_elements.specs.declared.kinds.Kinds.TheVariants as kinds;
-ghost use Rattle.hp_elements.specs.KnownNames as known;
-ghost use Rattle.hp_elements.specs.declared.sets.SetName.TheVariants as sets;
-ghost use Rattle.hp_views.specs.Walks.{walk_to};
 
 /// Walks down from a depth to the first element that is a goal or a stop; where it is found doesn't count from there.
 pub fn element_walk_from(stack: &OpenElements, from: usize, goals: &Kinds, stops: &Kinds) -> Walk

@@ -3,8 +3,8 @@ ghost use Rattle.std.specs.Prelude.{◌≡◌, Option};
 ghost use Rattle.hp_control.specs.States.{IsValid};
 ghost use Rattle.hp_control.specs.Faithful.{StandsOn, state_over};
 ghost use Rattle.hp_control.specs.Nothing.{nothing};
-ghost use Rattle.hp_views.specs.Begins.{form_of as spec_form_of, form_left as spec_form_left, head_of as spec_head_of, quirks_of as spec_quirks_of, whole_of, with_lexer};
-ghost use Rattle.hp_views.specs.View.{page_of, split_of};
+ghost use Rattle.hp_views.specs.Begins.{form_of as spec_form_of, form_left as spec_form_left, whole_of, with_lexer};
+ghost use Rattle.hp_views.specs.View.{split_of};
 
 use crate::guessed::end_with;
 use crate::view::{PageFacts, View};
@@ -28,24 +28,6 @@ fn form_left(form: FormChange) -> Option<u64>
     match form {
         FormChange::Own(id) => Some(id),
         FormChange::Kept | FormChange::Cleared => None,
-    }
-}
-
-fn head_of(page: Option<PageFacts>) -> Option<u64>
-    ensures { result ≡ spec_head_of (page_of page) }
-{
-    match page {
-        Some(facts) => facts.head,
-        None => None,
-    }
-}
-
-fn quirks_of(page: Option<PageFacts>) -> bool
-    ensures { result ≡ spec_quirks_of (page_of page) }
-{
-    match page {
-        Some(facts) => facts.quirks,
-        None => false,
     }
 }
 
@@ -108,6 +90,10 @@ impl<'p> View<'p, Nothing> {
             ..
         } = self;
         end_with(&mut change, lex, true);
+        let facts = page.unwrap_or(PageFacts {
+            head: None,
+            quirks: false,
+        });
         let control = Control {
             lex: change.lex,
             mode: change.mode,
@@ -115,10 +101,10 @@ impl<'p> View<'p, Nothing> {
             templates: change.templates,
             stack: change.stack,
             formatting: change.formatting,
-            head: head_of(page),
+            head: facts.head,
             form: form_left(change.form),
             frameset_ok: !change.frameset_off,
-            quirks: quirks_of(page),
+            quirks: facts.quirks,
             pending: change.pending,
             skip_lf: change.skip_lf,
             next: change.made,
