@@ -4,7 +4,6 @@ pub mod Nearest
 pub mod TurnSteps
 pub mod Untangling
 pub mod Renewing
-pub mod Alike
 pub mod Whites
 pub mod Carrying
 pub mod LastEntry

@@ -1,5 +1,4 @@
 pub mod Entries
-pub mod Encodings
 pub mod ReconPlans
 pub mod ArkPlans
 pub mod FlushPlans

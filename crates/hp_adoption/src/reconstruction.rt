@@ -5,9 +5,8 @@ ghost use Rattle.hp_views.specs.Walks.{IsWithin};
 ghost use Rattle.hp_adoption.specs.Still.{is_still, is_still_at};
 ghost use Rattle.hp_adoption.specs.ReconPlans.{is_settled as spec_is_settled, stale_walk as spec_stale_walk, renew_plan, renew_down_plan, reconstruct_plan};
 
-use crate::elements::point_of;
 use hp_control::{Below, Change, Crossing, FormattingEntry, OpenElements, Refusal};
-use hp_views::{View, Walk, older_quiet, open_walk};
+use hp_views::{View, Walk, older_quiet, open_walk, point_of};
 use std::alloc::Global;
 
 /// Whether the entry is a marker or its element is open.
@@ -16,22 +15,13 @@ fn is_settled(stack: &OpenElements, entry: &FormattingEntry) -> bool
 {
     match entry {
         FormattingEntry::Marker => true,
-        FormattingEntry::Element { id, .. } => is_open(stack, *id),
+        FormattingEntry::Element { id, .. } => match open_walk(stack, *id) {
+            Walk::Found(_) => true,
+            Walk::Stopped => false,
+            Walk::PastAll => false,
+        },
     }
 }
-
-fn is_open(stack: &OpenElements, id: u64) -> bool
-    ensures { result ≡ is_found (id_walk id stack.now) }
-{
-    match open_walk(stack, id) {
-        Walk::Found(_) => true,
-        Walk::Stopped => false,
-        Walk::PastAll => false,
-    }
-}
-
-ghost use Rattle.hp_adoption.specs.ReconPlans.{is_found};
-ghost use Rattle.hp_views.specs.Walks.{id_walk};
 
 /// Walks down the list to the last entry that is a marker or open.
 #[inline(always)]
@@ -70,7 +60,7 @@ fn renew<'p, B: Below>(
         FormattingEntry::Element { tag, .. } => {
             let id = view.change.made;
             let copy = tag.copy(alloc)?;
-            let point = point_of(alloc, &tag)?;
+            let point = point_of(&tag);
             let entry = FormattingEntry::Element { id, tag: copy };
             let _ = view.change.formatting.replace(depth, entry);
             view.insert(alloc, fostering, tag, point)

@@ -1,4 +1,3 @@
-pub mod Alike
 pub mod Changing
 pub mod Inserting
 pub mod OwnNode

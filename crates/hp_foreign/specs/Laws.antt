@@ -1,5 +1,5 @@
 -- Foreign content: each plan tells of a view, or does to it, what its test or act does of the whole state.
-use Rattle.std.specs.Prelude.{◌≡◌, ℕ, zero, suc, ◌+◌, Bool, true, false, not, ◌||◌, ◌&&◌, if◌then◌else◌, List, [], ◌∷◌, ◌++◌, Option, Some, None, Result, Ok, map, drop, refl, slice_get}
+use Rattle.std.specs.Prelude.{◌≡◌, ℕ, zero, suc, Bool, true, false, not, ◌||◌, ◌&&◌, if◌then◌else◌, List, [], ◌∷◌, ◌++◌, Some, None, Result, Ok, map, drop, refl, slice_get}
 use Rattle.std.specs.Option.{is_some}
 use Rattle.std.proofs.Common.{sym, subst, ap, ◌∙◌}
 use Rattle.hp_elements.specs.declared.kinds.Kinds.TheVariants as kinds
@@ -13,13 +13,13 @@ use Rattle.hp_control.specs.declared.question.Crossing.{Crossing}
 use Rattle.hp_control.specs.Acts.{insert, pop}
 use Rattle.hp_control.specs.Apply.{shifted}
 use Rattle.hp_control.specs.Faithful.{Split, state_over, StandsOn, Matches, Faithful, FaithfulTest, faithful_then, faithful_nothing}
-use Rattle.hp_control.specs.Foreign.{enters, is_annotation, is_end_of_input, is_foreign_at, is_foreign, is_svg_start, opened_namespace, tag_in, insert_in, insert_foreign, current_namespace, insert_as_current, pop_to_point, names_foreign, through_foreign, replaced, put_replacements}
+use Rattle.hp_control.specs.Foreign.{enters, is_annotation, is_end_of_input, is_foreign, is_svg_start, opened_namespace, tag_in, insert_in, insert_foreign, current_namespace, insert_as_current, pop_to_point, names_foreign, through_foreign, replaced, put_replacements}
 use Rattle.hp_control.specs.Outcome.{nothing_done}
 use Rattle.hp_control.specs.Plan.{end_by}
 use Rattle.hp_control.specs.Running.{on_end, end_then}
 use Rattle.hp_control.specs.States.{ControlState, is_html}
 use Rattle.hp_control.specs.Truth.{answer_of, element_answer}
-use Rattle.hp_control.specs.Walks.{reach, seen}
+use Rattle.hp_control.specs.Walks.{seen}
 use Rattle.hp_views.specs.declared.walks.Walk.{Walk}
 use Rattle.hp_views.specs.declared.walks.Walk.TheVariants.{Found, Stopped, PastAll}
 use Rattle.hp_views.specs.InsertLaws.{insert_faithful, put_faithful}

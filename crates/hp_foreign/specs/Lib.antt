@@ -1,5 +1,4 @@
 pub mod Changes
-pub mod Encodings
 pub mod Fonts
 pub mod Plans
 pub mod Laws

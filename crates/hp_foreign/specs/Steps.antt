@@ -1,5 +1,5 @@
 -- The acts and tests of foreign content: what each asks and changes, what it means of a full state, and the law that ties them.
-use Rattle.std.specs.Prelude.{◌≡◌, ℕ, Bool, List}
+use Rattle.std.specs.Prelude.{ℕ, Bool, List}
 use Rattle.hp_elements.specs.declared.tag.Tag.{Tag}
 use Rattle.hp_elements.specs.declared.token.Kind.{Kind}
 use Rattle.hp_control.specs.Faithful.{any_view}

@@ -119,7 +119,7 @@ fn changed_in(
     Ok(made)
 }
 
-pub(crate) fn is_called(name: &Name, known: Known) -> bool
+fn is_called(name: &Name, known: Known) -> bool
     ensures { result ≡ bytes_eq name.now (text_of known) }
 {
     name.is(known)

@@ -1,86 +1,16 @@
 //! The elements of foreign content (13.2.6.1, 13.2.6.4.7, 13.2.6.5).
 ghost use Rattle.std.specs.Prelude.{◌≡◌, IfOk};
-ghost use Rattle.std.specs.List.{list_any};
-ghost use Rattle.std.specs.Str.{bytes_eq};
-ghost use Rattle.hp_elements.specs.Names.{lowered};
-ghost use Rattle.hp_foreign.specs.Encodings.{encodes_as};
-ghost use Rattle.hp_control.specs.Acts.{point_in, encodes_html, mathml_point};
 ghost use Rattle.hp_control.specs.Foreign.{opened_namespace, tag_in};
 ghost use Rattle.hp_views.specs.View.{sight, Answers, Meets, Carries};
 ghost use Rattle.hp_foreign.specs.Plans.{namespace_plan, insert_in_plan};
 ghost use Rattle.hp_foreign.specs.Steps.{insert_as_current_step, insert_foreign_step};
 
-use crate::attributes::{attributes_in, element_name, is_called};
+use crate::attributes::{attributes_in, element_name};
 use crate::dispatch::older_element;
 use hp_control::{Below, Refusal};
-use hp_elements::{Attribute, Chain, Known, Name, Namespace, NoMemory, Point, SetName, Tag, Text};
-use hp_views::View;
+use hp_elements::{Known, Name, Namespace, NoMemory, Tag};
+use hp_views::{View, point_of};
 use std::alloc::Global;
-
-/// Whether two texts are the same without ASCII case.
-fn is_alike(text: &Text<'_>, other: &Text<'_>) -> bool
-    ensures { result ≡ bytes_eq (lowered text.now) (lowered other.now) }
-{
-    text.as_str().eq_ignore_ascii_case(other.as_str())
-}
-
-/// Whether the attribute is an `encoding` of one of these values.
-fn encodes(attribute: &Attribute, html: &Text<'_>, xhtml: &Text<'_>) -> bool
-    ensures { result ≡ encodes_as html.now xhtml.now attribute.now }
-{
-    is_called(&attribute.name, Known::ENCODING)
-        && (is_alike(&attribute.value, html) || is_alike(&attribute.value, xhtml))
-}
-
-fn any_encodes(attributes: &Chain<Attribute>, html: &Text<'_>, xhtml: &Text<'_>) -> bool
-    ensures { result ≡ list_any (encodes_as html.now xhtml.now) attributes.now }
-{
-    attributes
-        .iter()
-        .any(|attribute| encodes(attribute, html, xhtml))
-}
-
-/// Whether an attribute makes an annotation an integration point of HTML.
-fn encodes_html(alloc: Global, attributes: &Chain<Attribute>) -> Result<bool, NoMemory>
-    ensures { IfOk result (λ encodes. encodes ≡ list_any encodes_html attributes.now) }
-{
-    let html = Text::from_str(alloc, "text/html")?;
-    let xhtml = Text::from_str(alloc, "application/xhtml+xml")?;
-    Ok(any_encodes(attributes, &html, &xhtml))
-}
-
-fn mathml_point(alloc: Global, tag: &Tag) -> Result<Point, NoMemory>
-    ensures { IfOk result (λ point. point ≡ mathml_point tag.now) }
-{
-    if SetName::MathMlTextPoints.has(Namespace::MathMl, &tag.name) {
-        return Ok(Point::MathText);
-    }
-    if !is_called(&tag.name, Known::ANNOTATION_XML) {
-        return Ok(Point::No);
-    }
-    if encodes_html(alloc, &tag.attributes)? {
-        Ok(Point::Html)
-    } else {
-        Ok(Point::No)
-    }
-}
-
-/// The integration point that an element is which is made for the tag.
-fn point_in(alloc: Global, tag: &Tag) -> Result<Point, NoMemory>
-    ensures { IfOk result (λ point. point ≡ point_in tag.now.namespace tag.now) }
-{
-    match tag.namespace {
-        Namespace::Html => Ok(Point::No),
-        Namespace::MathMl => mathml_point(alloc, tag),
-        Namespace::Svg => {
-            if SetName::SvgHtmlPoints.has(Namespace::Svg, &tag.name) {
-                Ok(Point::Html)
-            } else {
-                Ok(Point::No)
-            }
-        }
-    }
-}
 
 /// The tag of an element of the namespace that is made for the token's tag.
 fn tag_in(alloc: Global, namespace: Namespace, tag: Tag) -> Result<Tag, NoMemory>
@@ -105,7 +35,7 @@ fn insert_in<'p, B: Below>(
     ensures { Carries result (sight B.heard view.old) (sight B.heard view.new) (insert_in_plan namespace fostering self_closing tag) }
 {
     let tag = tag_in(alloc, namespace, tag)?;
-    let point = point_in(alloc, &tag)?;
+    let point = point_of(&tag);
     view.insert(alloc, fostering, tag, point)?;
     if self_closing {
         view.pop(alloc)

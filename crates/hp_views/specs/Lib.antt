@@ -23,6 +23,7 @@ pub mod ResetLaws
 pub mod Laws
 pub mod Steps
 pub mod ClosingPlans
+pub mod Encodings
 pub mod FormPlans
 pub mod ClosingLaws
 pub mod OwnIds

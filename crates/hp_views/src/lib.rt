@@ -11,6 +11,7 @@ mod inserts;
 mod laws;
 mod lists;
 mod place;
+mod points;
 mod pops;
 mod removing;
 mod reset;
@@ -29,6 +30,7 @@ pub use laws::{
     removes_mean, reset_means, steps_mean, tests_tell, whole_means,
 };
 pub use place::{a_table, a_template, first_id, second_id};
+pub use points::point_of;
 pub use view::{PageFacts, View};
 pub use walks::{
     Walk, element_walk, element_walk_from, listed_walk, marker_walk, name_walk, open_walk,
