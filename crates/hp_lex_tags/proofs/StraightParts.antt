@@ -25,7 +25,7 @@ use Rattle.hp_names.specs.References.{Reference}
 use Rattle.hp_lex_tags.specs.Tags.{tag_rules}
 use Rattle.hp_tokens.specs.Reading.{opens_start_tag, opens_end_tag, FrontIs}
 use Rattle.hp_tokens.specs.Plain.{none_of, tag_name_stops, attribute_name_stops, double_quoted_stops, single_quoted_stops, unquoted_stops}
-use Rattle.hp_tokens.specs.PlainLaws.{unlike, apart, none-high}
+use Rattle.hp_tokens.specs.PlainLaws.{unlike, apart}
 use Rattle.hp_lex_tags.specs.Rows.{has_row, row, row_of, tag_open, end_tag_open, tag_name, attribute_name, before_attribute_value}
 use Rattle.hp_lex_tags.specs.declared.straight.Way.{Way}
 use Rattle.hp_lex_tags.specs.declared.straight.Way.TheVariants as way
@@ -323,17 +323,17 @@ module _ (m : Machine) (is : m.state ≡ Data) (clear : m.after_cr ≡ false) (o
       ((rereads EndTagOpen TagName Nothing (EndTag []) b.c b.rest behind (λ l. end_row l b.c b.passed) refl refl (letter_no_cr b.c b.passed) b.begins).leads m.last_tag old.place))
 
 -- the code point of a front byte that passes
-pub begins_by : (stops : List ℕ) → list_all (λ x. nat_lt x 128) stops ≡ true → (text : List ℕ) (byte : ℕ) (b : Bool) → b ≡ none_of stops byte → FrontIs text byte
-    → b ≡ true → BeginsBy (none_of stops) text
-begins_by stops low text byte b says f h = go text f.first
+pub begins_by : (passes : ℕ → Bool) → ((c : ℕ) → 128 ≤ c → passes c ≡ true) → (text : List ℕ) (byte : ℕ) (b : Bool) → b ≡ passes byte → FrontIs text byte
+    → b ≡ true → BeginsBy passes text
+begins_by passes high text byte b says f h = go text f.first
   where
-    high : byte < 128 ⊎ (128 ≤ byte) → none_of stops f.c ≡ true
-    high (inl small) = let P : ℕ → Type 0 = λ x. none_of stops x ≡ true in subst P (f.ascii small) (sym says ∙ h)
-    high (inr large) = none-high stops low f.c (f.other large)
+    front : byte < 128 ⊎ (128 ≤ byte) → passes f.c ≡ true
+    front (inl small) = let P : ℕ → Type 0 = λ x. passes x ≡ true in subst P (f.ascii small) (sym says ∙ h)
+    front (inr large) = high f.c (f.other large)
 
-    go : (text : List ℕ) → first text ≡ Some f.c → BeginsBy (none_of stops) text
+    go : (text : List ℕ) → first text ≡ Some f.c → BeginsBy passes text
     go [] e = cc
-    go (x ∷ xs) e = let same : x ≡ f.c = cc in record { c = x; rest = xs; begins = refl; passed = (let P : ℕ → Type 0 = λ y. none_of stops y ≡ true in subst P (sym same) (high (cases_lt byte 128))) }
+    go (x ∷ xs) e = let same : x ≡ f.c = cc in record { c = x; rest = xs; begins = refl; passed = (let P : ℕ → Type 0 = λ y. passes y ≡ true in subst P (sym same) (front (cases_lt byte 128))) }
 
 -- the same where other marks were looked for first
 pub single_later : (names : List Reference) (reading new : Reading) (name : List ℕ) (old looked mid last : Unread) (w : Way) → looked ≡ old → Reads looked 39 mid

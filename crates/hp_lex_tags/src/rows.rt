@@ -120,9 +120,8 @@ pub fn before_attribute_name(
     ensures { IfOk result (Follows (rows.before_attribute_name machine.old symbol) tokens.old machine.new tokens.new) }
 {
     match symbol {
-        None => Ok(again(machine, State::AfterAttributeName)),
         Some(c) if is_blank(c) => Ok(Reads::Consume),
-        Some('/' | '>') => Ok(again(machine, State::AfterAttributeName)),
+        None | Some('/' | '>') => Ok(again(machine, State::AfterAttributeName)),
         Some('=') => {
             machine.begin_attribute(alloc)?;
             machine.put(alloc, Part::AttributeName, '=')?;
@@ -144,9 +143,8 @@ pub fn attribute_name(
     ensures { IfOk result (Follows (rows.attribute_name machine.old symbol) tokens.old machine.new tokens.new) }
 {
     match symbol {
-        None => Ok(again(machine, State::AfterAttributeName)),
         Some(c) if is_blank(c) => Ok(again(machine, State::AfterAttributeName)),
-        Some('/' | '>') => Ok(again(machine, State::AfterAttributeName)),
+        None | Some('/' | '>') => Ok(again(machine, State::AfterAttributeName)),
         Some('=') => Ok(go(machine, State::BeforeAttributeValue)),
         Some(c) => put_lowered(alloc, machine, Part::AttributeName, c),
     }
@@ -182,12 +180,11 @@ pub fn before_attribute_value(
     ensures { IfOk result (Follows (rows.before_attribute_value machine.old symbol) tokens.old machine.new tokens.new) }
 {
     match symbol {
-        None => Ok(again(machine, State::AttributeValueUnquoted)),
         Some(c) if is_blank(c) => Ok(Reads::Consume),
         Some('"') => Ok(go(machine, State::AttributeValueDoubleQuoted)),
         Some('\'') => Ok(go(machine, State::AttributeValueSingleQuoted)),
         Some('>') => emitted(alloc, machine, State::Data, tokens),
-        Some(_) => Ok(again(machine, State::AttributeValueUnquoted)),
+        None | Some(_) => Ok(again(machine, State::AttributeValueUnquoted)),
     }
 }
 

@@ -10,7 +10,7 @@ ghost use Rattle.hp_tokens.specs.Advancing.{held, lexing};
 ghost use Rattle.hp_lex_tags.specs.Tags.{TagTurned};
 ghost use Rattle.hp_lex_tags.specs.Straight.{Reading, tagging, tag_of, ends_part, is_between, behind_blanks as spec_behind_blanks, IsQuoted, BeginsBy, NameTaken, ValueGrows, ValueKept, Arrives, Continues, TagGrows, TagRead};
 ghost use Rattle.hp_lex_tags.specs.declared.straight.Way.TheVariants as ways;
-ghost use Rattle.hp_tokens.specs.Plain.{none_of, tag_name_stops, attribute_name_stops, unquoted_stops};
+ghost use Rattle.hp_tokens.specs.Plain.{none_of, tag_name_stops, attribute_name_stops};
 ghost use Rattle.hp_tokens.specs.PlainLaws.{none-high};
 
 use crate::attribute_name::AttributeNameBytes;
@@ -70,6 +70,17 @@ fn keep(
         return Ok(());
     }
     add(alloc, attributes, Attribute { space, name, value })
+}
+
+/// Whether the next code point begins a run.
+#[inline]
+fn begins<R: Run>(input: &Cursor<'_>) -> bool
+    ensures { result ≡ true → BeginsBy R.passes input.now.text }
+{
+    match input.front() {
+        Some(byte) => R::passes(byte),
+        None => false,
+    }
 }
 
 /// What ends the tag, if it comes next: `>`, or `/` and `>`.
@@ -133,7 +144,7 @@ fn behind_quoted(input: &mut Cursor<'_>) -> Way
     if input.skip_blanks() {
         return Way::At(State::BeforeAttributeName);
     }
-    if begins_name(input) {
+    if begins::<AttributeNameBytes>(input) {
         return Way::At(State::BeforeAttributeName);
     }
     close(input, State::AfterAttributeValueQuoted)
@@ -240,17 +251,6 @@ fn read_unquoted(
     Ok(behind_unquoted(input))
 }
 
-/// Whether the next code point begins a value without quotes, where it is no quotation mark.
-#[inline]
-fn begins_value(input: &Cursor<'_>) -> bool
-    ensures { result ≡ true → BeginsBy (none_of unquoted_stops) input.now.text }
-{
-    match input.front() {
-        Some(byte) => UnquotedText::passes(byte),
-        None => false,
-    }
-}
-
 /// The value of an attribute, behind its `=`, where it is not in double quotes.
 #[inline(never)]
 fn read_other_value(
@@ -267,7 +267,7 @@ fn read_other_value(
         let state = State::AttributeValueSingleQuoted;
         return read_quoted::<SingleQuotedText>(alloc, names, attributes, name, input, b'\'', state);
     }
-    if begins_value(input) {
+    if begins::<UnquotedText>(input) {
         return read_unquoted(alloc, names, attributes, name, input);
     }
     keep(alloc, attributes, name, Text::new())?;
@@ -290,17 +290,6 @@ fn read_value(
         return read_quoted::<DoubleQuotedText>(alloc, names, attributes, name, input, b'"', state);
     }
     read_other_value(alloc, names, attributes, name, input)
-}
-
-/// Whether the next code point begins the name of an attribute.
-#[inline]
-fn begins_name(input: &Cursor<'_>) -> bool
-    ensures { result ≡ true → BeginsBy (none_of attribute_name_stops) input.now.text }
-{
-    match input.front() {
-        Some(byte) => AttributeNameBytes::passes(byte),
-        None => false,
-    }
 }
 
 /// An attribute, whose name begins here.
@@ -337,7 +326,7 @@ fn read_attributes(
     ensures { IfOk result (TagGrows names.now state attributes.old input.old attributes.new input.new) }
 {
     let mut now = state;
-    'attributes: while begins_name(input) {
+    'attributes: while begins::<AttributeNameBytes>(input) {
         let way = read_attribute(alloc, names, attributes, input, now)?;
         match way {
             Way::At(next) => now = next,

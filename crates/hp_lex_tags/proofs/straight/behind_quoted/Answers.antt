@@ -16,11 +16,11 @@ returns-then-skip_blanks c = λ names reading.
     subst P (c.if-take_byte.ensures.left refl).0
     (continues names c.take_byte.new.self c.skip_blanks.new.self reading (way.At BeforeAttributeName) (behind_some AfterAttributeValueQuoted BeforeAttributeName reading c.take_byte.new.self c.skip_blanks.new.self refl c.if-skip_blanks.ensures.run refl))
 
-pub returns-then-begins_name : goal.returns-then-begins_name
-returns-then-begins_name c = λ names reading.
+pub returns-then-begins : goal.returns-then-begins
+returns-then-begins c = λ names reading.
     let P : Unread → Type 0 = λ u. Continues names u reading c.skip_blanks.new.self (way.At BeforeAttributeName) in
     subst P (c.if-take_byte.ensures.left refl).0
-    (next_at_once names reading c.take_byte.new.self c.skip_blanks.new.self c.skip_blanks.new.self (c.if-begins_name.ensures refl)
+    (next_at_once names reading c.take_byte.new.self c.skip_blanks.new.self c.skip_blanks.new.self (c.if-begins.ensures refl)
     (none_skipped c.take_byte.new.self c.skip_blanks.new.self c.if-skip_blanks.ensures.run) refl)
 
 pub returns : goal.returns

@@ -15,12 +15,12 @@ returns-then-take_byte c =
     refl (c.if-take_byte.ensures.taken refl))
     kept)
 
-pub returns-then-begins_value : goal.returns-then-begins_value
-returns-then-begins_value c =
+pub returns-then-begins : goal.returns-then-begins
+returns-then-begins c =
     IfOk_then c.read_unquoted.result c.read_unquoted.ensures (λ way kept. value_on c.args.names.now BeforeAttributeValue AttributeValueUnquoted c.args.name [] [] c.args.attributes.now c.read_unquoted.new.attributes c.args.input.now c.take_byte.new.self c.read_unquoted.new.input way
     (λ reading to. unquoted_later c.args.names.now reading to c.args.name c.args.input.now c.args.input.now c.take_byte.new.self c.read_unquoted.new.input way
     refl (c.if-take_byte.ensures.left refl).0 c.requires.other (c.if-take_byte.ensures.left refl).1
-    (c.if-begins_value.ensures refl))
+    (c.if-begins.ensures refl))
     kept)
 
 pub returns : goal.returns
