@@ -2,6 +2,7 @@
 use Rattle.std.proofs.Common.{◌≡◌, ℕ, suc, ◌-◌, ◌<◌, true, false, List, [], ◌∷◌, Option, Some, None, Result, Ok, Err, refl, ap, sym, subst, ◌∙◌, arith}
 use Rattle.std.specs.Prelude.{Bool, if◌then◌else◌, not, ◌||◌, ◌&&◌}
 use Rattle.std.specs.List.{list_all}
+use Rattle.std.specs.Result.{IsErrAnd}
 use Rattle.hp_elements.specs.declared.token.CharClass.{CharClass}
 use Rattle.hp_elements.specs.declared.token.CharClass.TheVariants.{White, Nul, Other}
 use Rattle.hp_elements.specs.declared.token.Kind.TheVariants as kind
@@ -141,6 +142,24 @@ pub both_carried : (result : Result (Unit {0}) Refusal) (old mid new : Sight) (p
 both_carried (Ok u) old mid new plan next run k = runs_then next run k
 both_carried (Err (Crossed crossing)) old mid new plan next run k = runs_then next run k
 both_carried (Err NoMemory) old mid new plan next run k = tt
+
+-- the text couldn't go there
+pub put_failed : (result : Result (Unit {0}) Refusal) (refused : Refusal) (old new : Sight) (class : CharClass) (text : List ℕ) → IsErrAnd result (λ e. e ≡ refused) → Carries (Err refused) old new (put_plan false (child.Text text)) → Carries result old new (put_text_plan class text)
+put_failed (Ok u) refused old new class text is run = absurd is
+put_failed (Err e) refused old new class text is run =
+    let P : Refusal → Type 0 = λ x. Carries (Err x) old new (put_text_plan class text) in
+    subst P (sym is) (by_class class)
+  where
+    by_class : (class : CharClass) → Carries (Err refused) old new (put_text_plan class text)
+    by_class White = run
+    by_class Nul = run
+    by_class Other = first_refused refused old new (put_plan false (child.Text text)) frameset_plan run
+
+-- it went there, and the rules do nothing behind it
+pub put_done : (a b : Heard) (class : CharClass) (text : List ℕ) (v w : Split) → (class ≡ Other → ⊥) → Runs a b (put_plan false (child.Text text) v) (Ok w) → Runs a b (put_text_plan class text v) (Ok w)
+put_done a b White text v w other run = run
+put_done a b Nul text v w other run = run
+put_done a b Other text v w other run = absurd (other refl)
 
 -- a text that is handled as one run
 run_or_white : (white : Bool) (text : List ℕ) → is_run (run_of white text) ≡ true

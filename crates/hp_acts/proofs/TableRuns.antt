@@ -2,6 +2,7 @@
 use Rattle.std.proofs.Common.{◌≡◌, ℕ, suc, ◌-◌, ◌<◌, Bool, true, false, List, [], ◌∷◌, Option, Some, None, Result, Ok, Err, refl, ap, sym, subst, ◌∙◌, arith}
 use Rattle.std.proofs.lemmas.Bool.{and_parts}
 use Rattle.std.specs.Prelude.{if◌then◌else◌}
+use Rattle.std.specs.Result.{IsErrAnd}
 use Rattle.hp_elements.specs.Rules.{acts_for}
 use Rattle.hp_elements.specs.Tokens.{kind_of}
 use Rattle.hp_elements.specs.declared.act.Act.{Act}
@@ -233,8 +234,13 @@ end_done result old mid new t most h few run k =
     (end_turns (most_turns old.split) t (from old.split) h (omega arith))
     (handles_then result old mid new end_plan (turns_from (most_turns old.split - 1) t) run (subst P few k))
 
-pub end_refused : (refused : Refusal) (old new : Sight) (t : Token) → EndsText old.split t → Carries (Err refused) old new end_plan → Handles (Err refused) old new (all_turns_plan t)
+end_refused : (refused : Refusal) (old new : Sight) (t : Token) → EndsText old.split t → Carries (Err refused) old new end_plan → Handles (Err refused) old new (all_turns_plan t)
 end_refused (Crossed crossing) old new t h run =
     let P : Plan Reached → Type 0 = λ plan. Runs old.heard new.heard plan (Err crossing) in
     subst P (sym (end_turns (most_turns old.split) t (from old.split) h (omega arith))) (runs_crosses (turns_from (most_turns old.split - 1) t) run)
 end_refused NoMemory old new t h run = tt
+
+-- the characters couldn't go there
+pub end_failed : (result : Result Handled Refusal) (refused : Refusal) (old new : Sight) (t : Token) → EndsText old.split t → IsErrAnd result (λ e. e ≡ refused) → Carries (Err refused) old new end_plan → Handles result old new (all_turns_plan t)
+end_failed (Ok handled) refused old new t h is run = absurd is
+end_failed (Err e) refused old new t h is run = let P : Refusal → Type 0 = λ x. Handles (Err x) old new (all_turns_plan t) in subst P (sym is) (end_refused refused old new t h run)

@@ -39,8 +39,8 @@ use Rattle.hp_views.specs.StackPlans.{in_scope_plan, pop_plan, pop_to_plan, thro
 use Rattle.hp_views.specs.View.{Sight, Carries, Finds}
 use Rattle.hp_model.specs.Texts.{has_html_top}
 use Rattle.hp_model.specs.Tokens.{bare, name_of}
-use Rattle.hp_acts.specs.HandlePlans.{all_turns_plan, most_turns, turns_plan, where_again}
-use Rattle.hp_acts.specs.Handling.{Handles, nothing_asked}
+use Rattle.hp_acts.specs.HandlePlans.{all_turns_plan, handle_plan, handle_rest, most_turns, turns_plan, where_again, without_line_feed}
+use Rattle.hp_acts.specs.Handling.{Handles, nothing_asked, unskipped}
 use Rattle.hp_acts.specs.RowPlans.{Reached, Came, left, acts_plan, changed, dispatched, is_early, mode_plan, nothing_more, rules_plan, turn_plan, where_left}
 use Rattle.hp_acts.specs.Plans.{implied_but_plan}
 use Rattle.hp_acts.specs.TableText.{turns_from}
@@ -252,6 +252,10 @@ handles_as (Err NoMemory) old new p q e k = tt
 pub in_all_turns : (result : Result Handled Refusal) (old new : Sight) (t : Token) (most : ℕ) → most ≡ most_turns old.split → Handles result old new (turns_from most t) → Handles result old new (all_turns_plan t)
 in_all_turns result old new t most e k = handles_as result old new (turns_from most t) (all_turns_plan t) (ap (λ n. turns_from n t old.split) (sym e)) k
 
+-- no line feed is to be dropped
+pub none_dropped : (result : Result Handled Refusal) (old new : Sight) (t : Token) → old.split.change.skip_lf ≡ false → Handles result old new (all_turns_plan t) → Handles result old new (handle_plan t)
+none_dropped result old new t h k = handles_as result old new (all_turns_plan t) (handle_plan t) (ap (λ b. if b then handle_rest (without_line_feed t) (unskipped old.split) else all_turns_plan t old.split) h) k
+
 -- a plan was carried out, and nothing is asked
 pub plan_done : (old new : Sight) (p : Split → Plan Split) (q : Split → Plan Reached) → q old.split ≡ followed_by (p old.split) done_with → Carries (Ok tt) old new p → Handles (Ok nothing_asked) old new q
 plan_done old new p q e run =
@@ -282,6 +286,10 @@ carries_failed (Err e) refusal old new p q is k = let P : Refusal → Type 0 = �
 pub carries_as : (result : Result (Unit {0}) Refusal) (old new : Sight) (p q : Split → Plan Split) → p ≡ q → Carries result old new p → Carries result old new q
 carries_as result old new p q e k = let P : (Split → Plan Split) → Type 0 = λ plan. Carries result old new plan in subst P e k
 
+-- the plan of a row for a token, of both of which it was found out what they are
+pub carries_row : (result : Result (Unit {0}) Refusal) (old new : Sight) (row found : UsualRow) (t read : Token) → row ≡ found → t ≡ read → Carries result old new (usual_plan found read) → Carries result old new (usual_plan row t)
+carries_row result old new row found t read is same k = carries_as result old new (usual_plan found read) (usual_plan row t) (ap (usual_plan found) (sym same) ∙ ap (λ r. usual_plan r t) (sym is)) k
+
 -- what was found out, and then a call
 pub carries_then : {X : Type 0} (result : Result (Unit {0}) Refusal) (old mid new : Sight) (plan : Split → Plan X) (next : Split → X → Plan Split) (x : X)
     → Finds old mid plan x → Carries result mid new (λ v. next v x) → Carries result old new (λ v. followed_by (plan v) (next v))
@@ -296,9 +304,9 @@ carries_then (Err NoMemory) old mid new plan next x f k = tt
 pub usual_acts_of : (acts other : List Act) (o : Option UsualRow) → acts ≡ other → IfSome o (λ row. acts ≡ usual_acts row) → IfSome o (λ row. other ≡ usual_acts row)
 usual_acts_of acts other o e h = subst (λ xs. IfSome o (λ row. xs ≡ usual_acts row)) e h
 
-pub usual_there : (v : Split) (t : Token) (o : Option UsualRow) → has_html_top v.change.stack ≡ true → IfSome o (λ row. HasRow v.change.mode t row) → IfSome o (λ row. IsUsual v t row)
-usual_there v t None top h = tt
-usual_there v t (Some row) top h = record { place = h; top = top }
+pub usual_there : (v : Split) (m : Mode) (t : Token) (o : Option UsualRow) → has_html_top v.change.stack ≡ true → v.change.mode ≡ m → IfSome o (λ row. HasRow m t row) → IfSome o (λ row. IsUsual v t row)
+usual_there v m t None top is h = tt
+usual_there v m t (Some row) top is h = record { place = subst (λ n. HasRow n t row) (sym is) h; top = top }
 
 -- a row of a cell: its own, or that of the body
 pub own_cell : (t : Token) (o : Option UsualRow) → IfSome o (λ row. HasIn in_cell t row) → IfSome o (λ row. HasRow mode.InCell t row)

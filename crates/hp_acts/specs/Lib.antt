@@ -1,4 +1,3 @@
-pub mod Hidden
 pub mod Rows
 pub mod Spending
 pub mod Plans

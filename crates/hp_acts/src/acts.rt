@@ -11,17 +11,16 @@ use crate::characters::{
     put_doctype, put_replaced, quirks_of_doctype,
 };
 use crate::inserts::{
-    add_to_body, add_to_first, insert, insert_bare, insert_html, insert_like_current,
-    insert_named_foreign,
+    add_to_body, add_to_first, insert, insert_html, insert_like_current, insert_named_foreign,
 };
-use crate::questions::{fails, holds};
+use crate::questions::holds;
 use crate::stack_acts::{
     adopt_named, append_current, implied_except, through, through_foreign, walk,
 };
 use crate::token_parts::{Spending, bare};
 use hp_adoption::{close_link, flush, reconstruct};
 use hp_control::{Below, Refusal};
-use hp_elements::{Act, Kinds, Known, Token};
+use hp_elements::{Act, Kinds, Known, Point, Token};
 use hp_foreign::pop_to_point;
 use hp_views::View;
 use std::alloc::Global;
@@ -43,7 +42,10 @@ pub fn carry<'p, B: Below>(
 {
     match act {
         Act::If { test, .. } => holds(alloc, view, token, test),
-        Act::Unless { test, .. } => fails(alloc, view, token, test),
+        Act::Unless { test, .. } => {
+            let holds = holds(alloc, view, token, test)?;
+            Ok(!holds)
+        }
         _ => {
             carry_out(alloc, view, act, token, spending, fostering)?;
             Ok(true)
@@ -70,7 +72,7 @@ pub(crate) fn carry_out<'p, B: Below>(
         Act::Reconstruct => reconstruct(alloc, view, fostering),
         Act::FramesetNotOk => view.frameset_not_ok(alloc),
         Act::Insert => insert(alloc, view, token, spending, fostering),
-        Act::InsertBare(name) => insert_bare(alloc, view, fostering, name),
+        Act::InsertBare(name) => view.insert(alloc, fostering, bare(name), Point::No),
         Act::InsertForeign => insert_named_foreign(alloc, view, token, spending, fostering),
         Act::InsertAsCurrent => insert_like_current(alloc, view, token, spending, fostering),
         Act::InsertHtml => insert_html(alloc, view, token, spending),

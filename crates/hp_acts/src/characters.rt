@@ -1,6 +1,5 @@
 //! The acts that put characters, comments and the doctype into the tree.
 ghost use Rattle.std.specs.Prelude.{◌≡◌, IfOk, OnOk};
-ghost use Rattle.hp_elements.specs.Quirks.{gives_quirks as spec_gives_quirks};
 ghost use Rattle.hp_control.specs.declared.edit.Child.TheVariants as child;
 ghost use Rattle.hp_views.specs.FieldPlans.{append_pending_plan};
 ghost use Rattle.hp_views.specs.PlacePlans.{put_plan, put_document_plan, put_first_plan};
@@ -174,17 +173,7 @@ pub(crate) fn put_doctype<'p, B: Below>(
     view.put_into_document(alloc, Child::Doctype(doctype))
 }
 
-/// Whether the doctype puts the page into quirks mode; another token does.
-fn gives_quirks(token: &Token<'_>) -> bool
-    ensures { result ≡ spec_gives_quirks (parts_of token.now) }
-{
-    match token {
-        Token::Doctype { doctype } => doctype.parts().gives_quirks(),
-        _ => true,
-    }
-}
-
-/// Puts the page into quirks mode where the doctype asks for it.
+/// Puts the page into quirks mode where the doctype asks for it; another token does.
 #[inline(never)]
 pub(crate) fn quirks_of_doctype<'p, B: Below>(
     alloc: Global,
@@ -193,9 +182,8 @@ pub(crate) fn quirks_of_doctype<'p, B: Below>(
 ) -> Result<(), Refusal>
     ensures plan { Carries result (sight B.heard view.old) (sight B.heard view.new) (quirks_of_plan (parts_of token.now)) }
 {
-    if gives_quirks(token) {
-        view.set_quirks(alloc)
-    } else {
-        Ok(())
+    match token {
+        Token::Doctype { doctype } if !doctype.parts().gives_quirks() => Ok(()),
+        _ => view.set_quirks(alloc),
     }
 }

@@ -1,32 +1,25 @@
 //! The end tags of blocks, of list items, of terms and their descriptions, and of paragraphs (13.2.6.4.7). Most often the current
 //! node is what ends, and is popped at once.
 ghost use Rattle.std.specs.Prelude.{◌≡◌, ◌&&◌, true, not};
-ghost use Rattle.std.specs.Str.{bytes_eq};
 ghost use Rattle.hp_elements.specs.Names.{known_of, text_of};
 ghost use Rattle.hp_elements.specs.declared.kinds.Kinds.TheVariants as kinds;
 ghost use Rattle.hp_control.specs.KindTests.{within};
 ghost use Rattle.hp_views.specs.View.{sight, Carries};
 ghost use Rattle.hp_acts.specs.Plans.{implied_but_plan};
 ghost use Rattle.hp_acts.specs.TopEnds.{EndsDescription, ends_top};
-ghost use Rattle.hp_acts.specs.Usual.{block_end_plan, description_end_plan, item_end_by, item_end_plan, paragraph_end_by, paragraph_end_plan};
+ghost use Rattle.hp_acts.specs.Usual.{block_end_plan, description_end_plan, item_end_plan, paragraph_end_plan};
 
-use crate::inserts::insert_bare;
+use crate::token_parts::bare;
 use hp_control::{Below, OpenElement, OpenElements, Refusal, is_html, is_within};
-use hp_elements::{ElementName, Kinds, Known, Name, Scope, SetName};
+use hp_elements::{ElementName, Kinds, Known, Name, Point, Scope, SetName};
 use hp_views::View;
 use std::alloc::Global;
-
-fn same_name(name: &Name, other: &Name) -> bool
-    ensures { result ≡ bytes_eq name.now other.now }
-{
-    name.same(other)
-}
 
 /// Whether the element is an HTML one of that name, and not of the set.
 fn ends(element: &OpenElement, name: &Name, passed: SetName) -> bool
     ensures { result ≡ (within (kinds.Html name.now) element.now && not (within (kinds.Set passed) element.now)) }
 {
-    is_html(element) && same_name(name, &element.name) && !is_within(&Kinds::Set(passed), element)
+    is_html(element) && name.same(&element.name) && !is_within(&Kinds::Set(passed), element)
 }
 
 /// Whether the current node is an own HTML element of the name, and stays where those of the set are popped.
@@ -101,31 +94,18 @@ pub(crate) fn close_item<'p, B: Below>(alloc: Global, view: &mut View<'p, B>) ->
     close_item_any(alloc, view)
 }
 
-/// The same where it may not be the current node.
+/// The same where it may not be the current node: it is closed with what its end implies, where one is in scope.
 #[inline(never)]
 fn close_item_any<'p, B: Below>(alloc: Global, view: &mut View<'p, B>) -> Result<(), Refusal>
     ensures { Carries result (sight B.heard view.old) (sight B.heard view.new) item_end_plan }
 {
     let goals = Kinds::Html(Name::of_known(Known::LI));
     let is_open = view.in_scope(alloc, Scope::ListItem, goals)?;
-    end_item(alloc, view, is_open)
-}
-
-/// Closes the list item with what its end implies, where one is in scope.
-#[inline(always)]
-fn end_item<'p, B: Below>(
-    alloc: Global,
-    view: &mut View<'p, B>,
-    is_open: bool,
-) -> Result<(), Refusal>
-    ensures { Carries result (sight B.heard view.old) (sight B.heard view.new) (λ v. item_end_by v is_open) }
-{
-    if is_open {
-        view.implied_except(alloc, Known::LI)?;
-        view.through_named(alloc, Name::of_known(Known::LI))
-    } else {
-        Ok(())
+    if !is_open {
+        return Ok(());
     }
+    view.implied_except(alloc, Known::LI)?;
+    view.through_named(alloc, Name::of_known(Known::LI))
 }
 
 /// Ends a term or its description.
@@ -191,29 +171,16 @@ pub(crate) fn close_paragraph<'p, B: Below>(
     close_paragraph_any(alloc, view)
 }
 
-/// The same where it may not be the current node.
+/// The same where it may not be the current node; where none is in scope, an empty one stands there.
 #[inline(never)]
 fn close_paragraph_any<'p, B: Below>(alloc: Global, view: &mut View<'p, B>) -> Result<(), Refusal>
     ensures { Carries result (sight B.heard view.old) (sight B.heard view.new) paragraph_end_plan }
 {
     let goals = Kinds::Html(Name::of_known(Known::P));
     let is_open = view.in_scope(alloc, Scope::Button, goals)?;
-    end_paragraph(alloc, view, is_open)
-}
-
-/// Closes the paragraph; where none is in scope, an empty one stands there.
-#[inline(always)]
-fn end_paragraph<'p, B: Below>(
-    alloc: Global,
-    view: &mut View<'p, B>,
-    is_open: bool,
-) -> Result<(), Refusal>
-    ensures { Carries result (sight B.heard view.old) (sight B.heard view.new) (λ v. paragraph_end_by v is_open) }
-{
     if is_open {
-        view.close_paragraph(alloc)
-    } else {
-        insert_bare(alloc, view, false, Known::P)?;
-        view.close_paragraph(alloc)
+        return view.close_paragraph(alloc);
     }
+    view.insert(alloc, false, bare(Known::P), Point::No)?;
+    view.close_paragraph(alloc)
 }

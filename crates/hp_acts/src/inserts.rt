@@ -1,16 +1,15 @@
 //! The acts that insert an element.
 ghost use Rattle.std.specs.Prelude.{◌≡◌, OnOk};
-ghost use Rattle.hp_elements.specs.Names.{text_of};
 ghost use Rattle.hp_views.specs.PlacePlans.{insert_plan, insert_document_plan, add_first_plan, add_body_plan};
 ghost use Rattle.hp_views.specs.View.{sight, Carries};
 ghost use Rattle.hp_foreign.specs.Plans.{insert_foreign_plan, insert_as_current_plan};
-ghost use Rattle.hp_model.specs.Tokens.{bare as spec_bare, is_self_closing as spec_is_self_closing, tag_of};
+ghost use Rattle.hp_model.specs.Tokens.{is_self_closing as spec_is_self_closing, tag_of};
 ghost use Rattle.hp_acts.specs.Spending.{html_tag, IsLeftOf};
 ghost use Rattle.hp_acts.specs.declared.token_parts.Spending.TheVariants.{Copies};
 
-use crate::token_parts::{Spending, bare, is_self_closing, take_attributes, take_tag};
+use crate::token_parts::{Spending, is_self_closing, take_attributes, take_tag};
 use hp_control::{Below, Refusal};
-use hp_elements::{Known, Point, Token};
+use hp_elements::{Point, Token};
 use hp_foreign::{insert_as_current, insert_foreign};
 use hp_views::View;
 use std::alloc::Global;
@@ -29,19 +28,6 @@ pub(crate) fn insert<'p, B: Below>(
 {
     let tag = take_tag(alloc, token, spending)?;
     view.insert(alloc, fostering, tag, Point::No)
-}
-
-/// Inserts an HTML element of that name without attributes.
-#[inline(never)]
-pub(crate) fn insert_bare<'p, B: Below>(
-    alloc: Global,
-    view: &mut View<'p, B>,
-    fostering: bool,
-    name: Known,
-) -> Result<(), Refusal>
-    ensures plan { Carries result (sight B.heard view.old) (sight B.heard view.new) (insert_plan fostering (spec_bare (text_of name))) }
-{
-    view.insert(alloc, fostering, bare(name), Point::No)
 }
 
 /// Inserts an element of the namespace that the token's name says.

@@ -4,7 +4,7 @@ ghost use Rattle.std.specs.Prelude.{◌≡◌, true};
 ghost use Rattle.hp_views.specs.View.{sight, split_of, Carries};
 ghost use Rattle.hp_acts.specs.HandlePlans.{all_turns_plan, handle_plan};
 ghost use Rattle.hp_acts.specs.Handling.{Handles};
-ghost use Rattle.hp_acts.specs.Plain.{IsPlain, body_text_plan, is_run, put_text_plan, run_plan, takes_text, text_plan};
+ghost use Rattle.hp_acts.specs.Plain.{IsPlain, body_text_plan, is_run, run_plan, takes_text, text_plan};
 ghost use Rattle.hp_model.specs.Texts.{as_run, has_html_top, is_text_mode, is_white, white_or_other};
 ghost use Rattle.std.specs.List.{list_all};
 ghost use Rattle.std.specs.Str.{chars};
@@ -106,27 +106,11 @@ fn put_in_body<'p, B: Below>(
 ) -> Result<(), Refusal>
     ensures { Carries result (sight B.heard view.old) (sight B.heard view.new) (body_text_plan class text.entry) }
 {
-    match reconstruct(alloc, view, false) {
-        Ok(()) => put_text(alloc, view, class, text),
-        Err(refused) => Err(refused),
-    }
-}
-
-fn put_text<'p, B: Below>(
-    alloc: Global,
-    view: &mut View<'p, B>,
-    class: CharClass,
-    text: Text<'p>,
-) -> Result<(), Refusal>
-    ensures { Carries result (sight B.heard view.old) (sight B.heard view.new) (put_text_plan class text.entry) }
-{
+    reconstruct(alloc, view, false)?;
+    view.put(alloc, false, Child::Text(text))?;
     match class {
-        CharClass::Other => {
-            view.put(alloc, false, Child::Text(text))?;
-            view.frameset_not_ok(alloc)
-        }
-        CharClass::White => view.put(alloc, false, Child::Text(text)),
-        CharClass::Nul => view.put(alloc, false, Child::Text(text)),
+        CharClass::Other => view.frameset_not_ok(alloc),
+        _ => Ok(()),
     }
 }
 

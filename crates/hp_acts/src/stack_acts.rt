@@ -13,7 +13,7 @@ ghost use Rattle.hp_acts.specs.Plans.{implied_but_plan};
 ghost use Rattle.hp_acts.specs.Spending.{IsLeftOf, html_tag};
 ghost use Rattle.hp_acts.specs.declared.token_parts.Spending.TheVariants.{Copies};
 
-use crate::token_parts::{Spending, html_of, name_of, take_tag};
+use crate::token_parts::{Spending, name_of, take_tag};
 use hp_adoption::{adopt, append_to_list};
 use hp_control::{Below, Refusal};
 use hp_elements::{Kinds, Token, Which};
@@ -29,8 +29,8 @@ pub(crate) fn through<'p, B: Below>(
 ) -> Result<(), Refusal>
     ensures plan { Carries result (sight B.heard view.old) (sight B.heard view.new) (through_plan (kinds.Html (name_for token.now which)) kinds.Nothing) }
 {
-    let goals = html_of(alloc, token, which)?;
-    view.through(alloc, goals, Kinds::Nothing)
+    let name = name_of(alloc, token, which)?;
+    view.through(alloc, Kinds::Html(name), Kinds::Nothing)
 }
 
 /// Pops up to and with the nearest foreign element of the token's name.

@@ -1,11 +1,10 @@
 //! Characters between the parts of a table, and the token behind them, handled without the table of rows: a short way to what it
 //! says (13.2.6.4.9, 13.2.6.4.10, 13.2.6.4.13, 13.2.6.4.14).
-ghost use Rattle.std.specs.Prelude.{◌≡◌, ◌<◌, true};
-ghost use Rattle.hp_adoption.specs.FlushPlans.{flush_plan};
-ghost use Rattle.hp_views.specs.View.{sight, split_of, Carries};
+ghost use Rattle.std.specs.Prelude.{◌≡◌, true};
+ghost use Rattle.hp_views.specs.View.{sight, split_of};
 ghost use Rattle.hp_acts.specs.HandlePlans.{all_turns_plan};
 ghost use Rattle.hp_acts.specs.Handling.{Handles};
-ghost use Rattle.hp_acts.specs.TableText.{BeginsText, ContinuesText, EndsText, begin_plan, end_plan, is_characters, is_part_mode, is_waiting, turns_from, waits, waits_at};
+ghost use Rattle.hp_acts.specs.TableText.{BeginsText, ContinuesText, EndsText, is_characters, waits_at};
 
 use crate::characters::append_pending;
 use crate::plain::{is_in_html, is_plain, is_run, put_plain};
@@ -13,43 +12,20 @@ use crate::token_parts::taken;
 use crate::turns::{Handled, NOTHING, most_turns, take_all_turns, take_turns};
 use crate::usual::{handle_usual, usual_row};
 use hp_adoption::flush;
-use hp_control::{Below, OpenElement, OpenElements, Refusal, is_html, is_within};
+use hp_control::{Below, OpenElements, Refusal, is_html, is_within};
 use hp_elements::{Kinds, Mode, SetName, Text, Token};
 use hp_views::View;
 use std::alloc::Global;
 
-/// Whether the rows of the mode use the rules of tables for characters.
-fn is_part_mode(mode: Mode) -> bool
-    ensures { result ≡ is_part_mode mode }
-{
-    match mode {
-        Mode::InTable | Mode::InTableBody | Mode::InRow => true,
-        _ => false,
-    }
-}
-
-/// Whether characters wait in the mode.
-fn is_waiting(mode: Mode) -> bool
-    ensures { result ≡ is_waiting mode }
-{
-    match mode {
-        Mode::InTableText => true,
-        _ => false,
-    }
-}
-
-/// Whether characters wait at the element, an HTML one.
-fn waits(element: &OpenElement) -> bool
-    ensures { result ≡ waits element.now }
-{
-    is_html(element) && is_within(&Kinds::Set(SetName::TableTextParents), element)
-}
-
-/// Whether characters wait at the current node, an own element.
+/// Whether characters wait at the current node, an own HTML element.
 fn waits_at(stack: &OpenElements) -> bool
     ensures { result ≡ waits_at stack.now }
 {
-    !stack.is_empty() && waits(stack.at(0))
+    if stack.is_empty() {
+        return false;
+    }
+    let top = stack.at(0);
+    is_html(top) && is_within(&Kinds::Set(SetName::TableTextParents), top)
 }
 
 /// Whether the token is of characters.
@@ -66,24 +42,32 @@ fn is_characters(token: &Token<'_>) -> bool
 fn begins<'p, B: Below>(view: &View<'p, B>, token: &Token<'p>) -> bool
     ensures { result ≡ true → BeginsText (split_of view.now) token.now }
 {
-    is_run(token)
-        && is_part_mode(view.change.mode)
-        && !view.older_text
-        && waits_at(&view.change.stack)
+    match view.change.mode {
+        Mode::InTable | Mode::InTableBody | Mode::InRow => {
+            is_run(token) && !view.older_text && waits_at(&view.change.stack)
+        }
+        _ => false,
+    }
 }
 
 /// Whether the token is a run of characters that waits behind others.
 fn continues<'p, B: Below>(view: &View<'p, B>, token: &Token<'p>) -> bool
     ensures { result ≡ true → ContinuesText (split_of view.now) token.now }
 {
-    is_run(token) && is_waiting(view.change.mode) && is_in_html(&view.change.stack)
+    match view.change.mode {
+        Mode::InTableText => is_run(token) && is_in_html(&view.change.stack),
+        _ => false,
+    }
 }
 
 /// Whether the token ends the characters that wait.
 fn ends<'p, B: Below>(view: &View<'p, B>, token: &Token<'p>) -> bool
     ensures { result ≡ true → EndsText (split_of view.now) token.now }
 {
-    !is_characters(token) && is_waiting(view.change.mode) && is_in_html(&view.change.stack)
+    match view.change.mode {
+        Mode::InTableText => !is_characters(token) && is_in_html(&view.change.stack),
+        _ => false,
+    }
 }
 
 /// Handles a token that has no usual row: characters that wait and what ends them, text that goes into the current node, and else by
@@ -109,22 +93,7 @@ pub(crate) fn handle_other<'p, B: Below>(
     }
 }
 
-/// From now on characters wait, the token's first, and the mode is kept.
-#[inline(always)]
-fn begin_run<'p, B: Below>(
-    alloc: Global,
-    view: &mut View<'p, B>,
-    token: &Token<'p>,
-) -> Result<(), Refusal>
-    ensures { Carries result (sight B.heard view.old) (sight B.heard view.new) (begin_plan token.now) }
-{
-    view.change.pending = Text::new();
-    view.change.original = Some(view.change.mode);
-    view.change.mode = Mode::InTableText;
-    append_pending(alloc, view, token)
-}
-
-/// The first run of characters waits.
+/// The first run of characters waits from now on, and the mode is kept.
 #[inline(always)]
 fn begin<'p, B: Below>(
     alloc: Global,
@@ -134,7 +103,10 @@ fn begin<'p, B: Below>(
     requires { BeginsText (split_of view.old) token.now }
     ensures { Handles result (sight B.heard view.old) (sight B.heard view.new) (all_turns_plan token.now) }
 {
-    match begin_run(alloc, view, token) {
+    view.change.pending = Text::new();
+    view.change.original = Some(view.change.mode);
+    view.change.mode = Mode::InTableText;
+    match append_pending(alloc, view, token) {
         Ok(()) => Ok(NOTHING),
         Err(refused) => Err(refused),
     }
@@ -156,16 +128,8 @@ fn go_on<'p, B: Below>(
     }
 }
 
-/// The characters go into the tree, and the mode is again the one that was kept.
-#[inline(always)]
-fn leave<'p, B: Below>(alloc: Global, view: &mut View<'p, B>) -> Result<(), Refusal>
-    ensures { Carries result (sight B.heard view.old) (sight B.heard view.new) end_plan }
-{
-    flush(alloc, view)?;
-    view.to_original(alloc)
-}
-
-/// The characters that wait end, and the token is handled behind them.
+/// The characters that wait go into the tree, and the mode is again the one that was kept. The token is handled behind them in the
+/// turns that are left: where it has a usual row, straight.
 #[inline(always)]
 fn end<'p, B: Below>(
     alloc: Global,
@@ -176,23 +140,8 @@ fn end<'p, B: Below>(
     ensures { Handles result (sight B.heard view.old) (sight B.heard view.new) (all_turns_plan token.old) }
 {
     let most = most_turns(view.change.stack.len()) - 1;
-    match leave(alloc, view) {
-        Ok(()) => handle_left(alloc, view, token, most),
-        Err(refused) => Err(refused),
-    }
-}
-
-/// Handles a token in so many turns: where it has a usual row, straight.
-#[inline(always)]
-fn handle_left<'p, B: Below>(
-    alloc: Global,
-    view: &mut View<'p, B>,
-    token: &mut Token<'p>,
-    most: u128,
-) -> Result<Handled, Refusal>
-    requires { 0 < most }
-    ensures { Handles result (sight B.heard view.old) (sight B.heard view.new) (turns_from most token.old) }
-{
+    flush(alloc, view)?;
+    view.to_original(alloc)?;
     match usual_row(view, token) {
         Some(row) => handle_usual(alloc, view, token, row),
         None => take_turns(alloc, view, taken(token), most),

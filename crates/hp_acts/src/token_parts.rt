@@ -1,14 +1,12 @@
 //! The parts of a token that acts read, or give to the tree and the list.
-ghost use Rattle.std.specs.Prelude.{◌≡◌, [], ◌∷◌, IfOk, OnOk};
+ghost use Rattle.std.specs.Prelude.{◌≡◌, [], IfOk, OnOk};
 ghost use Rattle.hp_elements.specs.Names.{text_of};
-ghost use Rattle.hp_elements.specs.declared.kinds.Kinds.TheVariants as kinds;
-ghost use Rattle.hp_elements.specs.declared.sets.Namespace.TheVariants.{Html};
 ghost use Rattle.hp_model.specs.Tokens.{as_start, bare, characters, comment, is_self_closing, name_for, name_of, tag_of};
 ghost use Rattle.hp_acts.specs.Spending.{html_tag, IsLeftOf};
 ghost use Rattle.hp_acts.specs.declared.token_parts.Spending.TheVariants.{Copies};
 
 use hp_elements::{
-    Attribute, Chain, CharClass, Kinds, Known, Name, Namespace, NoMemory, Tag, Text, Token, Which,
+    Attribute, Chain, CharClass, Known, Name, Namespace, NoMemory, Tag, Text, Token, Which,
 };
 use std::alloc::Global;
 use std::mem;
@@ -56,14 +54,6 @@ pub(crate) fn name_of(alloc: Global, token: &Token<'_>, which: Which) -> Result<
     }
 }
 
-/// The HTML elements of the name that an act is about.
-#[inline(always)]
-pub(crate) fn html_of(alloc: Global, token: &Token<'_>, which: Which) -> Result<Kinds, NoMemory>
-    ensures { IfOk result (λ names. names ≡ kinds.Html (name_for token.now which)) }
-{
-    Ok(Kinds::Html(name_of(alloc, token, which)?))
-}
-
 /// An HTML tag of that name without attributes.
 pub(crate) fn bare(name: Known) -> Tag
     ensures { result ≡ bare (text_of name) }
@@ -72,24 +62,6 @@ pub(crate) fn bare(name: Known) -> Tag
         namespace: Namespace::Html,
         name: Name::of_known(name),
         attributes: Chain::new(),
-    }
-}
-
-fn attributes_of(
-    alloc: Global,
-    tag: &mut Tag,
-    spending: Spending,
-) -> Result<Chain<Attribute>, NoMemory>
-    ensures value { IfOk result (λ attributes. attributes ≡ tag.old.attributes) }
-    ensures name { OnOk result (tag.new.name ≡ tag.old.name) }
-    ensures copies { spending ≡ Copies → tag.new ≡ tag.old }
-{
-    match spending {
-        Spending::Moves => Ok(tag.attributes.take_all()),
-        Spending::Copies => {
-            let copy = tag.copy(alloc)?;
-            Ok(copy.attributes)
-        }
     }
 }
 
@@ -104,7 +76,13 @@ pub(crate) fn take_attributes(
     ensures copies { spending ≡ Copies → token.new ≡ token.old }
 {
     match token {
-        Token::Start { tag, .. } => attributes_of(alloc, tag, spending),
+        Token::Start { tag, .. } => match spending {
+            Spending::Moves => Ok(tag.attributes.take_all()),
+            Spending::Copies => {
+                let copy = tag.copy(alloc)?;
+                Ok(copy.attributes)
+            }
+        },
         _ => Ok(Chain::new()),
     }
 }
@@ -127,14 +105,6 @@ pub(crate) fn take_tag(
         name,
         attributes,
     })
-}
-
-/// Makes the tag an HTML one.
-#[inline(always)]
-pub(crate) fn into_html(tag: &mut Tag)
-    ensures { tag.new ≡ record tag.old { namespace = Html } }
-{
-    tag.namespace = Namespace::Html;
 }
 
 /// The tag, moved out of its place.

@@ -1,5 +1,5 @@
 //! One token, handled whole (13.2.6).
-ghost use Rattle.std.specs.Prelude.{◌≡◌, ℕ, ◌<◌, ◌+◌, ◌*◌, Bool, true, false, if◌then◌else◌, ◌||◌, IfOk, List, length, drop};
+ghost use Rattle.std.specs.Prelude.{◌≡◌, ℕ, ◌<◌, ◌+◌, ◌*◌, Bool, true, false, if◌then◌else◌, IfOk, drop};
 ghost use Rattle.std.specs.List.{list_any};
 ghost use Rattle.hp_elements.specs.Rules.{goes_later};
 ghost use Rattle.hp_elements.specs.declared.token.Mode.{Mode};
@@ -13,7 +13,7 @@ ghost use Rattle.hp_acts.specs.RowPlans.{Reached, Came, act_then, is_early, turn
 ghost use Rattle.hp_acts.specs.TableText.{turns_from};
 ghost use Rattle.hp_acts.specs.Spending.{IsLeftOf, gives_away, leaves_whole, reads_attributes};
 ghost use Rattle.hp_acts.specs.declared.token_parts.Spending.TheVariants.{Copies};
-ghost use Rattle.hp_acts.specs.declared.turns.Next.TheVariants.{Again, At, Done, Rules};
+ghost use Rattle.hp_acts.specs.declared.turns.Next.TheVariants.{At};
 
 use crate::acts::carry_out;
 use crate::questions::holds;
@@ -154,20 +154,6 @@ fn present_rules(present: Option<Mode>, at: u32) -> Next
     }
 }
 
-/// The rules of another mode. Fostering is on in them where the act turns it on, or where the row is used with it.
-fn other_rules(mode: Mode, turned_on: bool, fostering: bool) -> Next
-    ensures { result ≡ Rules mode (turned_on || fostering) }
-{
-    Next::Rules(mode, turned_on || fostering)
-}
-
-/// The end of a row, behind which the token is handled again where the act says so.
-fn at_end(again: bool) -> Next
-    ensures { result ≡ (if again then Again else Done) }
-{
-    if again { Next::Again } else { Next::Done }
-}
-
 /// The place behind a test.
 fn behind(at: u32, otherwise: u8, goes_on: bool) -> Next
     requires { at < 8 }
@@ -199,14 +185,14 @@ fn step<'p, B: Below>(
     ensures plan { (follow : Bool → Mode → Reached → Plan Came) (go : ℕ → Reached → Plan Came) → Goes result (B.heard view.old.below) (B.heard view.new.below) (act_then follow (present_plan follow present) fostering turn.old.token act at go (reached view.old turn.old)) (λ next. going follow go at (reached view.new turn.new) turn.new.token next) }
 {
     match act {
-        Act::Done => Ok(at_end(false)),
-        Act::Again => Ok(at_end(true)),
+        Act::Done => Ok(Next::Done),
+        Act::Again => Ok(Next::Again),
         Act::AgainAs(name) => {
             rename(&mut turn.token, name);
-            Ok(at_end(true))
+            Ok(Next::Again)
         }
-        Act::As(mode) => Ok(other_rules(mode, false, fostering)),
-        Act::AsFostered(mode) => Ok(other_rules(mode, true, fostering)),
+        Act::As(mode) => Ok(Next::Rules(mode, fostering)),
+        Act::AsFostered(mode) => Ok(Next::Rules(mode, true)),
         Act::AsPresent => Ok(present_rules(present, at)),
         Act::If { test, otherwise } => {
             let holds = holds(alloc, view, &turn.token, test)?;
@@ -336,8 +322,8 @@ pub(crate) fn take_all_turns<'p, B: Below>(
     take_turns(alloc, view, token, most)
 }
 
-/// Handles one token whole: dispatch, the rows of the rules with their acts, and again where the rules say so. A line feed that
-/// is to be dropped isn't handled. After a refusal the view is spent.
+/// Handles one token whole: dispatch, the rows of the rules with their acts, usual ones straight and others by the table, and again
+/// where the rules say so. A line feed that is to be dropped isn't handled. After a refusal the view is spent.
 #[inline(always)]
 pub fn handle<'p, B: Below>(
     alloc: Global,
@@ -350,21 +336,9 @@ pub fn handle<'p, B: Below>(
         return handle_skipping(alloc, view, token);
     }
     let mut token = token;
-    handle_whole(alloc, view, &mut token)
-}
-
-/// The same where none is to be dropped: usual rows straight, and others by the table.
-#[inline(always)]
-fn handle_whole<'p, B: Below>(
-    alloc: Global,
-    view: &mut View<'p, B>,
-    token: &mut Token<'p>,
-) -> Result<Handled, Refusal>
-    ensures { Handles result (sight B.heard view.old) (sight B.heard view.new) (all_turns_plan token.old) }
-{
-    match usual_row(view, token) {
-        Some(row) => handle_usual(alloc, view, token, row),
-        None => handle_other(alloc, view, token),
+    match usual_row(view, &token) {
+        Some(row) => handle_usual(alloc, view, &mut token, row),
+        None => handle_other(alloc, view, &mut token),
     }
 }
 

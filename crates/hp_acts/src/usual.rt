@@ -1,33 +1,26 @@
 //! The usual rows of the body and of tables, carried out without the table of rows: a short way to what it says (13.2.6.4.7,
 //! 13.2.6.4.13 to 13.2.6.4.15).
-ghost use Rattle.std.specs.Prelude.{◌≡◌, ◌<◌, ℕ, [], ◌∷◌, false, true, IfSome, unwrap_or};
-ghost use Rattle.hp_elements.specs.Names.{known_of};
-ghost use Rattle.hp_elements.specs.Rules.{acts_for, acts_numbered};
-ghost use Rattle.hp_elements.specs.Tokens.{kind_of};
-ghost use Rattle.hp_elements.specs.declared.act.Act.TheVariants.{As};
+ghost use Rattle.std.specs.Prelude.{◌≡◌, ◌<◌, ℕ, [], false, IfSome, unwrap_or};
+ghost use Rattle.hp_elements.specs.Rules.{acts_numbered};
 ghost use Rattle.hp_elements.specs.declared.token.Mode.TheVariants.{InBody, InCell};
 ghost use Rattle.hp_elements.specs.declared.sets.Namespace.TheVariants.{Html};
 ghost use Rattle.hp_rules_body.specs.Body.{in_body};
 ghost use Rattle.hp_rules_body.specs.Table.{all_rows};
 ghost use Rattle.hp_rules_table.specs.Table.{all_rows as table_rows, rows_of};
-ghost use Rattle.hp_rules_table.specs.TableModes.{in_cell};
 ghost use Rattle.hp_views.specs.View.{sight, split_of, Carries};
 ghost use Rattle.hp_views.specs.PlacePlans.{insert_plan};
 ghost use Rattle.hp_acts.specs.TableText.{turns_from};
 ghost use Rattle.hp_acts.specs.Handling.{Handles};
-ghost use Rattle.hp_model.specs.Tokens.{name_of};
-ghost use Rattle.hp_acts.specs.Plans.{implied_but_plan};
-ghost use Rattle.hp_acts.specs.Spending.{html_tag};
-ghost use Rattle.hp_acts.specs.Usual.{HasIn, HasRow, IsUsual, begin_plan, block_end_by, block_end_plan, block_plan, closing_plan, description_after_plan, description_end_by, description_end_plan, description_plan, end_plan, formatting_plan, item_end_by, item_end_plan, item_plan, link_plan, listed_plan, opening_plan, ordinary_plan, paragraph_end_by, paragraph_end_plan, usual_acts, usual_plan};
+ghost use Rattle.hp_acts.specs.Usual.{HasIn, HasRow, IsUsual, begin_plan, block_plan, closing_plan, description_plan, end_plan, formatting_plan, item_plan, link_plan, opening_plan, ordinary_plan, usual_acts, usual_plan};
 
 use crate::ends::{close_block, close_description, close_item, close_paragraph};
 use crate::plain::is_in_html;
 use crate::table_rows::{begin_cell, begin_row, end_cell, end_row};
-use crate::token_parts::{Spending, into_html, name_of, take_tag, taken_name, taken_tag};
+use crate::token_parts::{Spending, take_tag, taken_name, taken_tag};
 use crate::turns::{Handled, NOTHING};
 use hp_adoption::{adopt, append_to_list, close_link, reconstruct};
 use hp_control::{Below, Refusal};
-use hp_elements::{Kinds, Known, Mode, Name, Point, Scope, Tag, Token, Which};
+use hp_elements::{Mode, Name, Namespace, Point, Tag, Token};
 use hp_views::View;
 use std::alloc::Global;
 
@@ -130,61 +123,31 @@ fn usual_in_table(mode: Mode, token: &Token<'_>) -> Option<UsualRow>
     }
 }
 
-/// Whether a row of tables only uses the rules of the body.
-fn is_passed_on(number: u16) -> bool
-    ensures { result ≡ true → acts_numbered table_rows number ≡ As InBody ∷ [] }
-{
-    match number {
-        49 => true,
-        _ => false,
-    }
-}
-
-/// Whether the row that the token has in a cell only uses the rules of the body.
-fn is_passed_in_cell(token: &Token<'_>) -> bool
-    ensures { result ≡ true → acts_for in_cell (kind_of token.now) ≡ As InBody ∷ [] }
-{
-    match hp_rules_table::row(Mode::InCell, token) {
-        Some(number) => is_passed_on(number),
-        None => false,
-    }
-}
-
-/// The usual row that the token has in a cell: its own, or that of the body, whose rules are used there.
+/// The usual row that the token has in a cell: its own, or that of the body, where its row only uses the rules of the body.
 fn usual_in_cell(token: &Token<'_>) -> Option<UsualRow>
     ensures { IfSome result (λ row. HasRow InCell token.now row) }
 {
-    if is_passed_in_cell(token) {
-        usual_in_body(token)
-    } else {
-        usual_in_table(Mode::InCell, token)
+    match hp_rules_table::row(Mode::InCell, token) {
+        Some(49) => usual_in_body(token),
+        Some(number) => usual_in_tables(number),
+        None => None,
     }
 }
 
-/// The usual row that the token has in the mode.
+/// The usual row that the token has in this state; none where another row is to be carried out.
 #[inline(always)]
-fn usual_in_mode(mode: Mode, token: &Token<'_>) -> Option<UsualRow>
-    ensures { IfSome result (λ row. HasRow mode token.now row) }
+pub(crate) fn usual_row<'p, B: Below>(view: &View<'p, B>, token: &Token<'p>) -> Option<UsualRow>
+    ensures { IfSome result (λ row. IsUsual (split_of view.now) token.now row) }
 {
-    match mode {
+    if !is_in_html(&view.change.stack) {
+        return None;
+    }
+    match view.change.mode {
         Mode::InBody => usual_in_body(token),
         Mode::InTableBody => usual_in_table(Mode::InTableBody, token),
         Mode::InRow => usual_in_table(Mode::InRow, token),
         Mode::InCell => usual_in_cell(token),
         _ => None,
-    }
-}
-
-/// The usual row that the token has in this state; none where another row is to be carried out.
-#[tactic(auto, using(crate::proofs::UsualRuns::usual_there))]
-#[inline(always)]
-pub(crate) fn usual_row<'p, B: Below>(view: &View<'p, B>, token: &Token<'p>) -> Option<UsualRow>
-    ensures { IfSome result (λ row. IsUsual (split_of view.now) token.now row) }
-{
-    if is_in_html(&view.change.stack) {
-        usual_in_mode(view.change.mode, token)
-    } else {
-        None
     }
 }
 
@@ -215,133 +178,48 @@ fn carry_usual<'p, B: Below>(
     ensures { Carries result (sight B.heard view.old) (sight B.heard view.new) (usual_plan row token.old) }
 {
     match row {
-        UsualRow::Opens(row) => open_token(alloc, view, token, row),
-        UsualRow::Closes(row) => close_token(alloc, view, token, row),
-        UsualRow::Begins(part) => begin_token(alloc, view, token, part),
-        UsualRow::Ends(part) => end_token(alloc, view, token, part),
+        UsualRow::Opens(opening) => match token {
+            Token::Start { tag, .. } => {
+                tag.namespace = Namespace::Html;
+                open(alloc, view, tag, opening)
+            }
+            _ => carry_other(alloc, view, token, row),
+        },
+        UsualRow::Closes(closing) => match token {
+            Token::EndTag { name } => close(alloc, view, name, closing),
+            _ => carry_other(alloc, view, token, row),
+        },
+        UsualRow::Begins(part) => match token {
+            Token::Start { tag, .. } => {
+                tag.namespace = Namespace::Html;
+                begin(alloc, view, tag, part)
+            }
+            _ => carry_other(alloc, view, token, row),
+        },
+        UsualRow::Ends(part) => match token {
+            Token::EndTag { name } => end(alloc, view, name, part),
+            _ => carry_other(alloc, view, token, row),
+        },
     }
 }
 
-#[inline(always)]
-fn open_token<'p, B: Below>(
-    alloc: Global,
-    view: &mut View<'p, B>,
-    token: &mut Token<'p>,
-    row: Opening,
-) -> Result<(), Refusal>
-    ensures { Carries result (sight B.heard view.old) (sight B.heard view.new) (opening_plan row (html_tag token.old)) }
-{
-    match token {
-        Token::Start { tag, .. } => {
-            into_html(tag);
-            open(alloc, view, tag, row)
-        }
-        _ => open_other(alloc, view, token, row),
-    }
-}
-
-/// The same for a token that is no start tag.
+/// The same for another token than the row's tags: by the HTML tag of its name.
 #[inline(never)]
-fn open_other<'p, B: Below>(
+fn carry_other<'p, B: Below>(
     alloc: Global,
     view: &mut View<'p, B>,
     token: &mut Token<'p>,
-    row: Opening,
+    row: UsualRow,
 ) -> Result<(), Refusal>
-    ensures { Carries result (sight B.heard view.old) (sight B.heard view.new) (opening_plan row (html_tag token.old)) }
+    ensures { Carries result (sight B.heard view.old) (sight B.heard view.new) (usual_plan row token.old) }
 {
     let mut tag = take_tag(alloc, token, Spending::Moves)?;
-    open(alloc, view, &mut tag, row)
-}
-
-#[inline(always)]
-fn begin_token<'p, B: Below>(
-    alloc: Global,
-    view: &mut View<'p, B>,
-    token: &mut Token<'p>,
-    part: TablePart,
-) -> Result<(), Refusal>
-    ensures { Carries result (sight B.heard view.old) (sight B.heard view.new) (begin_plan part (html_tag token.old)) }
-{
-    match token {
-        Token::Start { tag, .. } => {
-            into_html(tag);
-            begin(alloc, view, tag, part)
-        }
-        _ => begin_other(alloc, view, token, part),
+    match row {
+        UsualRow::Opens(opening) => open(alloc, view, &mut tag, opening),
+        UsualRow::Closes(closing) => close(alloc, view, &mut tag.name, closing),
+        UsualRow::Begins(part) => begin(alloc, view, &mut tag, part),
+        UsualRow::Ends(part) => end(alloc, view, &mut tag.name, part),
     }
-}
-
-/// The same for a token that is no start tag.
-#[inline(never)]
-fn begin_other<'p, B: Below>(
-    alloc: Global,
-    view: &mut View<'p, B>,
-    token: &mut Token<'p>,
-    part: TablePart,
-) -> Result<(), Refusal>
-    ensures { Carries result (sight B.heard view.old) (sight B.heard view.new) (begin_plan part (html_tag token.old)) }
-{
-    let mut tag = take_tag(alloc, token, Spending::Moves)?;
-    begin(alloc, view, &mut tag, part)
-}
-
-#[inline(always)]
-fn close_token<'p, B: Below>(
-    alloc: Global,
-    view: &mut View<'p, B>,
-    token: &mut Token<'p>,
-    row: Closing,
-) -> Result<(), Refusal>
-    ensures { Carries result (sight B.heard view.old) (sight B.heard view.new) (closing_plan row (name_of token.old)) }
-{
-    match token {
-        Token::EndTag { name } => close(alloc, view, name, row),
-        _ => close_other(alloc, view, token, row),
-    }
-}
-
-/// The same for a token that is no end tag.
-#[inline(never)]
-fn close_other<'p, B: Below>(
-    alloc: Global,
-    view: &mut View<'p, B>,
-    token: &mut Token<'p>,
-    row: Closing,
-) -> Result<(), Refusal>
-    ensures { Carries result (sight B.heard view.old) (sight B.heard view.new) (closing_plan row (name_of token.old)) }
-{
-    let mut name = name_of(alloc, token, Which::Its)?;
-    close(alloc, view, &mut name, row)
-}
-
-#[inline(always)]
-fn end_token<'p, B: Below>(
-    alloc: Global,
-    view: &mut View<'p, B>,
-    token: &mut Token<'p>,
-    part: TablePart,
-) -> Result<(), Refusal>
-    ensures { Carries result (sight B.heard view.old) (sight B.heard view.new) (end_plan part (name_of token.old)) }
-{
-    match token {
-        Token::EndTag { name } => end(alloc, view, name, part),
-        _ => end_other(alloc, view, token, part),
-    }
-}
-
-/// The same for a token that is no end tag.
-#[inline(never)]
-fn end_other<'p, B: Below>(
-    alloc: Global,
-    view: &mut View<'p, B>,
-    token: &mut Token<'p>,
-    part: TablePart,
-) -> Result<(), Refusal>
-    ensures { Carries result (sight B.heard view.old) (sight B.heard view.new) (end_plan part (name_of token.old)) }
-{
-    let mut name = name_of(alloc, token, Which::Its)?;
-    end(alloc, view, &mut name, part)
 }
 
 #[inline(always)]
@@ -454,7 +332,7 @@ fn open_item<'p, B: Below>(
     open_block(alloc, view, tag)
 }
 
-#[inline(always)]
+#[inline(never)]
 fn open_description<'p, B: Below>(
     alloc: Global,
     view: &mut View<'p, B>,
@@ -464,19 +342,6 @@ fn open_description<'p, B: Below>(
     ensures { Carries result (sight B.heard view.old) (sight B.heard view.new) (description_plan tag.old) }
 {
     view.frameset_not_ok(alloc)?;
-    open_description_after(alloc, view, tag)
-}
-
-/// Closes the term or description before, and opens this one.
-#[inline(never)]
-fn open_description_after<'p, B: Below>(
-    alloc: Global,
-    view: &mut View<'p, B>,
-    tag: &mut Tag,
-) -> Result<(), Refusal>
-    requires html { tag.old.namespace ≡ Html }
-    ensures { Carries result (sight B.heard view.old) (sight B.heard view.new) (description_after_plan tag.old) }
-{
     view.close_description(alloc)?;
     open_block(alloc, view, tag)
 }
@@ -494,6 +359,7 @@ fn open_link<'p, B: Below>(
     open_formatting(alloc, view, tag)
 }
 
+/// Inserts a formatting element, which stands in the list of formatting elements as well.
 #[inline(always)]
 fn open_formatting<'p, B: Below>(
     alloc: Global,
@@ -504,19 +370,6 @@ fn open_formatting<'p, B: Below>(
     ensures { Carries result (sight B.heard view.old) (sight B.heard view.new) (formatting_plan tag.old) }
 {
     reconstruct(alloc, view, false)?;
-    insert_listed(alloc, view, tag)
-}
-
-/// Inserts an HTML element, which stands in the list of formatting elements as well.
-#[inline(always)]
-fn insert_listed<'p, B: Below>(
-    alloc: Global,
-    view: &mut View<'p, B>,
-    tag: &mut Tag,
-) -> Result<(), Refusal>
-    requires html { tag.old.namespace ≡ Html }
-    ensures { Carries result (sight B.heard view.old) (sight B.heard view.new) (listed_plan tag.old) }
-{
     let own = tag.copy(alloc)?;
     view.insert(alloc, false, own, Point::No)?;
     append_to_list(alloc, view, taken_tag(tag))
