@@ -1,7 +1,9 @@
-//! Pages cut at tags, by size and at listed places, each public call once with ample memory.
-use crate::reading::page_of;
+//! Pages cut at tags, by size and at listed places, each public call with ample memory.
 use hp_cut::{cuts_at_tags, cuts_by_size, cuts_listed};
+use hp_text::check_page;
+use std::alloc::Global;
 use std::mem;
+use std::process::Abort;
 
 const PAGE: &str = "<!DOCTYPE html>
 <html lang=\"en\">
@@ -28,35 +30,30 @@ const PAGE: &str = "<!DOCTYPE html>
 /// Where the page is cut.
 const TAGS: &[u64] = &[96, 141, 222, 272, 320];
 
-#[test]
-fn cuts_at_tags_of_a_small_page(rt: HostRuntime) {
-    let page = page_of(&rt, PAGE.as_bytes());
-    let cuts = cuts_at_tags(rt.alloc(), page, 64).expect(&rt, "there is memory");
-    let well = cuts.places() == TAGS;
-    mem::forget(cuts);
-    assert!(rt; well);
-}
-
 /// 63 bytes `a`, a code point of two bytes, and 63 bytes `b`.
 const ACCENTED: &str = "aaaaaaaaaaaaaaaaaaaaaaaaaaaaaaaaaaaaaaaaaaaaaaaaaaaaaaaaaaaaaaaé\
 bbbbbbbbbbbbbbbbbbbbbbbbbbbbbbbbbbbbbbbbbbbbbbbbbbbbbbbbbbbbbbb";
 
-#[test]
-fn cuts_by_size_skip_to_starts(rt: HostRuntime) {
-    let page = page_of(&rt, ACCENTED.as_bytes());
-    let cuts = cuts_by_size(rt.alloc(), page, 64).expect(&rt, "there is memory");
-    let copy = cuts.copy(rt.alloc()).expect(&rt, "there is memory");
-    let well = copy.places() == [65].as_slice();
-    mem::forget(copy);
+/// Whether the page is cut at tags, or else by size, at these places, and a copy and cuts that are listed are the same.
+fn is_cut(rt: &impl Abort, alloc: Global, text: &str, at_tags: bool, places: &[u64]) -> bool {
+    let page = check_page(text.as_bytes()).expect(rt, "the page is UTF-8");
+    let cuts = if at_tags {
+        cuts_at_tags(alloc, page, 64)
+    } else {
+        cuts_by_size(alloc, page, 64)
+    };
+    let cuts = cuts.expect(rt, "there is memory");
+    let copy = cuts.copy(alloc).expect(rt, "there is memory");
+    let listed = cuts_listed(alloc, page, copy.places()).expect(rt, "there is memory");
+    let well = listed.places() == places;
     mem::forget(cuts);
-    assert!(rt; well);
+    mem::forget(copy);
+    mem::forget(listed);
+    well
 }
 
 #[test]
-fn cuts_at_listed_places(rt: HostRuntime) {
-    let page = page_of(&rt, "éb".as_bytes());
-    let cuts = cuts_listed(rt.alloc(), page, &[2]).expect(&rt, "there is memory");
-    let well = cuts.chunks() == 2;
-    mem::forget(cuts);
-    assert!(rt; well);
+fn pages_are_cut(rt: HostRuntime) {
+    let tagged = is_cut(&rt, rt.alloc(), PAGE, true, TAGS);
+    assert!(rt; tagged && is_cut(&rt, rt.alloc(), ACCENTED, false, &[65]));
 }

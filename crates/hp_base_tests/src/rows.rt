@@ -72,23 +72,15 @@ static TABLE_MODES: [Mode; 7] = [
 
 static REST_MODES: [Mode; 3] = [Mode::InSelect, Mode::InSelectInTable, Mode::InTemplate];
 
-fn acts_of(part: Part, row: u16) -> &'static [Act] {
-    match part {
+/// The act of a row at that place.
+fn act_of(part: Part, row: u16, at: u32) -> Option<Act> {
+    let acts = match part {
         Part::Page => hp_rules_page::acts_numbered(row),
         Part::Body => hp_rules_body::acts_numbered(row),
         Part::Table => hp_rules_table::acts_numbered(row),
         Part::Rest => hp_rules_rest::acts_numbered(row),
-    }
-}
-
-fn act_of(part: Part, row: u16, at: u32) -> Option<Act> {
-    let acts = acts_of(part, row);
-    let place = at as usize;
-    if place < acts.len() {
-        Some(acts[place])
-    } else {
-        None
-    }
+    };
+    acts.get(at as usize).copied()
 }
 
 /// The row of a token in a mode; where there is none, in foreign content.
@@ -107,36 +99,31 @@ fn row_of(part: Part, mode: Option<Mode>, token: &Token<'_>) -> Option<u16> {
 /// The place behind a step of a row, where the row has that step there.
 fn behind(found: Act, at: u32, step: Step, own: Option<Known>) -> Option<u32> {
     let next = at.wrapping_add(1);
-    match (step, found) {
-        (Step::Does(act), _) => if_so(is_act(found, own, act), next),
-        (Step::Asked(wanted, answer), Act::If { test, otherwise }) => if_so(
+    let (well, place) = match (step, found) {
+        (Step::Does(act), _) => (is_act(found, own, act), next),
+        (Step::Asked(wanted, answer), Act::If { test, otherwise }) => (
             is_test(test, own, wanted),
             if answer { next } else { u32::from(otherwise) },
         ),
-        (Step::Asked(wanted, answer), Act::Unless { test, otherwise }) => if_so(
+        (Step::Asked(wanted, answer), Act::Unless { test, otherwise }) => (
             is_test(test, own, wanted),
             if answer { u32::from(otherwise) } else { next },
         ),
-        (Step::Asked(..), _) => None,
-    }
-}
-
-fn if_so(well: bool, next: u32) -> Option<u32> {
-    if well { Some(next) } else { None }
+        (Step::Asked(..), _) => (false, next),
+    };
+    if well { Some(place) } else { None }
 }
 
 impl Reading {
-    /// The step whose place stands there.
-    fn step(&self, at: usize) -> Option<&'static Step> {
-        let place = self.places.get(at)?;
-        self.steps.get(usize::from(*place))
-    }
-
     /// Whether a row goes through exactly the steps whose places stand from there to there.
     fn goes(&self, row: u16, own: Option<Known>, from: usize, to: usize) -> bool {
+        let Some(places) = self.places.get(from..to) else {
+            return false;
+        };
         let mut at: u32 = 0;
-        for place in from..to {
-            let next = match (self.step(place), act_of(self.part, row, at)) {
+        for place in places {
+            let step = self.steps.get(usize::from(*place));
+            let next = match (step, act_of(self.part, row, at)) {
                 (Some(step), Some(found)) => behind(found, at, *step, own),
                 _ => None,
             };
@@ -153,14 +140,9 @@ impl Reading {
 
     /// Whether the token's row in the mode of that column goes each way of the group, and there is one.
     fn agrees(&self, column: usize, token: &Token<'_>, own: Option<Known>, group: u8) -> bool {
-        match row_of(self.part, self.modes.get(column).copied(), token) {
-            Some(row) => self.goes_all(column, row, own, group),
-            None => false,
-        }
-    }
-
-    /// Whether the row goes each way of the group, and there is one.
-    fn goes_all(&self, column: usize, row: u16, own: Option<Known>, group: u8) -> bool {
+        let Some(row) = row_of(self.part, self.modes.get(column).copied(), token) else {
+            return false;
+        };
         let mut some = false;
         for (mode, number, from, to) in self.ways {
             if *mode == column && *number == group {
@@ -198,7 +180,7 @@ impl Reading {
             let group = self.group(column, is_start, own, *other);
             assert!(rt;
                 self.agrees(column, token, own, group),
-                "start tag {is_start}, column {column}, group {group}"
+                "group {group} of column {column}"
             );
         }
     }
@@ -227,22 +209,16 @@ impl Reading {
 
 /// A start tag, or an end tag.
 fn tag(is_start: bool, name: Name) -> Token<'static> {
-    if is_start {
-        start(name)
-    } else {
-        Token::EndTag { name }
+    if !is_start {
+        return Token::EndTag { name };
     }
-}
-
-fn start(name: Name) -> Token<'static> {
-    let tag = Tag {
-        namespace: Namespace::Html,
-        name,
-        attributes: Chain::new(),
-    };
     Token::Start {
         self_closing: false,
-        tag,
+        tag: Tag {
+            namespace: Namespace::Html,
+            name,
+            attributes: Chain::new(),
+        },
     }
 }
 
@@ -267,10 +243,10 @@ fn doctype(rt: &impl Abort, alloc: Global) -> Token<'static> {
 /// The token without a known name at that place in the order of the reading.
 fn nameless(rt: &impl Abort, alloc: Global, kind: usize) -> Token<'static> {
     match kind {
-        0 => start(another(rt, alloc)),
-        1 => Token::EndTag {
-            name: another(rt, alloc),
-        },
+        0 | 1 => {
+            let other = Name::from_text(alloc, "other-name").expect(rt, "there is memory");
+            tag(kind == 0, other)
+        }
         2 => characters(CharClass::White),
         3 => characters(CharClass::Nul),
         4 => characters(CharClass::Other),
@@ -280,14 +256,9 @@ fn nameless(rt: &impl Abort, alloc: Global, kind: usize) -> Token<'static> {
     }
 }
 
-/// A name that isn't known.
-fn another(rt: &impl Abort, alloc: Global) -> Name {
-    Name::from_text(alloc, "other-name").expect(rt, "there is memory")
-}
-
 #[test]
-fn rows_of_page(rt: HostRuntime) {
-    let reading = Reading {
+fn rows_of_page_and_body(rt: HostRuntime) {
+    let page = Reading {
         part: Part::Page,
         modes: &PAGE_MODES,
         named: &page::NAMED,
@@ -296,12 +267,7 @@ fn rows_of_page(rt: HostRuntime) {
         ways: &page::WAYS,
         places: &page::PLACES,
     };
-    reading.compare(&rt, rt.alloc());
-}
-
-#[test]
-fn rows_of_body(rt: HostRuntime) {
-    let reading = Reading {
+    let body = Reading {
         part: Part::Body,
         modes: &BODY_MODES,
         named: &body::NAMED,
@@ -310,12 +276,13 @@ fn rows_of_body(rt: HostRuntime) {
         ways: &body::WAYS,
         places: &body::PLACES,
     };
-    reading.compare(&rt, rt.alloc());
+    page.compare(&rt, rt.alloc());
+    body.compare(&rt, rt.alloc());
 }
 
 #[test]
-fn rows_of_table(rt: HostRuntime) {
-    let reading = Reading {
+fn rows_of_table_and_rest(rt: HostRuntime) {
+    let table = Reading {
         part: Part::Table,
         modes: &TABLE_MODES,
         named: &table::NAMED,
@@ -324,12 +291,7 @@ fn rows_of_table(rt: HostRuntime) {
         ways: &table::WAYS,
         places: &table::PLACES,
     };
-    reading.compare(&rt, rt.alloc());
-}
-
-#[test]
-fn rows_of_rest(rt: HostRuntime) {
-    let reading = Reading {
+    let rest = Reading {
         part: Part::Rest,
         modes: &REST_MODES,
         named: &rest::NAMED,
@@ -338,5 +300,6 @@ fn rows_of_rest(rt: HostRuntime) {
         ways: &rest::WAYS,
         places: &rest::PLACES,
     };
-    reading.compare(&rt, rt.alloc());
+    table.compare(&rt, rt.alloc());
+    rest.compare(&rt, rt.alloc());
 }
