@@ -99,37 +99,38 @@ fn tell_end(rt: &impl Abort, alloc: Global, lexer: Lexer, teller: &mut Teller<'_
     }
 }
 
-/// A text, the state that it is begun in, whether there is an adjusted current node outside the HTML namespace, and its tokens.
-#[derive(Clone, Copy)]
-struct Case<'c> {
-    rest: Rest,
-    foreign: bool,
-    text: &'c str,
-    tokens: &'c str,
-}
-
-/// Whether the tokens of a text in two pieces are those that are wanted; another lexer goes on with the second piece. Where that isn't
-/// empty, places are passed over.
-fn is_lexed(rt: &impl Abort, alloc: Global, case: Case<'_>, cut: usize) -> bool {
-    let mut teller = Teller::new(case.tokens, cut == case.text.len());
-    let mut lexer = Lexer::at_rest(case.rest, false);
-    let (first, second) = case.text.split_at_checked(cut).unwrap_or((case.text, ""));
-    tell_piece(rt, alloc, &mut lexer, case.foreign, first, &mut teller);
+/// Whether the tokens of a text in two pieces, begun in the state of the others beside it, are those that are wanted; another lexer goes on
+/// with the second piece. Where that isn't empty, places are passed over.
+fn is_lexed(
+    rt: &impl Abort,
+    alloc: Global,
+    begun: &Texts,
+    (text, tokens): (&str, &str),
+    cut: usize,
+) -> bool {
+    let mut teller = Teller {
+        left: tokens,
+        well: true,
+        in_run: false,
+        with_places: cut == text.len(),
+    };
+    let mut lexer = Lexer::at_rest(begun.rest, false);
+    let (first, second) = text.split_at_checked(cut).unwrap_or((text, ""));
+    tell_piece(rt, alloc, &mut lexer, begun.foreign, first, &mut teller);
     let mut next = resumed(rt, alloc, &lexer);
     mem::forget(lexer);
-    tell_piece(rt, alloc, &mut next, case.foreign, second, &mut teller);
+    tell_piece(rt, alloc, &mut next, begun.foreign, second, &mut teller);
     tell_end(rt, alloc, next, &mut teller);
-    teller.is_met()
+    teller.well && teller.left.is_empty()
 }
 
-/// Compares a text, whole and cut at each place.
-fn compare_case(rt: &impl Abort, alloc: Global, case: Case<'_>) {
-    for cut in 0..case.text.len().saturating_add(1) {
-        if case.text.is_char_boundary(cut) {
+/// Compares a text, whole and cut at each place, with its tokens.
+fn compare_cut(rt: &impl Abort, alloc: Global, begun: &Texts, text: &str, tokens: &str) {
+    for cut in 0..text.len().saturating_add(1) {
+        if text.is_char_boundary(cut) {
             assert!(rt;
-                is_lexed(rt, alloc, case, cut),
-                "{} cut at {cut}",
-                case.text
+                is_lexed(rt, alloc, begun, (text, tokens), cut),
+                "{text} cut at {cut}"
             );
         }
     }
@@ -140,13 +141,7 @@ fn compare_texts(rt: &impl Abort, alloc: Global, texts: &Texts) {
         let (text, tokens) = row
             .split_once('|')
             .expect(rt, "a bar stands before the tokens");
-        let case = Case {
-            rest: texts.rest,
-            foreign: texts.foreign,
-            text,
-            tokens,
-        };
-        compare_case(rt, alloc, case);
+        compare_cut(rt, alloc, texts, text, tokens);
     }
 }
 

@@ -45,13 +45,6 @@ const VALUES: &str = "\
 0 fffd,41 41,7f 7f,81 81,8d 8d,9d 9d,a0 a0,d7ff d7ff,d800 fffd,dfff fffd,e000 e000,10ffff 10ffff,110000 fffd,\
 ffffffffffffffff fffd";
 
-/// The two parts of a row, the second as the code point whose digits it has.
-fn parts(row: &str) -> Option<(&str, char)> {
-    let (left, digits) = row.split_once(' ')?;
-    let code = u32::from_str_radix(digits, 16).ok()?;
-    Some((left, char::from_u32(code)?))
-}
-
 /// Whether a name is found, alone and before the other bytes of its row.
 fn is_found(name: &str, first: char, row: &str) -> bool {
     let names = Names::built_in();
@@ -64,25 +57,22 @@ fn is_found(name: &str, first: char, row: &str) -> bool {
     names.longest(name.as_bytes()) == wanted && names.longest(row.as_bytes()) == wanted
 }
 
-/// Whether a value, whose digits these are, is replaced so.
-fn is_replaced(digits: &str, by: char) -> bool {
-    match u64::from_str_radix(digits, 16) {
-        Ok(value) => numeric(value) == by,
-        Err(_) => false,
+/// Whether the name, or else the value whose digits stand in its place, stands for the code point whose digits follow; where the row has no
+/// such parts, nothing.
+fn is_so(of_names: bool, row: &str) -> Option<bool> {
+    let (left, digits) = row.split_once(' ')?;
+    let code = char::from_u32(u32::from_str_radix(digits, 16).ok()?)?;
+    if of_names {
+        return Some(is_found(left, code, row));
     }
+    Some(numeric(u64::from_str_radix(left, 16).ok()?) == code)
 }
 
 /// Shows that each row is so, of names or else of values, and answers how many there are.
 fn show_rows(rt: &impl Abort, of_names: bool, rows: &str) -> u64 {
     let mut count: u64 = 0;
     for row in rows.split(',') {
-        let (left, code) = parts(row).expect(rt, "a row has two parts");
-        let well = if of_names {
-            is_found(left, code, row)
-        } else {
-            is_replaced(left, code)
-        };
-        assert!(rt; well, "{row}");
+        assert!(rt; is_so(of_names, row) == Some(true), "{row}");
         count = count.saturating_add(1);
     }
     count

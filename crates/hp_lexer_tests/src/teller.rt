@@ -6,52 +6,22 @@ use hp_elements::{Doctype, Tag, Text, Token};
 #[derive(Drop)]
 pub struct Teller<'w> {
     /// What is wanted behind what was told.
-    left: &'w str,
+    pub left: &'w str,
     /// Whether what was told was wanted.
-    well: bool,
-    in_run: bool,
+    pub well: bool,
+    pub in_run: bool,
     /// Whether places are told, and not passed over.
-    with_places: bool,
+    pub with_places: bool,
 }
 
 const DIGITS: &[char] = &['0', '1', '2', '3', '4', '5', '6', '7', '8', '9'];
 
-impl<'w> Teller<'w> {
-    pub fn new(wanted: &'w str, with_places: bool) -> Teller<'w> {
-        Teller {
-            left: wanted,
-            well: true,
-            in_run: false,
-            with_places,
-        }
-    }
-
-    /// Whether what was told is all that was wanted.
-    pub fn is_met(&self) -> bool {
-        self.well && self.left.is_empty()
-    }
-
+impl Teller<'_> {
     fn put(&mut self, part: &str) {
         match self.left.strip_prefix(part) {
             Some(left) => self.left = left,
             None => self.well = false,
         }
-    }
-
-    fn end_run(&mut self) {
-        if self.in_run {
-            self.in_run = false;
-            self.put("]");
-        }
-    }
-
-    /// Tells a text; one that follows another is of the same run.
-    pub fn tell_run(&mut self, text: &str) {
-        if !self.in_run {
-            self.in_run = true;
-            self.put("[");
-        }
-        self.put(text);
     }
 
     fn tell_doctype(&mut self, doctype: &Doctype<'_>) {
@@ -89,10 +59,10 @@ impl<'w> Teller<'w> {
         self.put(if self_closing { "/>" } else { ">" });
     }
 
-    /// Tells a token that is no run.
-    fn tell_other(&mut self, token: &Token<'_>) {
+    /// Tells a token without the brackets of its run and its place.
+    fn tell_alone(&mut self, token: &Token<'_>) {
         match token {
-            Token::Characters { .. } => {}
+            Token::Characters { text, .. } => self.put(text.as_str()),
             Token::Start { self_closing, tag } => self.tell_start(tag, *self_closing),
             Token::EndTag { name } => self.tell_between("</", name.as_str(), ">"),
             Token::Comment { text } => self.tell_between("<!--", text.as_str(), "-->"),
@@ -113,14 +83,16 @@ impl<'w> Teller<'w> {
         }
     }
 
-    pub fn tell(&mut self, token: &Token<'_>, began: u64) {
-        match token {
-            Token::Characters { text, .. } => self.tell_run(text.as_str()),
-            _ => {
-                self.end_run();
-                self.tell_other(token);
-                self.tell_place(began);
-            }
+    /// Tells a token; a text that follows another is of the same run.
+    fn tell(&mut self, token: &Token<'_>, began: u64) {
+        let was_in_run = self.in_run;
+        self.in_run = matches!(token, Token::Characters { .. });
+        if was_in_run != self.in_run {
+            self.put(if was_in_run { "]" } else { "[" });
+        }
+        self.tell_alone(token);
+        if !self.in_run {
+            self.tell_place(began);
         }
     }
 
