@@ -137,7 +137,10 @@ impl<'p> Cursor<'p> {
     pub fn opens_start_tag(&self) -> bool
         ensures { result ≡ opens_start_tag self.now.text }
     {
-        opens_start(self.rest())
+        match self.rest() {
+            [b'<', letter, ..] => letter.is_ascii_alphabetic(),
+            _ => false,
+        }
     }
 
     /// Whether the next three code points are `<`, `/` and an ASCII letter.
@@ -145,7 +148,10 @@ impl<'p> Cursor<'p> {
     pub fn opens_end_tag(&self) -> bool
         ensures { result ≡ opens_end_tag self.now.text }
     {
-        opens_end(self.rest())
+        match self.rest() {
+            [b'<', b'/', letter, ..] => letter.is_ascii_alphabetic(),
+            _ => false,
+        }
     }
 
     /// Takes the next code point if it is this one, which is ASCII, and answers whether it is.
@@ -179,7 +185,7 @@ impl<'p> Cursor<'p> {
     pub fn skip_pair_cr(&mut self)
         ensures { SkipsPairCr self.old self.new }
     {
-        if is_pair(self.rest()) {
+        if let [b'\r', b'\n', ..] = self.rest() {
             self.at += 1;
         }
     }
@@ -306,41 +312,6 @@ fn blanks_len(bytes: &[u8], at: usize) -> usize
         }
     }
     bytes.len() - at
-}
-
-ghost use Rattle.hp_tokens.specs.Reading.{opens_start_tag as spec_opens_start, opens_end_tag as spec_opens_end, begins_with_pair};
-
-/// Whether a text begins with `<` and an ASCII letter.
-#[inline(always)]
-fn opens_start(rest: &[u8]) -> bool
-    ensures { result ≡ spec_opens_start rest.now }
-{
-    match rest {
-        [b'<', letter, ..] => letter.is_ascii_alphabetic(),
-        _ => false,
-    }
-}
-
-/// Whether a text begins with `<`, `/` and an ASCII letter.
-#[inline(always)]
-fn opens_end(rest: &[u8]) -> bool
-    ensures { result ≡ spec_opens_end rest.now }
-{
-    match rest {
-        [b'<', b'/', letter, ..] => letter.is_ascii_alphabetic(),
-        _ => false,
-    }
-}
-
-/// Whether a text begins with CR LF.
-#[inline(always)]
-fn is_pair(rest: &[u8]) -> bool
-    ensures { result ≡ begins_with_pair rest.now }
-{
-    match rest {
-        [b'\r', b'\n', ..] => true,
-        _ => false,
-    }
 }
 
 ghost use Rattle.hp_tokens.specs.Plain.{none_of, whole_raw_stops};
