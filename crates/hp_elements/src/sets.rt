@@ -79,8 +79,6 @@ impl SetName {
 }
 
 impl SetName {
-    ghost use Rattle.hp_elements.specs.Sets.{turned};
-
     /// Whether the elements of that namespace and name are in the set.
     #[inline(always)]
     pub fn has(self, namespace: Namespace, name: &Name) -> bool
@@ -88,18 +86,8 @@ impl SetName {
     {
         match name.known() {
             Some(known) => is_in(self, namespace, known),
-            None => self.has_others(),
-        }
-    }
-
-    /// Whether the elements of names that no list names are in the set.
-    #[inline(always)]
-    fn has_others(self) -> bool
-        ensures { result ≡ turned self false }
-    {
-        match self {
-            SetName::SelectScopeEnds => true,
-            _ => false,
+            // No list names it, so it is in the one set that has all elements but some.
+            None => matches!(self, SetName::SelectScopeEnds),
         }
     }
 }
