@@ -1,5 +1,5 @@
 -- An adoption whose formatting element is the current node, and its entry the last one.
-use Rattle.std.proofs.Common.{◌≡◌, ℕ, suc, ◌<◌, ◌==◌, Bool, true, false, ◌&&◌, ◌||◌, List, [], ◌∷◌, Some, None, Result, Ok, ap, refl, sym, subst, ◌∙◌, length, take, drop, slice_get, slice_index_or, arith}
+use Rattle.std.proofs.Common.{◌≡◌, ℕ, suc, ◌<◌, ◌==◌, Bool, true, false, ◌&&◌, ◌||◌, List, [], ◌∷◌, Some, Ok, ap, refl, sym, subst, ◌∙◌, length, drop, slice_get, slice_index_or, arith}
 use Rattle.std.specs.Prelude.{not, if◌then◌else◌}
 use Rattle.std.specs.Str.{bytes_eq}
 use Rattle.std.proofs.lemmas.Bool.Decides.{nat_tests}
@@ -16,11 +16,11 @@ use Rattle.hp_control.specs.Walks.{has_entry}
 use Rattle.hp_views.specs.FieldPlans.{with_change}
 use Rattle.hp_views.specs.ListPlans.{with_entries}
 use Rattle.hp_views.specs.StackPlans.{own_popped}
-use Rattle.hp_views.specs.View.{Sight, Carries}
+use Rattle.hp_views.specs.View.{Sight}
 use Rattle.hp_views.specs.Walks.{deeper, entry_walk, id_walk}
 use Rattle.hp_views.specs.declared.walks.Walk.TheVariants.{Found}
 use Rattle.std.specs.Option.{option_map}
-use Rattle.hp_adoption.specs.AdoptPlans.{Turned, adopt_by, adopt_plan, entry_turn, is_plain_plan, own_turn, plain_on, struck, turn_on, turn_plan, turns_on, turns_plan}
+use Rattle.hp_adoption.specs.AdoptPlans.{Turned, adopt_by, adopt_plan, entry_turn, is_plain_plan, own_turn, plain_on, turn_on, turn_plan, turns_on, turns_plan}
 use Rattle.hp_adoption.specs.LastEntry.{is_last, is_own, without_last}
 
 not_none : (n : ℕ) → (suc n == 0) ≡ false

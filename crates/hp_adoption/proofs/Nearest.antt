@@ -1,5 +1,6 @@
 -- What stands above a depth of a stack, and the last of those of a kind.
-use Rattle.std.proofs.Common.{◌≡◌, ℕ, zero, suc, ◌<◌, ◌≤◌, Bool, true, false, if◌then◌else◌, List, [], ◌∷◌, Option, Some, None, length, take, drop, slice_get, get_or, ap, sym, refl, ◌∙◌, arith}
+use Rattle.std.proofs.Common.{◌≡◌, ℕ, zero, suc, ◌+◌, ◌<◌, ◌≤◌, Bool, true, false, if◌then◌else◌, ◌||◌, List, [], ◌∷◌, Option, Some, None, length, take, drop, slice_get, get_or, ap, sym, refl, ◌∙◌, arith}
+use Rattle.std.specs.List.{list_any}
 use Rattle.std.specs.Option.{option_map}
 use Rattle.hp_elements.specs.declared.kinds.Kinds.TheVariants as kinds
 use Rattle.hp_elements.specs.declared.sets.SetName.TheVariants as sets
@@ -15,6 +16,28 @@ split_at [] d k x h l e = absurd (omega arith)
 split_at (y ∷ ys) zero k x h l e = absurd (omega arith)
 split_at (y ∷ ys) (suc d) zero x h l e = ap (λ v. v ∷ take d ys) (sym e)
 split_at (y ∷ ys) (suc d) (suc k) x h l e = split_at ys d k x (omega arith) (omega arith) e
+
+-- whether there is one among those that are left, from an item further
+pub any_passes : (p : OpenElement → Bool) (xs : List OpenElement) (d k : ℕ) (x : OpenElement) → k < d → d ≤ length xs → x ≡ get_or xs k x → list_any p (drop k (take d xs)) ≡ list_any p (take d xs) → p x ≡ false → list_any p (drop (k + 1) (take d xs)) ≡ list_any p (take d xs)
+any_passes p xs d k x h l e n f =
+    let rest = drop (suc k) (take d xs) in
+    let next : k + 1 ≡ suc k = omega arith in
+    let here : list_any p (drop k (take d xs)) ≡ list_any p rest = ap (list_any p) (split_at xs d k x h l e) ∙ ap (λ b. b || list_any p rest) f in
+    ap (λ i. list_any p (drop i (take d xs))) next ∙ (sym here ∙ n)
+
+pub any_here : (p : OpenElement → Bool) (xs : List OpenElement) (d k : ℕ) (x : OpenElement) → k < d → d ≤ length xs → x ≡ get_or xs k x → list_any p (drop k (take d xs)) ≡ list_any p (take d xs) → p x ≡ true → true ≡ list_any p (take d xs)
+any_here p xs d k x h l e n t =
+    let rest = drop (suc k) (take d xs) in
+    let here : list_any p (drop k (take d xs)) ≡ true = ap (list_any p) (split_at xs d k x h l e) ∙ ap (λ b. b || list_any p rest) t in
+    sym here ∙ n
+
+-- none is left, from an item nearer
+pub none_nearer : (p : OpenElement → Bool) (xs : List OpenElement) (d i j k : ℕ) (x : OpenElement) → j ≡ suc k → i ≡ k → k < d → d ≤ length xs → x ≡ get_or xs k x → last_within p (drop j (take d xs)) ≡ None → p x ≡ false → last_within p (drop i (take d xs)) ≡ None
+none_nearer p xs d i j k x s t h l e n f =
+    let rest = drop (suc k) (take d xs) in
+    let none : last_within p rest ≡ None = ap (λ m. last_within p (drop m (take d xs))) (sym s) ∙ n in
+    ap (λ m. last_within p (drop m (take d xs))) t
+    ∙ (ap (last_within p) (split_at xs d k x h l e) ∙ (ap (λ b. last_by b (last_within p rest)) f ∙ ap (last_by false) none))
 
 -- the last one of those that are left
 pub last_here : (p : OpenElement → Bool) (xs rest : List OpenElement) (k : ℕ) (x : OpenElement) → drop k xs ≡ x ∷ rest → last_within p rest ≡ None → p x ≡ true → last_within p xs ≡ Some k

@@ -83,7 +83,7 @@ impl<'p> Climb<'p> {
         ensures { IfOk result (λ _. self.new ≡ renewed (ref_of is_page) block node tag self.old) }
     {
         let id = self.next;
-        keep_renewed(alloc, &mut self.kept, id, &tag)?;
+        self.kept.push(alloc, element_for(alloc, id, &tag)?)?;
         let last = own_ref(is_page, self.last);
         let made = own_ref(is_page, id);
         note_renewed(alloc, &mut self.edits, last, made, &tag)?;
@@ -138,19 +138,6 @@ impl<'p> Climb<'p> {
         }
         Ok(())
     }
-}
-
-/// Puts the element that is made for the tag behind what is kept.
-fn keep_renewed(
-    alloc: Global,
-    kept: &mut List<OpenElement>,
-    id: u64,
-    tag: &Tag,
-) -> Result<(), NoMemory>
-    ensures { IfOk result (λ _. kept.new ≡ kept.old ++ spec_element_for id tag.now ∷ []) }
-{
-    kept.push(alloc, element_for(alloc, id, tag)?)?;
-    Ok(())
 }
 
 /// The edits of a node that is made anew.

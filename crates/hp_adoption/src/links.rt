@@ -11,14 +11,6 @@ use hp_elements::{Known, Name};
 use hp_views::{View, Walk, name_walk, older_listed};
 use std::alloc::Global;
 
-/// Takes the own element off list and stack, where it stands there.
-fn leave<'p, B: Below>(alloc: Global, view: &mut View<'p, B>, id: u64) -> Result<(), Refusal>
-    ensures { Carries result (sight B.heard view.old) (sight B.heard view.new) (gone_plan id) }
-{
-    view.remove_entry(alloc, id)?;
-    view.take_off(alloc, id)
-}
-
 /// Adopts the last entry of the name, and then takes the element of this id off list and stack.
 fn adopt_and_leave<'p, B: Below>(
     alloc: Global,
@@ -30,7 +22,8 @@ fn adopt_and_leave<'p, B: Below>(
     ensures { Carries result (sight B.heard view.old) (sight B.heard view.new) (λ v. followed_by (adopt_plan fostering name v) (gone_plan id)) }
 {
     adopt(alloc, view, fostering, name)?;
-    leave(alloc, view, id)
+    view.remove_entry(alloc, id)?;
+    view.take_off(alloc, id)
 }
 
 /// Adopts the link of the own entry at that depth, and then takes its element off list and stack.

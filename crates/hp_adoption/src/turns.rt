@@ -1,14 +1,12 @@
 //! The turns of the adoption agency algorithm (13.2.6.4.7).
 ghost use Rattle.std.specs.Prelude.{◌≡◌, ◌+◌, ◌^◌, ◌<◌, ◌≤◌, length, slice_get, take, true, IfOk, IfSome};
-ghost use Rattle.std.specs.List.{list_any};
 ghost use Rattle.hp_control.specs.Adoption.{hides as spec_hides, furthest as spec_furthest};
-ghost use Rattle.hp_control.specs.KindTests.{within};
 ghost use Rattle.hp_views.specs.View.{sight, Carries};
 ghost use Rattle.hp_views.specs.Walks.{id_walk};
 ghost use Rattle.hp_views.specs.declared.walks.Walk.TheVariants.{Found};
 ghost use Rattle.hp_adoption.specs.AdoptPlans.{changes_older, own_turn, entry_turn, walk_turn, older_turn, turn_plan, turns_plan};
 ghost use Rattle.hp_adoption.specs.Entries.{is_element, tag_in};
-ghost use Rattle.hp_adoption.specs.Turning.{Turns, last_within, seat_depth};
+ghost use Rattle.hp_adoption.specs.Turning.{Turns, seat_depth};
 
 use crate::adopting::{Tangle, untangle};
 use crate::entries::strike;
@@ -19,40 +17,17 @@ use hp_elements::{Kinds, Name, NoMemory, SetName, Tag};
 use hp_views::{View, Walk, name_walk, older_listed, open_walk};
 use std::alloc::Global;
 
-/// Whether an element of these kinds stands above that depth.
-fn is_above(kinds: &Kinds, stack: &OpenElements, depth: usize) -> bool
-    requires { depth ≤ length stack.now }
-    ensures { result ≡ list_any (within kinds.now) (take depth stack.now) }
-{
-    for above in 0..depth {
-        if is_within(kinds, stack.at(above)) {
-            return true;
-        }
-    }
-    false
-}
-
 /// Whether an end of a scope stands above that depth.
 fn hides(stack: &OpenElements, depth: usize) -> bool
     requires { depth ≤ length stack.now }
     ensures { result ≡ spec_hides (take depth stack.now) }
 {
-    is_above(&Kinds::Set(SetName::DefaultScopeEnds), stack, depth)
-}
-
-/// The depth of the element of these kinds above that depth that is nearest to it.
-fn last_above(kinds: &Kinds, stack: &OpenElements, depth: usize) -> Option<usize>
-    requires { depth ≤ length stack.now }
-    ensures found { result ≡ last_within (within kinds.now) (take depth stack.now) }
-    ensures above { IfSome result (λ block. block < depth) }
-{
-    for turn in 0..depth {
-        let above = depth - 1 - turn;
-        if is_within(kinds, stack.at(above)) {
-            return Some(above);
+    for above in 0..depth {
+        if is_within(&Kinds::Set(SetName::DefaultScopeEnds), stack.at(above)) {
+            return true;
         }
     }
-    None
+    false
 }
 
 /// The depth of the special element above that depth that is nearest to it.
@@ -61,7 +36,13 @@ fn furthest(stack: &OpenElements, depth: usize) -> Option<usize>
     ensures found { result ≡ seat_depth (spec_furthest (take depth stack.now)) }
     ensures above { IfSome result (λ block. block < depth) }
 {
-    last_above(&Kinds::Set(SetName::Special), stack, depth)
+    for turn in 0..depth {
+        let above = depth - 1 - turn;
+        if is_within(&Kinds::Set(SetName::Special), stack.at(above)) {
+            return Some(above);
+        }
+    }
+    None
 }
 
 /// The tag of the entry at that depth of the list, which is an element's.
