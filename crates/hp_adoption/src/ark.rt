@@ -1,7 +1,6 @@
 //! An element put into the list of active formatting elements (13.2.4.3).
-ghost use Rattle.std.specs.Prelude.{◌≡◌, ◌<◌, ◌^◌, IfOk, IsTrue};
-ghost use Rattle.hp_views.specs.View.{sight, split_of, Carries, Knows};
-ghost use Rattle.hp_adoption.specs.FewEntries.{IsShort};
+ghost use Rattle.std.specs.Prelude.{◌≡◌, ◌<◌, ◌^◌, IfOk};
+ghost use Rattle.hp_views.specs.View.{sight, Carries, Knows};
 ghost use Rattle.hp_adoption.specs.ArkPlans.{tally as spec_tally, older_equals as spec_older_equals, room_with, room_plan, append_to_list_plan};
 
 use hp_control::{Below, Crossing, FormattingEntry, Refusal, Stack, same_tag};
@@ -111,17 +110,6 @@ fn make_room<'p, B: Below>(alloc: Global, view: &mut View<'p, B>, tag: &Tag) -> 
     }
 }
 
-/// Whether no entry is older, and there are too few for three equal ones.
-#[inline(always)]
-fn is_short<'p, B: Below>(view: &View<'p, B>) -> bool
-    ensures { IsTrue result → IsShort (split_of view.now) }
-{
-    match view.page {
-        Some(_) => view.change.formatting.len() < FEW,
-        None => false,
-    }
-}
-
 /// An entry for the current node, which was made for the tag; of three equal entries after the last marker the earliest goes first.
 /// Where that is an older one, it crosses.
 #[inline(always)]
@@ -132,7 +120,7 @@ pub fn append_to_list<'p, B: Below>(
 ) -> Result<(), Refusal>
     ensures { Carries result (sight B.heard view.old) (sight B.heard view.new) (append_to_list_plan tag) }
 {
-    if is_short(view) {
+    if view.page.is_some() && view.change.formatting.len() < FEW {
         return view.append_entry(alloc, tag);
     }
     append_with_room(alloc, view, tag)

@@ -4,7 +4,7 @@ ghost use Rattle.hp_control.specs.Acts.{element_for as spec_element_for};
 ghost use Rattle.hp_control.specs.Adoption.{pass_listed, pass_all, renewed, find_id};
 ghost use Rattle.hp_adoption.specs.Entries.{ref_of, tag_of};
 ghost use Rattle.hp_adoption.specs.Starting.{block_after};
-ghost use Rattle.hp_adoption.specs.Turning.{renewing, marked as spec_marked};
+ghost use Rattle.hp_adoption.specs.Turning.{renewing};
 
 use crate::elements::element_for;
 use crate::entries::{strike, supplant};
@@ -92,7 +92,9 @@ impl<'p> Climb<'p> {
             node,
             FormattingEntry::Element { id, tag },
         );
-        self.bookmark = marked(self.last, block, id, self.bookmark);
+        if self.last == block {
+            self.bookmark = Some(id);
+        }
         self.last = id;
         let Some(next) = id.checked_add(1) else {
             return Err(NoMemory);
@@ -159,13 +161,6 @@ fn note_renewed(
             place: Place::Into(made),
         },
     )
-}
-
-/// The entry that the bookmark is after, once a node after the last one is made anew.
-fn marked(last: u64, block: u64, made: u64, bookmark: Option<u64>) -> Option<u64>
-    ensures { result ≡ spec_marked last block made bookmark }
-{
-    if last == block { Some(made) } else { bookmark }
 }
 
 /// The tag of the entry of this id.
