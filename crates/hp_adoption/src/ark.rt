@@ -120,6 +120,7 @@ pub fn append_to_list<'p, B: Below>(
 ) -> Result<(), Refusal>
     ensures { Carries result (sight B.heard view.old) (sight B.heard view.new) (append_to_list_plan tag) }
 {
+    // No entry is older, and there are too few for three equal ones.
     if view.page.is_some() && view.change.formatting.len() < FEW {
         return view.append_entry(alloc, tag);
     }
