@@ -1,5 +1,5 @@
 -- The parts of a turn.
-use Rattle.std.specs.Prelude.{ℕ, suc, ◌+◌, ◌==◌, Bool, if◌then◌else◌, List, [], ◌∷◌, ◌++◌, Option, Some, None, Result, Ok, Err}
+use Rattle.std.specs.Prelude.{ℕ, suc, ◌+◌, Bool, if◌then◌else◌, List, [], ◌∷◌, ◌++◌, Option, Some, None, Result, Ok, Err}
 use Rattle.std.specs.Option.{option_map}
 use Rattle.hp_elements.specs.declared.tag.Tag.{Tag}
 use Rattle.hp_control.specs.declared.change.Change.{Change}
@@ -42,10 +42,6 @@ last_within test (e ∷ es) = last_by (test e) (last_within test es)
 -- what a node that is made anew is in the list of edits
 abbrev pub renewing : Ref → Ref → Tag → List Edit
 renewing last made tag = NewElement tag ∷ Put (child.Element last) (Into made) ∷ []
-
--- the entry that the bookmark is after
-abbrev pub marked : ℕ → ℕ → ℕ → Option ℕ → Option ℕ
-marked last block made bookmark = if last == block then Some made else bookmark
 
 -- the last edits of a turn
 abbrev pub closing : Ref → Place → Ref → Ref → Tag → List Edit
