@@ -1,8 +1,6 @@
 -- Own elements and entries taken out of mid-list: what each act changes of a view.
-use Rattle.std.specs.Prelude.{ℕ, zero, suc, ◌+◌, ◌==◌, Bool, false, ◌++◌, take, drop}
+use Rattle.std.specs.Prelude.{ℕ, zero, suc, ◌+◌, ◌++◌, take, drop}
 use Rattle.hp_control.specs.declared.change.Change.{Change}
-use Rattle.hp_control.specs.declared.element.FormattingEntry.{FormattingEntry}
-use Rattle.hp_control.specs.declared.element.FormattingEntry.TheVariants.{Marker, Element}
 use Rattle.hp_control.specs.Acts.{without}
 use Rattle.hp_control.specs.Faithful.{Split}
 use Rattle.hp_control.specs.Plan.{Plan, gives}
@@ -36,7 +34,3 @@ remove_on v _ = gives v
 -- the own entry of this id
 abbrev pub remove_entry_plan : ℕ → Split → Plan Split
 remove_entry_plan id v = remove_on v (id_entry_walk id v.change.formatting)
-
-abbrev pub is_entry : ℕ → FormattingEntry → Bool
-is_entry id Marker = false
-is_entry id (Element other tag) = other == id

@@ -5,8 +5,6 @@ use Rattle.hp_elements.specs.declared.kinds.Kinds.{Kinds}
 use Rattle.hp_control.specs.declared.element.OpenElement.{OpenElement}
 use Rattle.hp_control.specs.declared.element.FormattingEntry.{FormattingEntry}
 use Rattle.hp_control.specs.declared.element.FormattingEntry.TheVariants.{Marker, Element}
-use Rattle.hp_control.specs.declared.open_elements.WalkEnd.{WalkEnd}
-use Rattle.hp_control.specs.declared.open_elements.WalkEnd.TheVariants.{Goal, Stop, BelowAll}
 use Rattle.hp_control.specs.KindTests.{within}
 use Rattle.hp_control.specs.Walks.{scope_ends}
 use Rattle.hp_views.specs.declared.walks.Walk.{Walk}
@@ -22,12 +20,6 @@ deeper n PastAll = PastAll
 abbrev pub walk_of : Kinds → Kinds → List OpenElement → Walk
 walk_of goals stops [] = PastAll
 walk_of goals stops (e ∷ es) = if within goals e then Found 0 else (if within stops e then Stopped else deeper 1 (walk_of goals stops es))
-
--- a walk that ends so; where it is found doesn't count
-abbrev pub walk_to : WalkEnd → Walk
-walk_to Goal = Found 0
-walk_to Stop = Stopped
-walk_to BelowAll = PastAll
 
 -- down to the first element that is not of these kinds
 abbrev pub run_walk : Kinds → List OpenElement → Walk
