@@ -117,6 +117,10 @@ run_alike _ v p = absurd (not_run p.run)
     not_run : false ≡ true → ⊥
     not_run e = cc
 
+pub no_run : (t : Token) → ((class : CharClass) (text : List ℕ) → t ≡ Characters class text → ⊥) → is_run t ≡ true → ⊥
+no_run (Characters class text) other run = other class text refl
+no_run _ other run = absurd (cc)
+
 -- it was put there, and nothing is asked
 pub plain_put : (a b : Heard) (t : Token) (v w : Split) → IsPlain v t → Runs a b (run_plan t v) (Ok w) → Runs a b (all_turns_plan t v) (Ok (record { split = w; handled = nothing_asked }))
 plain_put a b t v w p run =

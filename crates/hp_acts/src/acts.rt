@@ -10,18 +10,17 @@ use crate::characters::{
     append_pending, comment_into_document, comment_into_first, put_characters, put_comment,
     put_doctype, put_replaced, quirks_of_doctype,
 };
+use crate::ends::implied_but;
 use crate::inserts::{
-    add_to_body, add_to_first, insert, insert_html, insert_like_current, insert_named_foreign,
+    add_to_body, add_to_first, append_current, insert, insert_html, insert_like_current,
+    insert_named_foreign,
 };
 use crate::questions::holds;
-use crate::stack_acts::{
-    adopt_named, append_current, implied_except, through, through_foreign, walk,
-};
-use crate::token_parts::{Spending, bare};
-use hp_adoption::{close_link, flush, reconstruct};
+use crate::token_parts::{Spending, bare, name_of};
+use hp_adoption::{adopt, close_link, flush, reconstruct};
 use hp_control::{Below, Refusal};
-use hp_elements::{Act, Kinds, Known, Point, Token};
-use hp_foreign::pop_to_point;
+use hp_elements::{Act, Kinds, Known, Point, Token, Which};
+use hp_foreign::{pop_to_point, through_foreign};
 use hp_views::View;
 use std::alloc::Global;
 
@@ -107,17 +106,32 @@ fn close<'p, B: Below>(
         Act::PopTo(set) => view.pop_to(alloc, Kinds::Set(set)),
         Act::PopToFirst => view.pop_to_first(alloc),
         Act::PopToPoint => pop_to_point(alloc, view),
-        Act::Through(which) => through(alloc, view, token, which),
+        Act::Through(which) => {
+            let name = name_of(alloc, token, which)?;
+            view.through(alloc, Kinds::Html(name), Kinds::Nothing)
+        }
         Act::ThroughFirstOf(set) => view.through(alloc, Kinds::Set(set), Kinds::Nothing),
-        Act::ThroughForeign => through_foreign(alloc, view, token),
+        Act::ThroughForeign => {
+            let name = name_of(alloc, token, Which::Its)?;
+            through_foreign(alloc, view, name)
+        }
         Act::Implied => view.implied(alloc),
-        Act::ImpliedExcept(which) => implied_except(alloc, view, token, which),
+        Act::ImpliedExcept(which) => {
+            let name = name_of(alloc, token, which)?;
+            implied_but(alloc, view, &name)
+        }
         Act::ImpliedThoroughly => view.implied_thoroughly(alloc),
         Act::CloseParagraph => view.close_paragraph(alloc),
         Act::CloseItem => view.close_item(alloc),
         Act::CloseDescription => view.close_description(alloc),
-        Act::Walk => walk(alloc, view, token),
-        Act::Adopt(which) => adopt_named(alloc, view, token, which, fostering),
+        Act::Walk => {
+            let name = name_of(alloc, token, Which::Its)?;
+            view.walk(alloc, name)
+        }
+        Act::Adopt(which) => {
+            let name = name_of(alloc, token, which)?;
+            adopt(alloc, view, fostering, name)
+        }
         Act::CloseLink => close_link(alloc, view, fostering),
         Act::EndForm => view.end_form(alloc),
         Act::DetachBody => view.detach_body(alloc),

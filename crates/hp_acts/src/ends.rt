@@ -1,32 +1,27 @@
 //! The end tags of blocks, of list items, of terms and their descriptions, and of paragraphs (13.2.6.4.7). Most often the current
 //! node is what ends, and is popped at once.
-ghost use Rattle.std.specs.Prelude.{◌≡◌, ◌&&◌, true, not};
+ghost use Rattle.std.specs.Prelude.{◌≡◌, true};
 ghost use Rattle.hp_elements.specs.Names.{known_of, text_of};
-ghost use Rattle.hp_elements.specs.declared.kinds.Kinds.TheVariants as kinds;
-ghost use Rattle.hp_control.specs.KindTests.{within};
 ghost use Rattle.hp_views.specs.View.{sight, Carries};
 ghost use Rattle.hp_acts.specs.Plans.{implied_but_plan};
 ghost use Rattle.hp_acts.specs.TopEnds.{EndsDescription, ends_top};
 ghost use Rattle.hp_acts.specs.Usual.{block_end_plan, description_end_plan, item_end_plan, paragraph_end_plan};
 
 use crate::token_parts::bare;
-use hp_control::{Below, OpenElement, OpenElements, Refusal, is_html, is_within};
+use hp_control::{Below, OpenElements, Refusal, is_html, is_within};
 use hp_elements::{ElementName, Kinds, Known, Name, Point, Scope, SetName};
 use hp_views::View;
 use std::alloc::Global;
-
-/// Whether the element is an HTML one of that name, and not of the set.
-fn ends(element: &OpenElement, name: &Name, passed: SetName) -> bool
-    ensures { result ≡ (within (kinds.Html name.now) element.now && not (within (kinds.Set passed) element.now)) }
-{
-    is_html(element) && name.same(&element.name) && !is_within(&Kinds::Set(passed), element)
-}
 
 /// Whether the current node is an own HTML element of the name, and stays where those of the set are popped.
 pub(crate) fn ends_top(stack: &OpenElements, name: &Name, passed: SetName) -> bool
     ensures { result ≡ ends_top passed name.now stack.now }
 {
-    !stack.is_empty() && ends(stack.at(0), name, passed)
+    if stack.is_empty() {
+        return false;
+    }
+    let top = stack.at(0);
+    is_html(top) && name.same(&top.name) && !is_within(&Kinds::Set(passed), top)
 }
 
 /// The same of a known name.
@@ -143,7 +138,7 @@ fn close_description_any<'p, B: Below>(
 }
 
 /// Generates implied end tags, but not that of the name.
-fn implied_but<'p, B: Below>(
+pub(crate) fn implied_but<'p, B: Below>(
     alloc: Global,
     view: &mut View<'p, B>,
     name: &Name,

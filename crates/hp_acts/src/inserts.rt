@@ -1,5 +1,6 @@
-//! The acts that insert an element.
+//! The acts that insert an element for the token, and that list it.
 ghost use Rattle.std.specs.Prelude.{◌≡◌, OnOk};
+ghost use Rattle.hp_adoption.specs.ArkPlans.{append_to_list_plan};
 ghost use Rattle.hp_views.specs.PlacePlans.{insert_plan, insert_document_plan, add_first_plan, add_body_plan};
 ghost use Rattle.hp_views.specs.View.{sight, Carries};
 ghost use Rattle.hp_foreign.specs.Plans.{insert_foreign_plan, insert_as_current_plan};
@@ -8,6 +9,7 @@ ghost use Rattle.hp_acts.specs.Spending.{html_tag, IsLeftOf};
 ghost use Rattle.hp_acts.specs.declared.token_parts.Spending.TheVariants.{Copies};
 
 use crate::token_parts::{Spending, is_self_closing, take_attributes, take_tag};
+use hp_adoption::append_to_list;
 use hp_control::{Below, Refusal};
 use hp_elements::{Point, Token};
 use hp_foreign::{insert_as_current, insert_foreign};
@@ -112,4 +114,19 @@ pub(crate) fn add_to_body<'p, B: Below>(
 {
     let attributes = take_attributes(alloc, token, spending)?;
     view.add_missing_to_body(alloc, attributes)
+}
+
+/// Appends the current node, which was made for the token, to the list of formatting elements.
+pub(crate) fn append_current<'p, B: Below>(
+    alloc: Global,
+    view: &mut View<'p, B>,
+    token: &mut Token<'p>,
+    spending: Spending,
+) -> Result<(), Refusal>
+    ensures plan { Carries result (sight B.heard view.old) (sight B.heard view.new) (append_to_list_plan (html_tag token.old)) }
+    ensures left { OnOk result (IsLeftOf token.old token.new) }
+    ensures copies { spending ≡ Copies → token.new ≡ token.old }
+{
+    let tag = take_tag(alloc, token, spending)?;
+    append_to_list(alloc, view, tag)
 }

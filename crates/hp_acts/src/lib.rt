@@ -9,7 +9,6 @@ mod laws;
 mod plain;
 mod questions;
 mod rows;
-mod stack_acts;
 mod table_rows;
 mod table_text;
 mod token_parts;

@@ -4,7 +4,7 @@ ghost use Rattle.std.specs.Prelude.{◌≡◌, true};
 ghost use Rattle.hp_views.specs.View.{sight, split_of, Carries};
 ghost use Rattle.hp_acts.specs.HandlePlans.{all_turns_plan, handle_plan};
 ghost use Rattle.hp_acts.specs.Handling.{Handles};
-ghost use Rattle.hp_acts.specs.Plain.{IsPlain, body_text_plan, is_run, run_plan, takes_text, text_plan};
+ghost use Rattle.hp_acts.specs.Plain.{IsPlain, body_text_plan, is_run, takes_text, text_plan};
 ghost use Rattle.hp_model.specs.Texts.{as_run, has_html_top, is_text_mode, is_white, white_or_other};
 ghost use Rattle.std.specs.List.{list_all};
 ghost use Rattle.std.specs.Str.{chars};
@@ -54,7 +54,6 @@ pub(crate) fn is_plain<'p, B: Below>(view: &View<'p, B>, token: &Token<'p>) -> b
 }
 
 /// Puts the text of a plain run into the current node.
-#[tactic(auto, using(crate::proofs::PlainRuns::plain_refused))]
 #[inline(never)]
 pub(crate) fn put_plain<'p, B: Below>(
     alloc: Global,
@@ -64,22 +63,12 @@ pub(crate) fn put_plain<'p, B: Below>(
     requires { IsPlain (split_of view.old) token }
     ensures { Handles result (sight B.heard view.old) (sight B.heard view.new) (all_turns_plan token.entry) }
 {
-    match put_run(alloc, view, token) {
-        Ok(()) => Ok(NOTHING),
-        Err(refused) => Err(refused),
-    }
-}
-
-fn put_run<'p, B: Below>(
-    alloc: Global,
-    view: &mut View<'p, B>,
-    token: Token<'p>,
-) -> Result<(), Refusal>
-    ensures { Carries result (sight B.heard view.old) (sight B.heard view.new) (run_plan token.entry) }
-{
     match token {
-        Token::Characters { class, text } => put_characters(alloc, view, class, text),
-        _ => Ok(()),
+        Token::Characters { class, text } => match put_characters(alloc, view, class, text) {
+            Ok(()) => Ok(NOTHING),
+            Err(refused) => Err(refused),
+        },
+        _ => Ok(NOTHING),
     }
 }
 

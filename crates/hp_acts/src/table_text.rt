@@ -4,7 +4,7 @@ ghost use Rattle.std.specs.Prelude.{◌≡◌, true};
 ghost use Rattle.hp_views.specs.View.{sight, split_of};
 ghost use Rattle.hp_acts.specs.HandlePlans.{all_turns_plan};
 ghost use Rattle.hp_acts.specs.Handling.{Handles};
-ghost use Rattle.hp_acts.specs.TableText.{BeginsText, ContinuesText, EndsText, is_characters, waits_at};
+ghost use Rattle.hp_acts.specs.TableText.{BeginsText, ContinuesText, EndsText, waits_at};
 
 use crate::characters::append_pending;
 use crate::plain::{is_in_html, is_plain, is_run, put_plain};
@@ -26,16 +26,6 @@ fn waits_at(stack: &OpenElements) -> bool
     }
     let top = stack.at(0);
     is_html(top) && is_within(&Kinds::Set(SetName::TableTextParents), top)
-}
-
-/// Whether the token is of characters.
-fn is_characters(token: &Token<'_>) -> bool
-    ensures { result ≡ is_characters token.now }
-{
-    match token {
-        Token::Characters { .. } => true,
-        _ => false,
-    }
 }
 
 /// Whether the token is the first run of characters that waits.
@@ -65,7 +55,10 @@ fn ends<'p, B: Below>(view: &View<'p, B>, token: &Token<'p>) -> bool
     ensures { result ≡ true → EndsText (split_of view.now) token.now }
 {
     match view.change.mode {
-        Mode::InTableText => !is_characters(token) && is_in_html(&view.change.stack),
+        Mode::InTableText => match token {
+            Token::Characters { .. } => false,
+            _ => is_in_html(&view.change.stack),
+        },
         _ => false,
     }
 }
