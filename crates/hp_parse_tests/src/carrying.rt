@@ -46,36 +46,6 @@ pub(crate) enum Step {
     EmptiesForm,
 }
 
-/// What an act is carried out for.
-#[derive(Clone, Copy)]
-enum For {
-    /// A start tag of that name.
-    Start(Known),
-    /// A text of one letter.
-    Letter,
-    Comment,
-}
-
-/// How an act comes out.
-#[derive(Clone, Copy, PartialEq, Eq)]
-enum Outcome {
-    /// It is carried out; a test holds.
-    Done,
-    /// A test fails.
-    Failed,
-    Crossed,
-    NoMemory,
-}
-
-/// An act, and how it is to come out.
-#[derive(Clone, Copy)]
-struct Carried {
-    act: Act,
-    what_for: For,
-    fostering: bool,
-    outcome: Outcome,
-}
-
 fn start<'p>(known: Known) -> Token<'p> {
     let tag = Tag {
         namespace: Namespace::Html,
@@ -88,126 +58,67 @@ fn start<'p>(known: Known) -> Token<'p> {
     }
 }
 
-fn token_for<'p>(what_for: For) -> Token<'p> {
-    match what_for {
-        For::Start(known) => start(known),
-        For::Letter => Token::Characters {
-            class: CharClass::Other,
-            text: Text::of_char('a'),
-        },
-        For::Comment => Token::Comment { text: Text::new() },
+/// A text of one letter.
+fn letter<'p>() -> Token<'p> {
+    Token::Characters {
+        class: CharClass::Other,
+        text: Text::of_char('a'),
     }
-}
-
-/// The act of a step for a start tag, and how it is to come out.
-fn for_start(known: Known, act: Act, outcome: Outcome) -> Option<Carried> {
-    Some(Carried {
-        act,
-        what_for: For::Start(known),
-        fostering: false,
-        outcome,
-    })
-}
-
-/// The act of a step for another token, which is to be carried out.
-fn for_other(what_for: For, act: Act) -> Option<Carried> {
-    Some(Carried {
-        act,
-        what_for,
-        fostering: false,
-        outcome: Outcome::Done,
-    })
-}
-
-fn fostered(known: Known, act: Act) -> Option<Carried> {
-    Some(Carried {
-        act,
-        what_for: For::Start(known),
-        fostering: true,
-        outcome: Outcome::Done,
-    })
 }
 
 fn of_test(test: Test) -> Act {
     Act::If { test, otherwise: 0 }
 }
 
-/// The act of a step, where it has one.
-fn act_of(step: Step) -> Option<Carried> {
-    match step {
-        Step::Does(known, act) => for_start(known, act, Outcome::Done),
-        Step::Fosters(known, act) => fostered(known, act),
-        Step::Holds(known, test) => for_start(known, of_test(test), Outcome::Done),
-        Step::Fails(known, test) => for_start(known, of_test(test), Outcome::Failed),
-        Step::Crosses(known, act) => for_start(known, act, Outcome::Crossed),
-        Step::Puts(act) => for_other(For::Letter, act),
-        Step::Notes(act) => for_other(For::Comment, act),
-        _ => None,
-    }
-}
-
-/// Whether the act comes out as it is to.
-fn carries<'p, B: Below>(alloc: Global, view: &mut View<'p, B>, it: Carried) -> bool {
-    let mut token = token_for(it.what_for);
-    let done = carry(
-        alloc,
-        view,
-        it.act,
-        &mut token,
-        Spending::Copies,
-        it.fostering,
-    );
+/// Whether the act answers that for the token; where nothing is wanted, whether it crosses.
+fn carries<'p, B: Below>(
+    alloc: Global,
+    view: &mut View<'p, B>,
+    act: Act,
+    token: Token<'p>,
+    fostering: bool,
+    wanted: Option<bool>,
+) -> bool {
+    let mut token = token;
+    let done = carry(alloc, view, act, &mut token, Spending::Copies, fostering);
     mem::forget(token);
-    let outcome = match done {
-        Ok(true) => Outcome::Done,
-        Ok(false) => Outcome::Failed,
-        Err(Refusal::Crossed(_)) => Outcome::Crossed,
-        Err(_) => Outcome::NoMemory,
-    };
-    outcome == it.outcome
-}
-
-fn handles<'p, B: Below>(alloc: Global, view: &mut View<'p, B>, known: Known) -> bool {
-    handle(alloc, view, start(known)).is_ok()
-}
-
-fn reads<'p, B: Below>(alloc: Global, view: &mut View<'p, B>) -> bool {
-    takes_text(view) && handle_text(alloc, view, Text::of_char('a')).is_ok()
-}
-
-fn is_html<'p, B: Below>(alloc: Global, view: &mut View<'p, B>) -> bool {
-    match view.foreign_now(alloc) {
-        Ok(foreign) => !foreign,
-        Err(_) => false,
+    match done {
+        Ok(answer) => wanted == Some(answer),
+        Err(Refusal::Crossed(_)) => wanted.is_none(),
+        Err(Refusal::NoMemory) => false,
     }
 }
 
+/// Whether the name of the last start tag is told.
 fn tells_last_tag<'p, B: Below>(alloc: Global, view: &mut View<'p, B>) -> bool {
-    match view.last_tag(alloc) {
-        Ok(name) => {
-            mem::forget(name);
-            true
-        }
-        Err(_) => false,
-    }
-}
-
-fn empties_form<'p, B: Below>(alloc: Global, view: &mut View<'p, B>) -> bool {
-    view.empty_form(alloc).is_ok()
+    let name = view.last_tag(alloc);
+    let well = name.is_ok();
+    mem::forget(name);
+    well
 }
 
 /// Whether the step comes out so.
 fn comes_out<'p, B: Below>(alloc: Global, view: &mut View<'p, B>, step: Step) -> bool {
     match step {
-        Step::Handles(known) => handles(alloc, view, known),
-        Step::Reads => reads(alloc, view),
-        Step::IsHtml => is_html(alloc, view),
+        Step::Does(known, act) => carries(alloc, view, act, start(known), false, Some(true)),
+        Step::Fosters(known, act) => carries(alloc, view, act, start(known), true, Some(true)),
+        Step::Holds(known, test) => {
+            carries(alloc, view, of_test(test), start(known), false, Some(true))
+        }
+        Step::Fails(known, test) => {
+            carries(alloc, view, of_test(test), start(known), false, Some(false))
+        }
+        Step::Crosses(known, act) => carries(alloc, view, act, start(known), false, None),
+        Step::Puts(act) => carries(alloc, view, act, letter(), false, Some(true)),
+        Step::Notes(act) => {
+            let comment = Token::Comment { text: Text::new() };
+            carries(alloc, view, act, comment, false, Some(true))
+        }
+        Step::Handles(known) => handle(alloc, view, start(known)).is_ok(),
+        Step::Reads => takes_text(view) && handle_text(alloc, view, Text::of_char('a')).is_ok(),
+        Step::IsHtml => matches!(view.foreign_now(alloc), Ok(false)),
         Step::LastTag => tells_last_tag(alloc, view),
-        Step::EmptiesForm => empties_form(alloc, view),
-        _ => match act_of(step) {
-            Some(it) => carries(alloc, view, it),
-            None => false,
-        },
+        Step::EmptiesForm => view.empty_form(alloc).is_ok(),
     }
 }
 

@@ -3,11 +3,10 @@ use crate::carrying::Step::{
     self, Crosses, Does, Fails, Fosters, Handles, Holds, IsHtml, LastTag, Notes, Puts, Reads,
 };
 use crate::carrying::count_of;
-use crate::pages::page_of;
+use crate::parts::chunk_of;
 use hp_control::{Assumptions, Control, Guess, truth};
 use hp_elements::{Act, Known, Mode, Scope, SetName, Test, Which};
 use hp_predict::Prescan;
-use hp_text::{Chunk, Page};
 use hp_views::View;
 use std::alloc::Global;
 use std::mem;
@@ -200,25 +199,6 @@ static CASES: &[Case] = &[
     },
 ];
 
-/// The part of the page behind its last byte.
-fn end_of<'p>(rt: &impl Abort, page: Page<'p>) -> Chunk<'p> {
-    let text = page.as_str();
-    let end = text.len();
-    assert!(rt; text.is_char_boundary(end));
-    Chunk {
-        page,
-        number: 1,
-        from: end as u64,
-        to: end as u64,
-    }
-}
-
-/// What is guessed behind that text.
-fn guess(rt: &impl Abort, alloc: Global, before: &'static str) -> Prescan {
-    let page = page_of(rt, before);
-    Prescan::new(alloc, &end_of(rt, page)).expect(rt, "there is memory")
-}
-
 /// Whether each answer that was kept is true of the state.
 fn are_true(state: &Control, kept: &Assumptions) -> bool {
     for pair in kept.iter() {
@@ -229,28 +209,25 @@ fn are_true(state: &Control, kept: &Assumptions) -> bool {
     true
 }
 
-/// A view over what is guessed behind that text.
+/// A view over what a prescan guesses behind that text.
 fn over<'p>(rt: &impl Abort, alloc: Global, before: &'static str) -> View<'p, Guess<Prescan>> {
-    let guess = Guess::new(guess(rt, alloc, before));
-    let (view, answer) = View::guessed(alloc, guess).expect(rt, "there is memory");
+    let chunk = chunk_of(rt, before, before.len(), before.len());
+    let prescan = Prescan::new(alloc, &chunk).expect(rt, "there is memory");
+    let (view, answer) = View::guessed(alloc, Guess::new(prescan)).expect(rt, "there is memory");
     mem::forget(answer);
     view
 }
 
-/// Whether so many own elements are open, so many older ones are gone, and what was asked is true.
-fn ends_as(view: &View<'_, Guess<Prescan>>, open: usize, gone: u64) -> bool {
-    view.change.stack.len() == open
-        && view.change.popped == gone
-        && are_true(view.below.predictor.state(), &view.below.kept)
-}
-
-/// Whether each step of the case comes out, and the view ends as it says.
+/// Whether each step of the case comes out, so many own elements are open then, so many older ones are gone, and what was asked is true.
 fn passes(rt: &impl Abort, alloc: Global, case: &Case) -> bool {
     let mut view = over(rt, alloc, case.before);
     let count = count_of(alloc, &mut view, case.steps);
-    let ends = ends_as(&view, case.open, case.gone);
+    let well = count == case.steps.len()
+        && view.change.stack.len() == case.open
+        && view.change.popped == case.gone
+        && are_true(view.below.predictor.state(), &view.below.kept);
     mem::forget(view);
-    count == case.steps.len() && ends
+    well
 }
 
 fn all_pass(rt: &impl Abort, alloc: Global, cases: &[Case]) {

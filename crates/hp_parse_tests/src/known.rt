@@ -1,7 +1,7 @@
 //! Steps over a known state: those that a guess would have to cross, among others.
 use crate::carrying::Step::{self, Does, EmptiesForm, Fails, Holds, Notes};
 use crate::carrying::count_of;
-use hp_control::{Control, Nothing};
+use hp_control::Control;
 use hp_elements::{Act, Known, Test, Which};
 use hp_views::View;
 use std::alloc::Global;
@@ -71,24 +71,17 @@ static CASES: &[Case] = &[
     },
 ];
 
-/// A view of the state before the first token.
-fn begun<'p>() -> View<'p, Nothing> {
-    View::whole(Control::start())
-}
-
-/// Whether so many elements are open, and so many edits made.
-fn ends_as(view: &View<'_, Nothing>, open: usize, edits: usize) -> bool {
-    view.change.stack.len() == open && view.edits.len() == edits
-}
-
-/// Whether each step comes out, and the view ends as the case says.
+/// Whether each step comes out from the state before the first token on, and so many elements are open then and so many edits made.
 fn passes(alloc: Global, case: &Case) -> bool {
-    let mut view = begun();
+    let mut view = View::whole(Control::start());
     let opened = count_of(alloc, &mut view, OPENING);
     let count = count_of(alloc, &mut view, case.steps);
-    let ends = ends_as(&view, case.open, case.edits);
+    let well = opened == OPENING.len()
+        && count == case.steps.len()
+        && view.change.stack.len() == case.open
+        && view.edits.len() == case.edits;
     mem::forget(view);
-    opened == OPENING.len() && count == case.steps.len() && ends
+    well
 }
 
 fn all_pass(rt: &impl Abort, alloc: Global, cases: &[Case]) {

@@ -8,8 +8,4 @@ mod guessed;
 #[cfg(test)]
 mod known;
 #[cfg(test)]
-mod pages;
-#[cfg(test)]
 mod parts;
-#[cfg(test)]
-mod views;
