@@ -7,23 +7,17 @@ use std::alloc::Global;
 use std::mem;
 use std::process::Abort;
 
-/// Makes room for so many edits without attributes. What is owned is kept to the end of the test.
-pub fn make_room(rt: &impl Abort, alloc: Global, tree: &mut Tree<'static>, count: usize) {
+/// Makes room for 1024 edits without attributes where there is less than for 32. What is owned is kept to the end of the test.
+pub fn keep_room(rt: &impl Abort, alloc: Global, tree: &mut Tree<'static>) {
+    if tree.spare() >= 32 {
+        return;
+    }
     let mut edits: Edits<'static> = Edits::new();
-    for _ in 0..count {
-        edits
-            .push(alloc, put(comment(), 0))
-            .expect(rt, "there is memory");
+    for _ in 0..1024 {
+        edits.push(alloc, comment(0)).expect(rt, "there is memory");
     }
     tree.reserve(alloc, &edits).expect(rt, "there is memory");
     mem::forget(edits);
-}
-
-/// Makes room for 1024 edits where there is less than for 32.
-pub fn keep_room(rt: &impl Abort, alloc: Global, tree: &mut Tree<'static>) {
-    if tree.spare() < 32 {
-        make_room(rt, alloc, tree, 1024);
-    }
 }
 
 /// Makes an edit for which there is room.
@@ -33,27 +27,20 @@ pub fn make(rt: &impl Abort, tree: &mut Tree<'static>, edit: Edit<'static>) {
     tree.apply(edit);
 }
 
-/// An HTML element without attributes.
-pub fn element(known: Known) -> Edit<'static> {
-    Edit::NewElement {
-        tag: Tag {
-            namespace: Namespace::Html,
-            name: Name::of_known(known),
-            attributes: Chain::new(),
-        },
-    }
+/// Makes the HTML element `b` of that number and puts it last into another.
+pub fn make_element(rt: &impl Abort, tree: &mut Tree<'static>, id: u64, parent: u64) {
+    let tag = Tag {
+        namespace: Namespace::Html,
+        name: Name::of_known(Known::B),
+        attributes: Chain::new(),
+    };
+    let made: Edit<'static> = Edit::NewElement { tag };
+    let child: Child<'static> = Child::Element(Ref::Fixed(id));
+    make(rt, tree, made);
+    make(rt, tree, put(child, parent));
 }
 
-/// An empty comment.
-pub fn comment() -> Child<'static> {
-    Child::Comment(Text::new())
-}
-
-/// A text of one letter.
-pub fn letter() -> Child<'static> {
-    Child::Text(Text::of_char('t'))
-}
-
+/// Puts a child last into an element.
 pub fn put(child: Child<'static>, parent: u64) -> Edit<'static> {
     Edit::Put {
         child,
@@ -61,17 +48,18 @@ pub fn put(child: Child<'static>, parent: u64) -> Edit<'static> {
     }
 }
 
-pub fn put_element(id: u64, parent: u64) -> Edit<'static> {
-    put(Child::Element(Ref::Fixed(id)), parent)
+/// Puts an empty comment last into an element.
+pub fn comment(parent: u64) -> Edit<'static> {
+    put(Child::Comment(Text::new()), parent)
 }
 
-/// Puts a child before an element, or else last into another.
-pub fn foster(child: Child<'static>, before: u64, above: u64) -> Edit<'static> {
+/// Puts a child before the second element.
+pub fn foster(child: Child<'static>) -> Edit<'static> {
     Edit::Put {
         child,
         place: Place::Foster {
-            table: Ref::Fixed(before),
-            above: Ref::Fixed(above),
+            table: Ref::Fixed(2),
+            above: Ref::Fixed(0),
         },
     }
 }

@@ -3,7 +3,7 @@
 use hp_control::{Control, FactKind, FormattingEntry, OpenElements, Predictor, Question, Stack};
 use hp_elements::{Mode, Rest};
 use hp_predict::{Contrary, Prescan, Quiet};
-use hp_text::{Chunk, Page, check_page};
+use hp_text::{Chunk, check_page};
 use std::alloc::Global;
 use std::mem;
 use std::process::Abort;
@@ -69,7 +69,8 @@ const GUESSES: &[Guessed] = &[
 ];
 
 /// The text from that byte on.
-fn rest_of<'p>(rt: &impl Abort, page: Page<'p>, from: usize) -> Chunk<'p> {
+fn rest_of<'p>(rt: &impl Abort, text: &'p str, from: usize) -> Chunk<'p> {
+    let page = check_page(text.as_bytes()).expect(rt, "the page is UTF-8");
     let text = page.as_str();
     let to = text.len();
     assert!(rt; from <= to);
@@ -114,15 +115,6 @@ fn mode_word(mode: Mode) -> &'static str {
     }
 }
 
-/// The number of the form; 0 where there is none.
-fn form_word(form: Option<u64>) -> &'static str {
-    match form {
-        None => "0",
-        Some(3) => "3",
-        Some(_) => "another form",
-    }
-}
-
 fn rest_word(rest: Option<Rest>) -> &'static str {
     match rest {
         Some(Rest::Data) => "data",
@@ -139,7 +131,11 @@ fn describe(rt: &impl Abort, line: &mut String, state: &Control) {
     put(rt, line, ";");
     put_entries(rt, line, &state.formatting);
     put(rt, line, ";");
-    put(rt, line, form_word(state.form));
+    match state.form {
+        None => put(rt, line, "0"),
+        Some(3) => put(rt, line, "3"),
+        Some(_) => put(rt, line, "another form"),
+    }
     put(rt, line, ";");
     put(rt, line, mode_word(state.mode));
     put(rt, line, ";");
@@ -149,22 +145,14 @@ fn describe(rt: &impl Abort, line: &mut String, state: &Control) {
     }
 }
 
-/// Whether the line about a guessed state is that.
-fn is_described(rt: &impl Abort, alloc: Global, state: &Control, wanted: &str) -> bool {
+/// Whether the guess of a row is the one that stands there. What is owned is kept to the end of the test.
+fn is_guessed(rt: &impl Abort, alloc: Global, (before, text, wanted): Guessed) -> bool {
+    let chunk = rest_of(rt, text, before);
+    let prescan = Prescan::new(alloc, &chunk).expect(rt, "there is memory");
     let mut line = String::new(alloc);
-    describe(rt, &mut line, state);
+    describe(rt, &mut line, prescan.state());
     let well = line.as_str() == wanted;
     mem::forget(line);
-    well
-}
-
-/// Whether the guess of a row is the one that stands there. What is owned is kept to the end of the test.
-fn is_guessed(rt: &impl Abort, alloc: Global, row: Guessed) -> bool {
-    let (before, text, wanted) = row;
-    let page = check_page(text.as_bytes()).expect(rt, "the page is UTF-8");
-    let chunk = rest_of(rt, page, before);
-    let prescan = Prescan::new(alloc, &chunk).expect(rt, "there is memory");
-    let well = is_described(rt, alloc, prescan.state(), wanted);
     mem::forget(prescan);
     well
 }

@@ -1,15 +1,9 @@
 //! The calls of the lexer's machine that take memory and that no part of the lexer makes; `hp_lexer_tests` makes the others.
 use hp_elements::{Rest, Tokens};
-use hp_tokens::{
-    Machine, NoMemory, Reads, State, buffer_emitted, buffer_emitted_at_end, emitted_again,
-};
+use hp_tokens::{Machine, State, buffer_emitted, buffer_emitted_at_end, emitted_again};
 use std::alloc::Global;
 use std::mem;
 use std::process::Abort;
-
-fn is_done(reads: Result<Reads, NoMemory>) -> bool {
-    reads.is_ok()
-}
 
 /// Whether a comment, a buffer of one letter, and the end of input behind an empty one are emitted.
 fn emits(
@@ -19,13 +13,13 @@ fn emits(
     tokens: &mut Tokens<'static>,
 ) -> bool {
     machine.begin_comment();
-    let comment = is_done(emitted_again(alloc, machine, State::Data, tokens));
+    let comment = emitted_again(alloc, machine, State::Data, tokens).is_ok();
     machine
         .buffer
         .push(alloc, 'a')
         .expect(rt, "there is memory");
-    let letter = is_done(buffer_emitted(alloc, machine, State::Rawtext, tokens));
-    let end = is_done(buffer_emitted_at_end(alloc, machine, tokens));
+    let letter = buffer_emitted(alloc, machine, State::Rawtext, tokens).is_ok();
+    let end = buffer_emitted_at_end(alloc, machine, tokens).is_ok();
     comment && letter && end
 }
 

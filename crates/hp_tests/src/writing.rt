@@ -1,50 +1,48 @@
 //! Large trees whose text goes to an output. What is owned is kept to the end of a test.
 
-use crate::growing::{comment, element, foster, keep_room, letter, make, put, put_element};
+use crate::growing::{comment, foster, keep_room, make, make_element};
 use hp_arena::Tree;
-use hp_elements::Known;
+use hp_control::Child;
+use hp_elements::Text;
 use hp_print::{Refusal, print_tree, write_tree};
 use hp_text::MemorySink;
 use std::alloc::Global;
 use std::mem;
 use std::process::Abort;
 
-fn start(rt: &impl Abort, alloc: Global) -> Tree<'static> {
-    Tree::start(alloc).expect(rt, "there is memory")
+/// What a tree is grown by.
+#[derive(Clone, Copy)]
+enum By {
+    /// An empty comment in the document, whose text takes 12 bytes.
+    Comment,
+    /// An element in the one before.
+    Element,
+    /// A comment and a text of one letter before the second element, each between those that were put there before and the element.
+    Pair,
 }
 
-/// Puts so many empty comments into the document, whose text takes 12 bytes for each.
-fn add_comments(rt: &impl Abort, alloc: Global, tree: &mut Tree<'static>, comments: u64) {
-    for _ in 0..comments {
+/// A tree with so many elements, each in the one before.
+fn nested(rt: &impl Abort, alloc: Global, elements: u64) -> Tree<'static> {
+    let mut tree: Tree<'static> = Tree::start(alloc).expect(rt, "there is memory");
+    grow(rt, alloc, &mut tree, By::Element, elements);
+    tree
+}
+
+/// Grows a tree so many times; by elements, the document alone.
+fn grow(rt: &impl Abort, alloc: Global, tree: &mut Tree<'static>, by: By, count: u64) {
+    for number in 0..count {
         keep_room(rt, alloc, tree);
-        make(rt, tree, put(comment(), 0));
+        match by {
+            By::Comment => make(rt, tree, comment(0)),
+            By::Element => make_element(rt, tree, number.wrapping_add(1), number),
+            By::Pair => {
+                let note: Child<'static> = Child::Comment(Text::new());
+                let letter: Child<'static> = Child::Text(Text::of_char('t'));
+                make(rt, tree, foster(note));
+                make(rt, tree, foster(letter));
+            }
+        }
     }
-}
-
-/// Makes so many elements, each in the one before.
-fn add_elements(rt: &impl Abort, alloc: Global, tree: &mut Tree<'static>, elements: u64) {
-    for parent in 0..elements {
-        keep_room(rt, alloc, tree);
-        make(rt, tree, element(Known::B));
-        make(rt, tree, put_element(parent.wrapping_add(1), parent));
-    }
-}
-
-/// Puts so many pairs of children before the second element, each between those that were put there before and the element.
-fn add_before(rt: &impl Abort, alloc: Global, tree: &mut Tree<'static>, pairs: u64) {
-    for _ in 0..pairs {
-        keep_room(rt, alloc, tree);
-        make(rt, tree, foster(comment(), 2, 0));
-        make(rt, tree, foster(letter(), 2, 0));
-    }
-}
-
-/// The length of a tree's text.
-fn length_of(rt: &impl Abort, alloc: Global, tree: &Tree<'_>) -> usize {
-    let text = print_tree(alloc, tree).expect(rt, "there is memory");
-    let length = text.len();
-    mem::forget(text);
-    length
 }
 
 /// An output with so much room takes that much of the text; and all of it where there is room for it.
@@ -69,8 +67,8 @@ fn assert_all_taken(rt: &impl Abort, alloc: Global, tree: &Tree<'_>, text: &[u8]
 /// What is gathered goes out behind 65,536 bytes. An output without room for all took the first part.
 #[test]
 fn an_output_that_ends_within_the_text(rt: HostRuntime) {
-    let mut tree = start(&rt, rt.alloc());
-    add_comments(&rt, rt.alloc(), &mut tree, 10_000);
+    let mut tree = nested(&rt, rt.alloc(), 0);
+    grow(&rt, rt.alloc(), &mut tree, By::Comment, 10_000);
     let text = print_tree(rt.alloc(), &tree).expect(&rt, "there is memory");
     let length = text.len();
     assert_all_taken(&rt, rt.alloc(), &tree, &text, ROOMS);
@@ -82,8 +80,7 @@ fn an_output_that_ends_within_the_text(rt: HostRuntime) {
 /// The text of 200,000 elements, each in the one before, would take 40 GB.
 #[test]
 fn a_text_of_absurd_length_is_not_begun(rt: HostRuntime) {
-    let mut tree = start(&rt, rt.alloc());
-    add_elements(&rt, rt.alloc(), &mut tree, 200_000);
+    let tree = nested(&rt, rt.alloc(), 200_000);
     let mut out = MemorySink::new(rt.alloc(), 1_000, &[]).expect(&rt, "there is memory");
     let refused = write_tree(rt.alloc(), &tree, &mut out) == Err(Refusal::NoMemory);
     let well = refused && out.taken().is_empty();
@@ -92,32 +89,22 @@ fn a_text_of_absurd_length_is_not_begun(rt: HostRuntime) {
     assert!(rt; well);
 }
 
-/// Each level indents by two, so 2,000 levels take 4 MB.
-#[test]
-fn two_thousand_levels(rt: HostRuntime) {
-    let mut tree = start(&rt, rt.alloc());
-    add_elements(&rt, rt.alloc(), &mut tree, 2_000);
-    let length = length_of(&rt, rt.alloc(), &tree);
+/// The length of the text of a tree of so many elements, each in the one before, that is grown so many times.
+fn length_of(rt: &impl Abort, alloc: Global, elements: u64, by: By, count: u64) -> usize {
+    let mut tree = nested(rt, alloc, elements);
+    grow(rt, alloc, &mut tree, by, count);
+    let text = print_tree(alloc, &tree).expect(rt, "there is memory");
+    let length = text.len();
+    mem::forget(text);
     mem::forget(tree);
-    assert!(rt; length == 4_010_000);
+    length
 }
 
+/// Each level indents by two, so 2,000 levels take 4 MB. Of the children before one element none that was put there before is looked at.
 #[test]
-fn a_million_siblings(rt: HostRuntime) {
-    let mut tree = start(&rt, rt.alloc());
-    add_comments(&rt, rt.alloc(), &mut tree, 1_000_000);
-    let length = length_of(&rt, rt.alloc(), &tree);
-    mem::forget(tree);
-    assert!(rt; length == 1_000_000 * 12);
-}
-
-/// None of those that were put there before is looked at.
-#[test]
-fn many_children_before_one_element(rt: HostRuntime) {
-    let mut tree = start(&rt, rt.alloc());
-    add_elements(&rt, rt.alloc(), &mut tree, 2);
-    add_before(&rt, rt.alloc(), &mut tree, 100_000);
-    let length = length_of(&rt, rt.alloc(), &tree);
-    mem::forget(tree);
-    assert!(rt; length == 6 + 8 + 100_000 * (14 + 8));
+fn large_trees_are_printed(rt: HostRuntime) {
+    let alloc = rt.alloc();
+    assert!(rt; length_of(&rt, alloc, 2_000, By::Comment, 0) == 4_010_000);
+    assert!(rt; length_of(&rt, alloc, 0, By::Comment, 1_000_000) == 1_000_000 * 12);
+    assert!(rt; length_of(&rt, alloc, 2, By::Pair, 100_000) == 6 + 8 + 100_000 * (14 + 8));
 }
