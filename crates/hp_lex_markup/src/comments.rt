@@ -178,14 +178,14 @@ pub fn comment_end_bang(
 {
     match symbol {
         None => emitted_at_end(alloc, machine, tokens),
-        Some('-') => {
-            put_ascii(alloc, machine, Part::Comment, "--!")?;
-            Ok(go(machine, State::CommentEndDash))
-        }
         Some('>') => emitted(alloc, machine, State::Data, tokens),
-        Some(_) => {
+        Some(c) => {
             put_ascii(alloc, machine, Part::Comment, "--!")?;
-            Ok(again(machine, State::Comment))
+            if c == '-' {
+                Ok(go(machine, State::CommentEndDash))
+            } else {
+                Ok(again(machine, State::Comment))
+            }
         }
     }
 }

@@ -75,17 +75,13 @@ fn opened(
 ) -> Result<Reads, NoMemory>
     ensures { IfOk result (Follows (spec_opened part machine.old c) tokens.now machine.new tokens.now) }
 {
-    match c {
-        '"' => {
-            put_ascii(alloc, machine, part, "")?;
-            Ok(go(machine, double_quoted(part)))
-        }
-        '\'' => {
-            put_ascii(alloc, machine, part, "")?;
-            Ok(go(machine, single_quoted(part)))
-        }
-        _ => Ok(spoiled(machine, tokens)),
-    }
+    let state = match c {
+        '"' => double_quoted(part),
+        '\'' => single_quoted(part),
+        _ => return Ok(spoiled(machine, tokens)),
+    };
+    put_ascii(alloc, machine, part, "")?;
+    Ok(go(machine, state))
 }
 
 pub fn doctype(

@@ -7,15 +7,13 @@ ghost use Rattle.hp_tokens.specs.Moves.{Lexing, Move, move, read_as as spec_read
 ghost use Rattle.hp_tokens.specs.Advancing.{held, unread, Steps, EndSteps, ReadsOne, MovesByRows};
 ghost use Rattle.hp_lex_markup.specs.Rows.{reads_word, has_row, row as spec_row};
 ghost use Rattle.hp_lex_markup.specs.Words.{progress as spec_progress, is_open as spec_is_open, word as spec_word, count as spec_count, asks as spec_asks, folded as spec_folded, front_of, begins_of};
-ghost use Rattle.hp_lex_markup.specs.Markup.{after_word, markup_rules};
+ghost use Rattle.hp_lex_markup.specs.Markup.{markup_rules};
 ghost use Rattle.hp_lex_markup.specs.Held.{Gathers, PastWord, MovesByRow, pair_next};
 
 use crate::markup::row;
 use crate::rows::put_ascii;
 use hp_elements::Tokens;
-use hp_tokens::{
-    Cursor, EndStep, LexState, Machine, NoMemory, OwnedText, Part, Reads, State, Step,
-};
+use hp_tokens::{Cursor, EndStep, LexState, NoMemory, OwnedText, Part, Reads, State, Step};
 use std::alloc::Global;
 
 /// A word that is read at once.
@@ -179,10 +177,13 @@ fn drop_front(text: &mut OwnedText, count: usize)
     }
 }
 
-/// The lexer goes behind a word.
-fn go_past(alloc: Global, machine: &mut Machine, word: Word) -> Result<(), NoMemory>
-    ensures { OnOk result (machine.new ≡ after_word word machine.old) }
+/// A word that was read ahead is dropped there, and the lexer goes behind it.
+fn read_word(alloc: Global, state: &mut LexState, word: Word) -> Result<(), NoMemory>
+    requires { spec_count word ≤ length state.old.ahead }
+    ensures { OnOk result (PastWord word state.old state.new) }
 {
+    drop_front(&mut state.ahead, word.count());
+    let machine = &mut state.machine;
     machine.after_cr = false;
     match word {
         Word::Hyphens => {
@@ -199,15 +200,6 @@ fn go_past(alloc: Global, machine: &mut Machine, word: Word) -> Result<(), NoMem
         Word::System => machine.enter(State::AfterDoctypeSystemKeyword),
     }
     Ok(())
-}
-
-/// A word that was read ahead is dropped there, and the lexer goes behind it.
-fn read_word(alloc: Global, state: &mut LexState, word: Word) -> Result<(), NoMemory>
-    requires { spec_count word ≤ length state.old.ahead }
-    ensures { OnOk result (PastWord word state.old state.new) }
-{
-    drop_front(&mut state.ahead, word.count());
-    go_past(alloc, &mut state.machine, word)
 }
 
 /// One code point, by the row of the state. Answers whether something was appended.
