@@ -59,7 +59,6 @@ pub fn extra_depth(tag: &Tag) -> u32
 }
 
 /// Prints a text by its runs.
-#[tactic(auto, using(crate::proofs::Pieces::prints_then))]
 fn print_text<K: Sink>(out: &mut Out, sink: &mut K, runs: Runs<'_, '_>, depth: u64)
     requires { depth < 2 ^ 63 }
     ensures { Prints out.old out.new (K.taken sink.old, K.faults sink.old) (K.taken sink.new, K.faults sink.new) (text_line depth (text_of runs.entry)) }

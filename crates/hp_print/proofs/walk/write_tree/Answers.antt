@@ -27,3 +27,15 @@ returns-clause-failed g c = λ _.
 
 pub returns-clause-whole : goal.returns-clause-whole
 returns-clause-whole g c = tt
+
+pub returns-clause-nothing : goal.returns-clause-nothing
+returns-clause-nothing g c = λ e. cc
+
+pub returns-then-finish-clause-part : goal.returns-then-finish-clause-part
+returns-then-finish-clause-part g c = λ e. cc
+
+pub returns-then-finish-clause-failed : goal.returns-then-finish-clause-failed
+returns-then-finish-clause-failed g c = λ e. cc
+
+pub returns-then-finish-clause-nothing : goal.returns-then-finish-clause-nothing
+returns-then-finish-clause-nothing g c = λ e. cc
