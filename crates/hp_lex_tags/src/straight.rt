@@ -235,22 +235,6 @@ fn read_quoted<R: LongRun>(
     read_behind_run::<R>(alloc, names, attributes, name, value, input, mark, state)
 }
 
-/// A value without quotes.
-#[inline]
-fn read_unquoted(
-    alloc: Global,
-    names: &Names,
-    attributes: &mut Chain<Attribute>,
-    name: Name,
-    input: &mut Cursor<'_>,
-) -> Result<Way, NoMemory>
-    ensures { IfOk result (ValueKept names.now states.AttributeValueUnquoted name [] attributes.old input.old attributes.new input.new) }
-{
-    let value = Text::from_str(alloc, input.take_run::<UnquotedText>())?;
-    keep(alloc, attributes, name, value)?;
-    Ok(behind_unquoted(input))
-}
-
 /// The value of an attribute, behind its `=`, where it is not in double quotes.
 #[inline(never)]
 fn read_other_value(
@@ -268,7 +252,9 @@ fn read_other_value(
         return read_quoted::<SingleQuotedText>(alloc, names, attributes, name, input, b'\'', state);
     }
     if begins::<UnquotedText>(input) {
-        return read_unquoted(alloc, names, attributes, name, input);
+        let value = Text::from_str(alloc, input.take_run::<UnquotedText>())?;
+        keep(alloc, attributes, name, value)?;
+        return Ok(behind_unquoted(input));
     }
     keep(alloc, attributes, name, Text::new())?;
     Ok(Way::Left)

@@ -40,3 +40,12 @@ pub returns-clause-held : goal.returns-clause-held
 returns-clause-held c =
     decided_held (longest c.args.names.now c.gather.new.state.ahead) c.gather.new.state c.gather.new.input c.decide.new.state
     c.args.tokens.now c.decide.new.tokens c.in_ok-decide.ensures c.in_ok-decided.ensures.same.held
+
+pub returns-in_default-clause-held : goal.returns-in_default-clause-held
+returns-in_default-clause-held c = c.requires.held
+
+pub returns-then-is_pair_next-clause-held : goal.returns-then-is_pair_next-clause-held
+returns-then-is_pair_next-clause-held c = c.drop_line_feed.ensures.held
+
+pub returns-then-not-decided-clause-held : goal.returns-then-not-decided-clause-held
+returns-then-not-decided-clause-held c = c.in_ok-decided.ensures.same.held

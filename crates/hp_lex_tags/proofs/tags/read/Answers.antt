@@ -32,3 +32,24 @@ returns-in-AttributeValueUnquoted-clause-step c = c.step_in_part-in-AttributeVal
 
 pub returns-in_default-clause-step : goal.returns-in_default-clause-step
 returns-in_default-clause-step c = c.step_by_row.ensures.step
+
+pub returns-in-Data-clause-held : goal.returns-in-Data-clause-held
+returns-in-Data-clause-held c = c.step_in_text.ensures.held
+
+pub returns-in-TagName-clause-held : goal.returns-in-TagName-clause-held
+returns-in-TagName-clause-held c = c.step_in_part.ensures.held
+
+pub returns-in-AttributeName-clause-held : goal.returns-in-AttributeName-clause-held
+returns-in-AttributeName-clause-held c = c.step_in_part-in-AttributeName.ensures.held
+
+pub returns-in-AttributeValueDoubleQuoted-clause-held : goal.returns-in-AttributeValueDoubleQuoted-clause-held
+returns-in-AttributeValueDoubleQuoted-clause-held c = c.step_in_part-in-AttributeValueDoubleQuoted.ensures.held
+
+pub returns-in-AttributeValueSingleQuoted-clause-held : goal.returns-in-AttributeValueSingleQuoted-clause-held
+returns-in-AttributeValueSingleQuoted-clause-held c = c.step_in_part-in-AttributeValueSingleQuoted.ensures.held
+
+pub returns-in-AttributeValueUnquoted-clause-held : goal.returns-in-AttributeValueUnquoted-clause-held
+returns-in-AttributeValueUnquoted-clause-held c = c.step_in_part-in-AttributeValueUnquoted.ensures.held
+
+pub returns-in_default-clause-held : goal.returns-in_default-clause-held
+returns-in_default-clause-held c = c.step_by_row.ensures.held

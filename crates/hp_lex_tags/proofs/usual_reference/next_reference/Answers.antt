@@ -1,4 +1,9 @@
-use Rattle.std.proofs.Common.{List, ℕ, [], ◌∷◌, map, refl, sym, subst}
+use Rattle.std.proofs.Common.{◌≡◌, List, ℕ, [], ◌∷◌, map, true, false, refl, sym, ap, subst, arith}
+use Rattle.std.specs.Prelude.{◌==◌, sum_by}
+use Rattle.std.specs.Char.{len_utf8}
+use Rattle.std.specs.List.{list_all}
+use Rattle.hp_tokens.specs.declared.state.State.{State}
+use Rattle.hp_tokens.specs.Plain.{none_of}
 use Rattle.hp_tokens.specs.declared.machine.Machine.{Machine}
 use Rattle.hp_tokens.specs.declared.rows.Turn.TheVariants as turns
 use Rattle.hp_tokens.specs.Rows.{character}
@@ -20,3 +25,19 @@ returns-clause-turn c =
     (reference_turn c.args.names.now c.args.state.now c.args.input.now taken.mid c.take_reference.new.input stands taken.length c.args.rested.now c.place-place.result
     (c.if-not-stands_in_data.ensures.data refl) (c.if-not-stands_in_data.ensures.clear refl) (c.if-not-stands_in_data.ensures.ahead refl) c.place-place.ensures.place
     taken.begins taken.decided taken.skipped taken.read))
+
+some_no_nul : (x : ℕ) → (x == 0) ≡ false → list_all (none_of (0 ∷ [])) (x ∷ []) ≡ true
+some_no_nul x some = rw some refl
+
+pub returns-clause-here : goal.returns-clause-here
+returns-clause-here c = ap (λ (s : State). is_here s) (c.if-not-stands_in_data.ensures.data refl)
+
+pub returns-clause-no_nul : goal.returns-clause-no_nul
+returns-clause-no_nul c = rw c.of_char.ensures (some_no_nul c.in_ok-stands_for.stands_for c.in_ok-stands_for.ensures.some.decided.some)
+
+pub returns-clause-long : goal.returns-clause-long
+returns-clause-long c = rw c.of_char.ensures (omega arith)
+
+pub returns-clause-held : goal.returns-clause-held
+returns-clause-held c =
+    let none : sum_by len_utf8 c.args.state.now.ahead ≡ 0 = ap (λ (xs : List ℕ). sum_by len_utf8 xs) (c.if-not-stands_in_data.ensures.ahead refl) in omega (arith, none)
