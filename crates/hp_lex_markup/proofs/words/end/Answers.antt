@@ -38,3 +38,24 @@ returns-clause-step c = λ rested settled.
 
 pub returns-clause-held : goal.returns-clause-held
 returns-clause-held c = past_held c.in-Some-first_word.word c.args.state.now c.args.input.now c.read_word.new.state 0 c.requires.held c.in_ok-read_word.ensures
+
+pub returns-in_default-clause-step : goal.returns-in_default-clause-step
+returns-in_default-clause-step c = c.end_row.ensures.step
+
+pub returns-in_default-clause-held : goal.returns-in_default-clause-held
+returns-in_default-clause-held c = c.end_row.ensures.held
+
+pub returns-then-is_pair_next-clause-held : goal.returns-then-is_pair_next-clause-held
+returns-then-is_pair_next-clause-held c = c.drop_line_feed.ensures.held
+
+pub returns-then-is_pair_next-clause-ended : goal.returns-then-is_pair_next-clause-ended
+returns-then-is_pair_next-clause-ended c = c.drop_line_feed.ensures.ended c.requires.ended
+
+pub returns-in_default-first_word-clause-held : goal.returns-in_default-first_word-clause-held
+returns-in_default-first_word-clause-held c = c.in_ok-read_row.ensures.held
+
+pub returns-in_default-first_word-clause-ended : goal.returns-in_default-first_word-clause-ended
+returns-in_default-first_word-clause-ended c = c.in_ok-read_row.ensures.ended c.requires.ended
+
+pub returns-clause-ended : goal.returns-clause-ended
+returns-clause-ended c = c.requires.ended

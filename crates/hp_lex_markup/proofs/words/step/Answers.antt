@@ -69,3 +69,21 @@ returns-clause-step c = λ rested settled.
 
 pub returns-clause-held : goal.returns-clause-held
 returns-clause-held c = past_held c.in-Some-first_word.word c.gather.new.state c.gather.new.input c.read_word.new.state 0 c.in_ok-decided.ensures.same.held c.in_ok-read_word.ensures
+
+pub returns-in_default-clause-held : goal.returns-in_default-clause-held
+returns-in_default-clause-held c = c.requires.held
+
+pub returns-then-is_pair_next-clause-held : goal.returns-then-is_pair_next-clause-held
+returns-then-is_pair_next-clause-held c = c.drop_line_feed.ensures.held
+
+pub returns-then-not-decided-clause-held : goal.returns-then-not-decided-clause-held
+returns-then-not-decided-clause-held c = c.in_ok-decided.ensures.same.held
+
+pub read_row-requires-clause-held : goal.read_row-requires-clause-held
+read_row-requires-clause-held c = c.in_ok-decided.ensures.same.held
+
+pub returns-in_default-first_word-clause-held : goal.returns-in_default-first_word-clause-held
+returns-in_default-first_word-clause-held c = c.in_ok-emitted.ensures.held
+
+pub returns-then-asks-clause-held : goal.returns-then-asks-clause-held
+returns-then-asks-clause-held c = c.in_ok-decided.ensures.same.held
