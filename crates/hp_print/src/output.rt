@@ -197,7 +197,7 @@ impl Out {
         ensures { Prints self.old self.new (K.taken sink.old, K.faults sink.old) (K.taken sink.new, K.faults sink.new) (indentation depth) }
     {
         if depth < 64 {
-            self.put(sink, line_front(depth));
+            self.put(sink, &LINE[..2 + 2 * depth as usize]);
         } else {
             self.indent_deep(sink, depth);
         }
@@ -212,12 +212,4 @@ impl Out {
         self.put(sink, b"| ");
         self.put_blanks(sink, depth + depth);
     }
-}
-
-/// What a line of a low depth begins with.
-fn line_front(depth: u64) -> &'static [u8]
-    requires { depth < 64 }
-    ensures { result.now ≡ indentation depth }
-{
-    &LINE[..2 + 2 * depth as usize]
 }
