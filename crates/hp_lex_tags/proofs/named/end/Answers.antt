@@ -21,3 +21,12 @@ pub returns-clause-held : goal.returns-clause-held
 returns-clause-held c =
     decided_held (longest c.args.names.now c.args.state.now.ahead) c.args.state.now c.args.input.now c.decide.new.state
     c.args.tokens.now c.decide.new.tokens c.in_ok-decide.ensures c.requires.held
+
+pub returns-then-is_pair_next-clause-held : goal.returns-then-is_pair_next-clause-held
+returns-then-is_pair_next-clause-held c = c.drop_line_feed.ensures.held
+
+pub returns-then-is_pair_next-clause-ended : goal.returns-then-is_pair_next-clause-ended
+returns-then-is_pair_next-clause-ended c = c.drop_line_feed.ensures.ended c.requires.ended
+
+pub returns-clause-ended : goal.returns-clause-ended
+returns-clause-ended c = c.requires.ended

@@ -12,3 +12,12 @@ returns-in_default-clause-held c = c.end_by_row.ensures.held
 
 pub returns-in_default-clause-ended : goal.returns-in_default-clause-ended
 returns-in_default-clause-ended c = c.end_by_row.ensures.ended
+
+pub returns-in-NamedCharacterReference-clause-step : goal.returns-in-NamedCharacterReference-clause-step
+returns-in-NamedCharacterReference-clause-step c = c.end.ensures.step
+
+pub returns-in-NamedCharacterReference-clause-held : goal.returns-in-NamedCharacterReference-clause-held
+returns-in-NamedCharacterReference-clause-held c = c.end.ensures.held
+
+pub returns-in-NamedCharacterReference-clause-ended : goal.returns-in-NamedCharacterReference-clause-ended
+returns-in-NamedCharacterReference-clause-ended c = c.end.ensures.ended

@@ -9,3 +9,9 @@ returns-in_default-clause-step c =
 
 pub returns-in_default-clause-held : goal.returns-in_default-clause-held
 returns-in_default-clause-held c = c.read.ensures.held
+
+pub returns-in-NamedCharacterReference-clause-step : goal.returns-in-NamedCharacterReference-clause-step
+returns-in-NamedCharacterReference-clause-step c = c.step.ensures.step
+
+pub returns-in-NamedCharacterReference-clause-held : goal.returns-in-NamedCharacterReference-clause-held
+returns-in-NamedCharacterReference-clause-held c = c.step.ensures.held
