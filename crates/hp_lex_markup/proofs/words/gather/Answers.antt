@@ -1,4 +1,4 @@
-use Rattle.std.proofs.Common.{◌≡◌, ℕ, List, true, false, ap, sym, ◌∙◌}
+use Rattle.std.proofs.Common.{◌≡◌, ℕ, List, true, false, refl, ap, sym, ◌∙◌}
 use Rattle.hp_tokens.specs.declared.machine.Machine.{Machine}
 use Rattle.hp_tokens.specs.declared.lexing.LexState.{LexState}
 use Rattle.hp_lex_markup.specs.Words.{is_open}
@@ -26,3 +26,12 @@ returns-then-not-branch c =
       closed = λ e. never _ e;
       undecided = λ e. (none.0, still_open c.reading.state c.read_ahead.new.self ahead.machine none.1 (c.reading-test.ensures {u = tt}));
     }
+
+pub reading-init : goal.reading-init
+reading-init c = record { machine = refl; text = refl; place = refl; held = c.requires }
+
+pub reading-preserved : goal.reading-preserved
+reading-preserved c =
+    let ahead = c.in_ok-read_ahead.ensures in
+    let before = c.reading.invariant in
+    record { machine = ahead.machine ∙ before.machine; text = ahead.text ∙ before.text; place = ahead.place ∙ before.place; held = ahead.held }

@@ -1,4 +1,4 @@
-use Rattle.std.proofs.Common.{◌≡◌, ℕ, List, Bool, true, false, ap, sym, ◌∙◌}
+use Rattle.std.proofs.Common.{◌≡◌, ℕ, List, Bool, true, false, refl, ap, sym, ◌∙◌}
 use Rattle.hp_names.specs.References.{Reference}
 use Rattle.hp_names.specs.Longest.{is_open}
 use Rattle.hp_lex_tags.proofs.named.gather.Goals as goal
@@ -23,3 +23,12 @@ returns-then-not-branch c =
       closed = λ e. never _ e;
       undecided = λ e. (none.0, still_open c.args.names.now c.reading.state.ahead c.read_ahead.new.self.ahead c.is_open.result none.1 c.is_open.ensures.open c.reading-test.true);
     }
+
+pub reading-init : goal.reading-init
+reading-init c = record { machine = refl; text = refl; place = refl; held = c.requires }
+
+pub reading-preserved : goal.reading-preserved
+reading-preserved c =
+    let ahead = c.in_ok-read_ahead.ensures in
+    let before = c.reading.invariant in
+    record { machine = ahead.machine ∙ before.machine; text = ahead.text ∙ before.text; place = ahead.place ∙ before.place; held = ahead.held }
