@@ -1,7 +1,7 @@
 use Rattle.std.proofs.Common.{◌≡◌, ℕ, List, true, false, Some, None, refl, sym, codes}
 use Rattle.hp_tokens.specs.declared.state.State.{State}
 use Rattle.hp_tokens.specs.declared.state.State.TheVariants.{MarkupDeclarationOpen}
-use Rattle.hp_lex_markup.specs.declared.words.Word.TheVariants.{Hyphens, Doctype, Cdata, Public, System}
+use Rattle.hp_lex_markup.specs.declared.words.Word.TheVariants.{Hyphens, Doctype, Cdata}
 use Rattle.hp_lex_markup.specs.Words.{begins, begins_without_case, word, keyword}
 use Rattle.hp_lex_markup.proofs.words.first_word.Goals as goal
 
