@@ -18,11 +18,10 @@ pub fn replay<'p>(alloc: Global, chunk: Chunk<'p>, from: Control) -> Result<Frag
     ensures text { IfOk result (λ fragment. text_of fragment ≡ slice_range (page_text chunk.entry.page) chunk.entry.from chunk.entry.to) }
     ensures exact { IfOk result (IsExactFrom from) }
 {
-    let text = chunk_text(&chunk);
+    let text = &chunk.page.as_str()[chunk.from as usize..chunk.to as usize];
     from.is_kept();
     match run_from(alloc, text, &from) {
-        Ok(parts) => {
-            let (exit, edits) = parts;
+        Ok((exit, edits)) => {
             let bytes = text.as_bytes();
             let exact = Exact::of_run(bytes, from, exit, edits);
             Ok(Fragment::Exact(exact))
@@ -32,12 +31,6 @@ pub fn replay<'p>(alloc: Global, chunk: Chunk<'p>, from: Control) -> Result<Frag
             Err(fault)
         }
     }
-}
-
-fn chunk_text<'p>(chunk: &Chunk<'p>) -> &'p str
-    ensures { result.now ≡ slice_range (page_text chunk.now.page) chunk.now.from chunk.now.to }
-{
-    &chunk.page.as_str()[chunk.from as usize..chunk.to as usize]
 }
 
 /// The state to which the run over the text leads, and the edits.
@@ -51,10 +44,7 @@ fn run_from<'p>(
 {
     let mut running = Running::of_state(alloc, from)?;
     match running.run(alloc, text) {
-        Ok(()) => {
-            let parts = running.into_parts(alloc)?;
-            Ok(parts)
-        }
+        Ok(()) => running.into_parts(alloc),
         Err(fault) => {
             running.leave();
             Err(fault)

@@ -166,7 +166,9 @@ impl<'p> Running<'p> {
         ensures state { IfOk result (λ parts. parts.0 ≡ state_of self.entry) }
         ensures edits { IfOk result (λ parts. parts.1 ≡ edits_in self.entry) }
     {
-        let (control, edits) = self.into_control();
+        let Running { lexer, view, .. } = self;
+        let Lexer { lex, .. } = lexer;
+        let (control, edits) = view.into_control(lex);
         match told_all(alloc, edits) {
             Ok(edits) => Ok((control, edits)),
             Err(fault) => {
@@ -174,17 +176,6 @@ impl<'p> Running<'p> {
                 Err(fault)
             }
         }
-    }
-
-    /// The state that was reached, and the edits as they were made.
-    fn into_control(self) -> (Control, Edits<'p>)
-        requires valid { IsValid (state_of self) }
-        ensures state { result.0 ≡ state_of self.entry }
-        ensures edits { result.1 ≡ self.entry.view.edits }
-    {
-        let Running { lexer, view, .. } = self;
-        let Lexer { lex, .. } = lexer;
-        view.into_control(lex)
     }
 
     /// Gives the memory back.
