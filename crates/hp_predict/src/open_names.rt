@@ -82,26 +82,19 @@ impl<'t> Scan<'t> {
         if !name.counts() {
             Ok(())
         } else if is_end {
-            self.close(alloc, name)
+            match closed_by(&self.names, &name) {
+                Some(count) => {
+                    self.names.drop_top(count);
+                    Ok(())
+                }
+                None => {
+                    self.unmatched.push(alloc, name)?;
+                    Ok(())
+                }
+            }
         } else {
             open_implied(alloc, &mut self.names, &name)?;
             self.names.add(alloc, name)
-        }
-    }
-
-    fn close(&mut self, alloc: Global, name: TagName<'t>) -> Result<(), NoMemory>
-        ensures names { OnOk result (self.new.names ≡ after_tag (record { is_end = true; name = name.entry }) self.old.names) }
-        ensures unmatched { OnOk result (self.new.unmatched ≡ (if is_unmatched (record { is_end = true; name = name.entry }) self.old.names then self.old.unmatched ++ name.entry ∷ [] else self.old.unmatched)) }
-    {
-        match closed_by(&self.names, &name) {
-            Some(count) => {
-                self.names.drop_top(count);
-                Ok(())
-            }
-            None => {
-                self.unmatched.push(alloc, name)?;
-                Ok(())
-            }
         }
     }
 }
