@@ -44,27 +44,6 @@ fn data_blanks<'p>(
     Some(text)
 }
 
-/// The same in any state.
-#[inline]
-fn state_blanks<'p>(
-    state: &LexState,
-    input: &mut Cursor<'p>,
-    names: &Names,
-    rested: &mut u64,
-) -> Option<Text<'p>>
-    requires held { held state.now ≤ input.old.place }
-    ensures turn { IfSome result (λ text. Turned (table names.now) (part_of state.now.machine.state) (lexing state.now input.old rested.old) [] (lexing state.now input.new rested.new) (map character text) rested.new turns.Emitted) }
-    ensures blank { IfSome result (λ text. list_all is_blank text ≡ true) }
-    ensures long { IfSome result (λ text. 0 < length text) }
-    ensures none { IfNone result ((input.new ≡ input.old) × (rested.new ≡ rested.old)) }
-    ensures held { held state.now ≤ input.new.place }
-{
-    match state.machine.state {
-        State::Data => data_blanks(state, input, names, rested),
-        _ => None,
-    }
-}
-
 /// The run of tabs, line feeds, form feeds and spaces at the front, in the data state, where a CR LF pair that comes first is LF;
 /// otherwise `None`, and nothing changes. It is what the lexer's calls of `next` do there, with each code point in a token of its own.
 #[inline]
@@ -78,10 +57,13 @@ pub(crate) fn next_blanks<'p>(lexer: &mut Lexer, input: &mut Cursor<'p>) -> Opti
     ensures ahead { lexer.new.lex.ahead ≡ lexer.old.lex.ahead }
 {
     match lexer.asked {
-        Asked::Nothing => {
-            let text = state_blanks(&lexer.lex, input, &lexer.names, &mut lexer.rested)?;
-            Some(text)
-        }
+        Asked::Nothing => match lexer.lex.machine.state {
+            State::Data => {
+                let text = data_blanks(&lexer.lex, input, &lexer.names, &mut lexer.rested)?;
+                Some(text)
+            }
+            _ => None,
+        },
         _ => None,
     }
 }

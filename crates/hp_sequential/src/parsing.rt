@@ -1,12 +1,11 @@
 // A run of the sequential parser over a page.
-ghost use Rattle.std.specs.Prelude.{◌≡◌, ◌≢◌, ◌^◌, ◌<◌, ◌≤◌, ℕ, List, [], ◌∷◌, length, map, true, false, Some, IfOk, IfSome, IsUtf8, OnOk};
+ghost use Rattle.std.specs.Prelude.{◌≡◌, ◌≢◌, ◌^◌, ◌<◌, ◌≤◌, ℕ, List, [], ◌∷◌, length, map, true, false, IfOk, IfSome, IsUtf8, OnOk};
 ghost use Rattle.std.specs.List.{list_all};
 ghost use Rattle.std.specs.Str.{chars};
 ghost use Rattle.hp_names.specs.BuiltIn.{built_in};
 ghost use Rattle.hp_text.specs.Page.{text_of};
 ghost use Rattle.hp_tokens.specs.Advancing.{AreRuns, held};
 ghost use Rattle.hp_tokens.specs.Plain.{none_of};
-ghost use Rattle.hp_tokens.specs.Reading.{first};
 ghost use Rattle.hp_tokens.specs.Rows.{character, is_blank};
 ghost use Rattle.hp_views.specs.View.{split_of};
 ghost use Rattle.hp_acts.specs.Plain.{takes_text};
@@ -89,17 +88,22 @@ impl<'p> Parsing<'p> {
         }
     }
 
-    /// Takes the text or the tag that comes next straight. Answers whether there was one.
+    /// Takes the tag, the text or the white space that comes next straight: a text whole where it goes into the current node as it
+    /// comes, else white space alone. Answers whether there was one.
     fn step_straight(&mut self, alloc: Global) -> Result<bool, NoMemory>
         requires ready { IsReady self.old }
         ensures tried { IfOk result (Tried self.old self.new) }
         ensures ahead { OnOk result (self.new.lexer.lex.ahead ≡ self.old.lexer.lex.ahead) }
         ensures reads { OnOk result ((page : List ℕ) → Reads page self.old → ReadsFurther page self.old self.new) }
     {
-        if self.is_at_markup() {
+        // `<` begins no text.
+        if let Some(b'<') = self.input.front() {
             return self.take_tag(alloc);
         }
-        self.take_plain(alloc)
+        if self.builder.takes_text() {
+            return self.take_text(alloc);
+        }
+        self.take_blanks(alloc)
     }
 
     /// Reads the text to the end of the next tag, where the lexer's table decides what comes next. Answers whether something
@@ -174,19 +178,6 @@ impl<'p> Parsing<'p> {
         self.later.is_empty()
     }
 
-    /// Takes a text at the front whole, or white space at the front. Answers whether there was one.
-    fn take_plain(&mut self, alloc: Global) -> Result<bool, NoMemory>
-        requires ready { IsReady self.old }
-        ensures tried { IfOk result (Tried self.old self.new) }
-        ensures ahead { OnOk result (self.new.lexer.lex.ahead ≡ self.old.lexer.lex.ahead) }
-        ensures reads { OnOk result ((page : List ℕ) → Reads page self.old → ReadsFurther page self.old self.new) }
-    {
-        if self.builder.takes_text() {
-            return self.take_text(alloc);
-        }
-        self.take_blanks(alloc)
-    }
-
     /// Takes a text at the front whole, where it goes into the current node as it comes. Answers whether there was one.
     #[inline(always)]
     fn take_text(&mut self, alloc: Global) -> Result<bool, NoMemory>
@@ -223,17 +214,6 @@ impl<'p> Parsing<'p> {
                 Ok(true)
             }
             None => Ok(false),
-        }
-    }
-
-    /// Whether `<` comes next, which begins no text.
-    #[inline(always)]
-    fn is_at_markup(&self) -> bool
-        ensures { result ≡ true → first self.now.input.text ≡ Some 60 }
-    {
-        match self.input.front() {
-            Some(b'<') => true,
-            _ => false,
         }
     }
 
@@ -371,8 +351,7 @@ impl<'p> Parsing<'p> {
         rests_ahead();
         let tokens = Lexer::from_state(alloc, &self.lexer.lex)?.finish(alloc)?;
         handle_last(alloc, &mut self.builder, tokens)?;
-        self.builder.grow(alloc)?;
-        Ok(())
+        self.builder.grow(alloc)
     }
 
     /// Reads the page and the end of input.
