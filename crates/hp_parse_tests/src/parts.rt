@@ -90,7 +90,10 @@ fn compare(rt: &impl Abort, alloc: Global, pages: &[Parted]) {
     for (page, cut, count) in pages {
         let whole = in_tree(rt, alloc, page);
         let parts = in_parts(rt, alloc, page, *cut);
-        assert!(rt; whole == count.wrapping_add(1) && parts == *count, "over {page}");
+        assert!(rt;
+            whole == count.wrapping_add(1) && parts == *count,
+            "over {page}"
+        );
     }
 }
 
