@@ -1,8 +1,8 @@
 #!/usr/bin/env python3
 """Writes the table of short texts that enter, leave and end in every state of the lexer.
 
-    lexer_table.py ORACLE > crates/hp_lexer_tests/src/cases.rt       the crate's own table
-    lexer_table.py ORACLE --all > COPY/hp_lexer_tests/src/cases.rt   the whole table, for a copy of the crate
+    lexer_table.py ORACLE > crates/hp_tests/src/cases.rt       the crate's own table
+    lexer_table.py ORACLE --all > COPY/hp_tests/src/cases.rt   the whole table, for a copy of the crate
 
 ORACLE is the folder of an independent lexer (`lexer.py`, `tables.py`) whose rows were written by hand. For each state the
 shortest text that leads into it is found by breadth. In the crate's own table the text ends there; in the whole table it also

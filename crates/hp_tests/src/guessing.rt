@@ -1,9 +1,9 @@
 //! Guesses as an independent model makes them.
 
+use crate::parts::chunk_of;
 use hp_control::{Control, FactKind, FormattingEntry, OpenElements, Predictor, Question, Stack};
 use hp_elements::{Mode, Rest};
 use hp_predict::{Contrary, Prescan, Quiet};
-use hp_text::{Chunk, check_page};
 use std::alloc::Global;
 use std::mem;
 use std::process::Abort;
@@ -68,22 +68,6 @@ const GUESSES: &[Guessed] = &[
     (0, "</b></i></b>x", " b i b body html; b i b;0;in body;data"),
 ];
 
-/// The text from that byte on.
-fn rest_of<'p>(rt: &impl Abort, text: &'p str, from: usize) -> Chunk<'p> {
-    let page = check_page(text.as_bytes()).expect(rt, "the page is UTF-8");
-    let text = page.as_str();
-    let to = text.len();
-    assert!(rt; from <= to);
-    assert!(rt; text.is_char_boundary(from));
-    assert!(rt; text.is_char_boundary(to));
-    Chunk {
-        page,
-        number: 1,
-        from: from as u64,
-        to: to as u64,
-    }
-}
-
 fn put(rt: &impl Abort, line: &mut String, text: &str) {
     line.push_str(text).expect(rt, "there is memory");
 }
@@ -147,7 +131,7 @@ fn describe(rt: &impl Abort, line: &mut String, state: &Control) {
 
 /// Whether the guess of a row is the one that stands there. What is owned is kept to the end of the test.
 fn is_guessed(rt: &impl Abort, alloc: Global, (before, text, wanted): Guessed) -> bool {
-    let chunk = rest_of(rt, text, before);
+    let chunk = chunk_of(rt, text, before, text.len());
     let prescan = Prescan::new(alloc, &chunk).expect(rt, "there is memory");
     let mut line = String::new(alloc);
     describe(rt, &mut line, prescan.state());

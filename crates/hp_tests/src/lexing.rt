@@ -1,4 +1,4 @@
-//! The calls of the lexer's machine that take memory and that no part of the lexer makes; `hp_lexer_tests` makes the others.
+//! The calls of the lexer's machine that take memory and that no part of the lexer makes; the tests of the lexer make the others.
 use hp_elements::{Rest, Tokens};
 use hp_tokens::{Machine, State, buffer_emitted, buffer_emitted_at_end, emitted_again};
 use std::alloc::Global;

@@ -1,13 +1,36 @@
-//! Tests of lower crates from outside: that calls which take memory succeed where there is some, guesses of open elements, and large trees
-//! that edits make, printed.
+//! Tests of the crates from outside: short texts, whole and cut at each place, against an independent lexer; guesses of open elements; the
+//! steps of tree construction on views; whole pages, and pages that are read in two parts from known states; large trees that edits make,
+//! printed.
 #![tactic(auto)]
 
 #[cfg(test)]
+mod carrying;
+#[cfg(test)]
+mod cases;
+#[cfg(test)]
 mod growing;
+#[cfg(test)]
+mod guessed;
 #[cfg(test)]
 mod guessing;
 #[cfg(test)]
+mod known;
+#[cfg(test)]
+mod lexer;
+#[cfg(test)]
 mod lexing;
+#[cfg(test)]
+mod markup;
+#[cfg(test)]
+mod names;
+#[cfg(test)]
+mod parts;
+#[cfg(test)]
+mod raw;
+#[cfg(test)]
+mod tags;
+#[cfg(test)]
+mod teller;
 #[cfg(test)]
 mod tree;
 #[cfg(test)]
