@@ -17,43 +17,7 @@ use hp_pieces::of_page;
 use hp_tokens::{LexState, Machine, OwnedText};
 use hp_views::View;
 use std::alloc::Global;
-
-/// The state with that of a page's start in the place of the lexer's part.
-fn without_lexer(control: Control) -> Control
-    ensures { result ≡ record control { lex = lex_start } }
-{
-    let Control {
-        lex: own,
-        mode,
-        original,
-        templates,
-        stack,
-        formatting,
-        head,
-        form,
-        frameset_ok,
-        quirks,
-        pending,
-        skip_lf,
-        next,
-    } = control;
-    leave_lex(own);
-    Control {
-        lex: page_lex(),
-        mode,
-        original,
-        templates,
-        stack,
-        formatting,
-        head,
-        form,
-        frameset_ok,
-        quirks,
-        pending,
-        skip_lf,
-        next,
-    }
-}
+use std::mem;
 
 /// The lexer's part of a page's start.
 fn page_lex() -> LexState
@@ -75,11 +39,10 @@ pub(crate) fn view_of<'p>(alloc: Global, from: &Control) -> Result<View<'p, Noth
     ensures control { IfOk result (λ view. control_of (split_of view) ≡ record from.now { lex = lex_start }) }
     ensures edits { IfOk result (λ view. view.edits ≡ []) }
 {
-    let own = from.copy(alloc)?;
-    let control = without_lexer(own);
+    let mut control = from.copy(alloc)?;
+    leave_lex(mem::replace(&mut control.lex, page_lex()));
     control.is_kept();
-    let view = View::whole(control);
-    Ok(view)
+    Ok(View::whole(control))
 }
 
 /// Handles a token. Answers the state in which the lexer goes on, where the token calls for another than its own.

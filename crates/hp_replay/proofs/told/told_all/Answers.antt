@@ -20,7 +20,7 @@ pub loop-edit-smaller : goal.loop-edit-smaller
 loop-edit-smaller c = omega (arith, c.in-Some.ensures.steps.1)
 
 pub loop-edit-preserved : goal.loop-edit-preserved
-loop-edit-preserved c = (tt, tt, told_on _ _ _ _ _ _ _ _ c.loop-edit.invariant.2 c.in-Some.ensures.steps.0 c.told.ensures c.in_ok-push.ensures.ok)
+loop-edit-preserved c = (tt, tt, told_on _ _ _ _ _ _ _ _ c.loop-edit.invariant.2 c.in-Some.ensures.steps.0 c.tell.ensures.edit c.in_ok-push.ensures.ok)
 
 pub returns-in_err-push : goal.returns-in_err-push
 returns-in_err-push c = IfOk-from_err _ _ c.from_residual.ensures.0
