@@ -1,5 +1,6 @@
 //! The control state: all that the tree builder knows (13.2.4).
 ghost use Rattle.std.specs.Prelude.{◌≡◌, IsTrue, ◌↔◌, IfOk};
+ghost use Rattle.hp_control.specs.States.{lex_start};
 
 use crate::copies::copy_lists;
 use crate::element::FormattingEntry;
@@ -48,6 +49,18 @@ impl Model for Control {
     ghost invariant = { λ c. IsValid (state_of c.lex c.mode c.original c.templates c.stack c.formatting c.head c.form c.frameset_ok c.quirks c.pending c.skip_lf c.next) };
 }
 
+/// The lexer's part of the state before the first token: the data state, where the last start tag's name counts as empty.
+pub fn lex_start() -> LexState
+    ensures { result ≡ lex_start }
+{
+    let LexState { machine, ahead } = LexState::at_rest(Rest::Data, false);
+    let machine = Machine {
+        last_tag: Some(OwnedText::new()),
+        ..machine
+    };
+    LexState { machine, ahead }
+}
+
 impl Control {
     ghost use Rattle.hp_control.specs.States.{IsValid, Fits, start};
     ghost use Rattle.hp_control.specs.Parts.{AreListsOf, AreFactsOf};
@@ -56,13 +69,8 @@ impl Control {
     pub fn start() -> Control
         ensures { result ≡ start }
     {
-        let LexState { machine, ahead } = LexState::at_rest(Rest::Data, false);
-        let machine = Machine {
-            last_tag: Some(OwnedText::new()),
-            ..machine
-        };
         Control {
-            lex: LexState { machine, ahead },
+            lex: lex_start(),
             mode: Mode::Initial,
             original: None,
             templates: Stack::new(),

@@ -27,7 +27,7 @@ mod walks;
 pub use answers::answer;
 pub use below::{Below, Guess, Nothing, Predictor};
 pub use change::{Change, FormChange, Refusal};
-pub use control::Control;
+pub use control::{Control, lex_start};
 pub use edit::{Child, Edit, Edits, Place, Ref};
 pub use element::{FormattingEntry, OpenElement};
 pub use kinds::{is_html, is_named, is_within};

@@ -11,27 +11,12 @@ ghost use Rattle.hp_replay.specs.Collecting.{control_of, Collects, CollectsAll, 
 use crate::NoMemory;
 use crate::leaving::leave_lex;
 use hp_acts::handle;
-use hp_control::{Control, Nothing};
+use hp_control::{Control, Nothing, lex_start};
 use hp_elements::{Rest, Token, Tokens};
 use hp_pieces::of_page;
-use hp_tokens::{LexState, Machine, OwnedText};
 use hp_views::View;
 use std::alloc::Global;
 use std::mem;
-
-/// The lexer's part of a page's start.
-fn page_lex() -> LexState
-    ensures { result ≡ lex_start }
-{
-    let LexState { machine, ahead } = LexState::at_rest(Rest::Data, false);
-    LexState {
-        machine: Machine {
-            last_tag: Some(OwnedText::new()),
-            ..machine
-        },
-        ahead,
-    }
-}
 
 /// A view of a copy of the state, whose lexer's part is told elsewhere.
 pub(crate) fn view_of<'p>(alloc: Global, from: &Control) -> Result<View<'p, Nothing>, NoMemory>
@@ -40,7 +25,7 @@ pub(crate) fn view_of<'p>(alloc: Global, from: &Control) -> Result<View<'p, Noth
     ensures edits { IfOk result (λ view. view.edits ≡ []) }
 {
     let mut control = from.copy(alloc)?;
-    leave_lex(mem::replace(&mut control.lex, page_lex()));
+    leave_lex(mem::replace(&mut control.lex, lex_start()));
     control.is_kept();
     Ok(View::whole(control))
 }

@@ -18,6 +18,7 @@ pub(crate) fn leave_lexer(lexer: Lexer) {
     leave_lex(lex);
 }
 
-fn leave_lex(lex: LexState) {
+/// Gives back the lexer's part of a state.
+pub(crate) fn leave_lex(lex: LexState) {
     let _ = lex;
 }

@@ -21,13 +21,13 @@ use crate::NoMemory;
 use crate::blanks::next_blanks;
 use crate::builder::Builder;
 use crate::laws::{never_asked, rests_ahead};
-use crate::leaving::leave_lexer;
+use crate::leaving::{leave_lex, leave_lexer};
 use hp_arena::Tree;
+use hp_control::lex_start;
 use hp_elements::{Rest, Text, Token, Tokens};
 use hp_lexer::{Cursor, Lexer, Step};
 use hp_pieces::{cut, of_page};
 use hp_text::Page;
-use hp_tokens::{LexState, Machine, OwnedText};
 use std::alloc::Global;
 
 /// The sequential parser within a page. Most of it is read straight. Where the lexer's table goes on, it does so in a piece that ends
@@ -403,13 +403,9 @@ fn page_lexer() -> Lexer
         asked,
         rested,
     } = Lexer::at_rest(Rest::Data, false);
-    let LexState { machine, ahead } = lex;
-    let machine = Machine {
-        last_tag: Some(OwnedText::new()),
-        ..machine
-    };
+    leave_lex(lex);
     Lexer {
-        lex: LexState { machine, ahead },
+        lex: lex_start(),
         names,
         asked,
         rested,
