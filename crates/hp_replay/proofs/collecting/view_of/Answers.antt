@@ -4,10 +4,10 @@ use Rattle.hp_control.specs.States.{ControlState, IsValid, lex_start}
 use Rattle.hp_replay.proofs.collecting.view_of.Goals as goal
 
 pub returns-clause-known : goal.returns-clause-known
-returns-clause-known c = record { stands = c.whole-view.ensures.stands; valid = subst IsValid (sym c.whole-view.ensures.state) c.is_kept.ensures }
+returns-clause-known c = record { stands = c.whole.ensures.stands; valid = subst IsValid (sym c.whole.ensures.state) c.is_kept.ensures }
 
 pub returns-clause-control : goal.returns-clause-control
-returns-clause-control c = c.whole-view.ensures.state ∙ (c.without_lexer-control.ensures ∙ ap (λ (s : ControlState). record s { lex = lex_start }) c.in_ok-own.ensures)
+returns-clause-control c = c.whole.ensures.state ∙ rw (c.replace.ensures.after, c.lex_start.ensures) (ap (λ (s : ControlState). record s { lex = lex_start }) (c.control.view_is ∙ c.in_ok-control.ensures))
 
 pub returns-clause-edits : goal.returns-clause-edits
-returns-clause-edits c = ap (λ (v : Split). v.edits) c.whole-view.ensures.whole
+returns-clause-edits c = ap (λ (v : Split). v.edits) c.whole.ensures.whole
