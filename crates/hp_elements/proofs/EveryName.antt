@@ -26,6 +26,12 @@ each_passes p = agree_below (λ i. p (get_or every i k.A)) (λ _. true) 240
 pub at_every : (p : Known → Bool) → each_passes p ≡ true → (name : Known) → p name ≡ true
 at_every p h name = subst (λ x. p x ≡ true) (known_at name) (agree_below_at (λ i. p (get_or every i k.A)) (λ _. true) 240 (index_of name) h (index_below name))
 
+-- what two functions say alike of each name of the list, they say alike of each name
+pub alike_at_every : {X : Type 0} (f g : Known → X) → map f every ≡ map g every → (name : Known) → f name ≡ g name
+alike_at_every {X} f g e name =
+    let there = λ (h : Known → X). get_or-map h every (index_of name) k.A (f k.A) (index_below name) ∙ ap h (known_at name) in
+    sym (there f) ∙ (ap (λ (xs : List X). get_or xs (index_of name) (f k.A)) e ∙ there g)
+
 -- a name is known by its place
 pub same_index : (a b : Known) → index_of a ≡ index_of b → a ≡ b
 same_index a b e = sym (known_at a) ∙ (ap (λ (i : ℕ). get_or every i k.A) e ∙ known_at b)

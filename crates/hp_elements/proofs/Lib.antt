@@ -1,5 +1,6 @@
 pub mod EveryName
 pub mod LetterLemmas
+pub mod ListedNames
 pub mod Lowering
 pub mod NameLemmas
 pub mod SetLemmas

@@ -1,6 +1,8 @@
 -- What a call that may fail leaves of a list.
-use Rattle.std.proofs.Common.{◌≡◌, ◌≤◌, ◌+◌, ℕ, zero, suc, List, [], ◌∷◌, ◌++◌, length, cond, Result, Ok, Err, OnOk, OnErr, is_ok, get_or, ap, sym, subst, ◌∙◌, arith}
-use Rattle.std.specs.List.{insert, remove}
+use Rattle.std.proofs.Common.{◌≡◌, ◌≤◌, ◌<◌, ◌+◌, ℕ, Bor, Option, Some, None, IfSome, MatchOption, slice_get, refl, zero, suc, List, [], ◌∷◌, ◌++◌, length, cond, Result, Ok, Err, OnOk, OnErr, is_ok, get_or, ap, sym, subst, ◌∙◌, arith}
+use Rattle.std.specs.List.{insert, remove, HoldsAt}
+use Rattle.std.specs.Option.{option_copied}
+use Rattle.std.proofs.lemmas.Option.{slice_get_past, slice_get_read}
 use Rattle.std.proofs.lemmas.List.Edits.{insert_end}
 
 -- the items are other ones at an `Ok`, and the same at an `Err`
@@ -17,20 +19,21 @@ only {T} {items} {array} {first} here one stands = here ∙ is_one array first o
     is_one (y ∷ []) x one stands = ap (λ z. z ∷ []) (sym stands)
     is_one (y ∷ z ∷ zs) x one stands = absurd (omega arith)
 
--- a list of one item gets others behind it, or one before it or at a place
-pub put_behind : {T R E : Type 0} (r : Result R E) (now items back : List T) (first : T) → OnOk r (now ≡ first ∷ back) → OnErr r (now ≡ first ∷ []) → items ≡ first ∷ []
-    → OnOk r (now ≡ items ++ back) × OnErr r (now ≡ items)
-put_behind r now items back first ok err e = rw e (ok, err)
-
-pub put_before : {T R E : Type 0} (r : Result R E) (now items : List T) (at : ℕ) (first item : T) → OnOk r (now ≡ item ∷ first ∷ []) → OnErr r (now ≡ first ∷ []) → at ≡ 0 → items ≡ first ∷ []
+-- a list of one item gets another one at a place
+pub put_in : {T R E : Type 0} (r : Result R E) (now items : List T) (at : ℕ) (first item : T) → OnOk r (now ≡ insert (first ∷ []) at item) → OnErr r (now ≡ first ∷ []) → items ≡ first ∷ []
     → OnOk r (now ≡ insert items at item) × OnErr r (now ≡ items)
-put_before r now items at first item ok err place e = rw (place, e) (ok, err)
+put_in r now items at first item ok err e = rw e (ok, err)
 
-pub put_last : {T R E : Type 0} (r : Result R E) (now items : List T) (at : ℕ) (first item : T) → OnOk r (now ≡ first ∷ item ∷ []) → OnErr r (now ≡ first ∷ []) → (at ≡ 0 → ⊥) → at ≤ length items
-    → items ≡ first ∷ [] → OnOk r (now ≡ insert items at item) × OnErr r (now ≡ items)
-put_last r now items at first item ok err some within e =
-    let place : at ≡ 1 = omega (arith, ap length e) in
-    rw (place, e) (ok, err)
+-- an item that is put at the end
+pub at_end : {T : Type 0} (now items back : List T) (end : ℕ) (last : T) → now ≡ insert items end last → end ≡ length items → back ≡ last ∷ [] → now ≡ items ++ back
+at_end {T} now items back end last is e b =
+    is ∙ (ap (λ (n : ℕ). insert items n last) e ∙ (insert_end items last ∙ ap (λ (xs : List T). items ++ xs) (sym b)))
+
+-- what a look-up in a slice gives
+pub looked_up : {T : Type 0} (r : Option (Bor T)) (xs : List T) (at : ℕ) → IfSome r (λ x. x.now ≡ get_or xs at x.now)
+    → MatchOption r (length xs ≤ at) (λ x. (at < length xs) × HoldsAt (λ y. x.now ≡ y) xs at) → option_copied r ≡ slice_get xs at
+looked_up None xs at value found = sym (slice_get_past xs at found)
+looked_up (Some x) xs at value found = sym (slice_get_read xs (length xs) at x.now refl found.0 value)
 
 -- what is put at the end stands behind the others
 pub put_at_end : {T R E : Type 0} (r : Result R E) (now items old : List T) (at : ℕ) (item : T) → items ≡ old → at ≡ length items → OnOk r (now ≡ insert items at item) → OnErr r (now ≡ items)

@@ -1,7 +1,7 @@
 -- The tables of respellings say of each name what the lists of specs/ say.
-use Rattle.std.proofs.Common.{◌≡◌, ◌==◌, ℕ, List, [], ◌∷◌, ◌||◌, Option, Some, None, sym, ap, ◌∙◌, Bool, true, false, cond, not, bit_and, slice_index, refl}
-use Rattle.std.proofs.Math.Bool.{beq}
-use Rattle.std.proofs.lemmas.Bool.{and_parts}
+use Rattle.std.proofs.Common.{◌≡◌, ◌==◌, ◌<◌, ◌≤◌, ℕ, List, [], ◌∷◌, ◌||◌, Option, Some, None, sym, ap, ◌∙◌, Bool, true, false, cond, not, bit_and, slice_get, slice_index, ◌-◌, arith, refl}
+use Rattle.std.proofs.Math.Dec.{ltb}
+use Rattle.std.proofs.lemmas.Bool.{and_parts, ltb-true, lt-ltb}
 use Rattle.std.proofs.lemmas.Slice.Eq.{bytes_eq-Decides}
 use Rattle.std.specs.List.{find, list_all}
 use Rattle.std.specs.Option.{unwrap_or, option_map}
@@ -10,31 +10,30 @@ use Rattle.hp_elements.specs.declared.known.Known.{Known}
 use Rattle.hp_elements.specs.KnownNames as k
 use Rattle.hp_elements.specs.declared.respelling.Respelling.{Respelling}
 use Rattle.hp_elements.specs.declared.respelling.Respelling.TheVariants as r
+use Rattle.hp_elements.specs.declared.respelling.TheConstants.{FOREIGN}
 use Rattle.hp_elements.specs.declared.tag.AttributeSpace.{AttributeSpace}
 use Rattle.hp_elements.specs.Names.{text_of, index_of, known_of, is_among, lowered}
 use Rattle.hp_elements.specs.Respelling.{bit_of, respellings, respelling_of, spellings_of, foreign_attributes, foreign_attribute_of}
 use Rattle.hp_elements.specs.Slots.{named_at, slots}
-use Rattle.hp_elements.proofs.EveryName.{at_every, each_passes}
+use Rattle.hp_elements.proofs.EveryName.{alike_at_every}
 use Rattle.hp_elements.proofs.FindLemmas.{lowered_twice}
 use Rattle.hp_elements.proofs.Lowering.{lowered_utf8, lowered_chars}
 use Rattle.hp_elements.proofs.NameLemmas.{bytes_eq-true, at_its_number, known_chars, known_utf8, true_false}
-use Rattle.hp_elements.proofs.SetLemmas.{beq-true, is_text, differs, text_known}
+use Rattle.hp_elements.proofs.ListedNames.{is_text, texts_known, differs, text_known, says, said, says_known}
 use Rattle.hp_elements.proofs.TextLemmas.{same_bytes}
 
--- whether the bit of a table says of each name whether it is among the spellings
-abbrev agree_with : ℕ → List (List ℕ) → Bool
-agree_with bit spellings = each_passes (λ name. beq (not (bit_and (slice_index respellings (index_of name)) bit == 0)) (is_among spellings (text_of name)))
+-- whether a row has the bit of a table
+abbrev has_bit : Respelling → ℕ → Bool
+has_bit table row = not (bit_and row (bit_of table) == 0)
 
-all_agree : (table : Respelling) → agree_with (bit_of table) (spellings_of table) ≡ true
-unfolding respellings
-all_agree r.SvgNames = refl
-all_agree r.SvgAttributes = refl
-all_agree r.MathMlAttributes = refl
+tables_right : (table : Respelling) → says (has_bit table) (λ b. b) respellings (spellings_of table) ≡ true
+unfolding respellings named_at slots is_text
+tables_right r.SvgNames = refl
+tables_right r.SvgAttributes = refl
+tables_right r.MathMlAttributes = refl
 
 pub tables_agree : (table : Respelling) (name : Known) → not (bit_and (slice_index respellings (index_of name)) (bit_of table) == 0) ≡ is_among (spellings_of table) (text_of name)
-tables_agree table name =
-    beq-true _ _
-    (at_every (λ n. beq (not (bit_and (slice_index respellings (index_of n)) (bit_of table) == 0)) (is_among (spellings_of table) (text_of n))) (all_agree table) name)
+tables_agree table name = said (has_bit table) (λ b. b) respellings (spellings_of table) (tables_right table) name
 
 -- names of one lower case are one
 same_lower : (a b : Known) → lowered (text_of a) ≡ lowered (text_of b) → a ≡ b
@@ -53,15 +52,8 @@ lower_chars_of bytes name e = sym (lower_chars name) ∙ ap chars e
 pub lower_meets : (bytes : List ℕ) (name : Known) → lowered (text_of name) ≡ bytes → lowered (text_of name) ≡ lowered bytes
 lower_meets bytes name e = sym (lowered_twice (text_of name)) ∙ ap lowered e
 
--- whether each text of a list is that of a known name
-abbrev texts_known : List (List ℕ) → Bool
-texts_known texts = list_all (λ text. is_text (named_at (lowered text)) text) texts
-
 spellings_known : (table : Respelling) → texts_known (spellings_of table) ≡ true
-unfolding named_at slots is_text
-spellings_known r.SvgNames = refl
-spellings_known r.SvgAttributes = refl
-spellings_known r.MathMlAttributes = refl
+spellings_known table = says_known (has_bit table) (λ b. b) respellings (spellings_of table) (tables_right table)
 
 name_of_text : (o : Option Known) (text : List ℕ) → is_text o text ≡ true → (name : Known) × (text_of name ≡ text)
 unfolding is_text
@@ -123,3 +115,28 @@ foreign_known = refl
 -- a name that is no known one has no namespace
 pub not_foreign : (text : List ℕ) → known_of text ≡ None → None ≡ foreign_attribute_of text
 not_foreign text n = ap (option_map (λ a. (a.1, a.2))) (sym (not_in foreign_attributes text n foreign_known))
+
+-- the namespace and the local name in a row of the table of those attributes
+abbrev pub row_has : AttributeSpace × Known → AttributeSpace × List ℕ
+row_has row = (row.0, text_of row.1)
+
+-- what the table says at a name's place
+abbrev foreign_at : ℕ → Option (AttributeSpace × List ℕ)
+foreign_at place = cond (ltb place 227) None (option_map row_has (slice_get FOREIGN (place - 227)))
+
+each_foreign : (name : Known) → foreign_at (index_of name) ≡ foreign_attribute_of (text_of name)
+each_foreign name = alike_at_every (λ n. foreign_at (index_of n)) (λ n. foreign_attribute_of (text_of n)) refl name
+
+pub none_before : (name : Known) (place : ℕ) → place ≡ index_of name → place < 227 → None ≡ foreign_attribute_of (text_of name)
+none_before name place p h =
+    sym (ap (λ (b : Bool). cond b None (option_map row_has (slice_get FOREIGN (place - 227)))) (lt-ltb place 227 h)) ∙ (ap foreign_at p ∙ each_foreign name)
+
+pub foreign_row : (name : Known) (place : ℕ) (row : Option (AttributeSpace × Known)) → place ≡ index_of name → 227 ≤ place → row ≡ slice_get FOREIGN (place - 227) → option_map row_has row ≡ foreign_attribute_of (text_of name)
+foreign_row name place row p h is = ap (option_map row_has) is ∙ (go (ltb place 227) refl ∙ (ap foreign_at p ∙ each_foreign name))
+  where
+    rest : Option (AttributeSpace × List ℕ)
+    rest = option_map row_has (slice_get FOREIGN (place - 227))
+
+    go : (b : Bool) → ltb place 227 ≡ b → rest ≡ cond b None rest
+    go true e = let low : place < 227 = ltb-true place 227 e in absurd (omega arith)
+    go false e = refl

@@ -2,7 +2,7 @@
 ghost use Rattle.std.specs.Prelude.{◌≡◌, ◌<◌, ◌≤◌, ◌↔◌, ℕ, Some, IsTrue, length, map, slice_index};
 ghost use Rattle.std.specs.Char.{to_ascii_lowercase};
 ghost use Rattle.hp_elements.specs.Names.{text_of, known_of, lowered};
-ghost use Rattle.hp_elements.specs.Slots.{slot_of, slots};
+ghost use Rattle.hp_elements.specs.Slots.{slot_of};
 ghost use Rattle.hp_elements.specs.declared.known.Known.{Known};
 
 use crate::known::Known;
@@ -57,15 +57,7 @@ pub(crate) fn candidate(text: &[u8]) -> Option<Known>
     if len > LONGEST {
         return None;
     }
-    Known::at(place_at(slot(text)))
-}
-
-/// The place in the table at a number.
-fn place_at(slot: usize) -> usize
-    requires { slot < 2048 }
-    ensures { result ≡ slice_index slots slot }
-{
-    SLOTS[slot] as usize
+    Known::at(SLOTS[slot(text)] as usize)
 }
 
 /// The number by which a known name is found.

@@ -35,13 +35,14 @@ impl Kinds {
     pub fn has(&self, namespace: Namespace, name: &Name, point: Point) -> bool
         ensures { result ≡ is_of self.now namespace name.now point }
     {
+        let html = is_html(namespace);
         match self {
             Kinds::Nothing => false,
             Kinds::All => true,
-            Kinds::AnyHtml => is_html(namespace),
-            Kinds::HtmlOrPoint => is_html(namespace) || !matches!(point, Point::No),
-            Kinds::Html(own) => is_html(namespace) && own.same(name),
-            Kinds::Foreign(own) => !is_html(namespace) && own.same_without_case(name),
+            Kinds::AnyHtml => html,
+            Kinds::HtmlOrPoint => html || !matches!(point, Point::No),
+            Kinds::Html(own) => html && own.same(name),
+            Kinds::Foreign(own) => !html && own.same_without_case(name),
             Kinds::Set(set) => set.has(namespace, name),
         }
     }

@@ -218,9 +218,10 @@ impl<T: Drop> List<T> {
         ensures err { OnErr result (self.new ≡ self.old) }
         ensures kept { OnErr result (other.new ≡ other.old) }
     {
+        let end = self.len();
         let front = mem::replace(&mut self.items, Items::Empty);
         let back = mem::replace(&mut other.items, Items::Empty);
-        let (front, back, answer) = appended(alloc, front, back);
+        let (front, back, answer) = appended(alloc, front, end, back);
         self.items = front;
         other.items = back;
         answer
@@ -272,22 +273,23 @@ fn removed<T: Drop>(items: Items<T>, at: usize) -> (Items<T>, T)
     }
 }
 
-/// Two items; where there is no memory, the first one, and the second.
-fn two<T: Drop>(alloc: Global, first: T, second: T) -> (Items<T>, Result<(), AllocFailed<T>>)
-    ensures ok { OnOk result.1 (listed result.0 ≡ first ∷ second ∷ []) }
-    ensures err { OnErr result.1 (listed result.0 ≡ first ∷ []) }
-    ensures returned { IfErr result.1 (λ failed. failed.value ≡ second) }
+/// The only item with another one at a place; where there is no memory, the only one, and the other.
+fn two<T: Drop>(
+    alloc: Global,
+    only: T,
+    at: usize,
+    item: T,
+) -> (Items<T>, Result<(), AllocFailed<T>>)
+    requires { at ≤ 1 }
+    ensures ok { OnOk result.1 (listed result.0 ≡ insert (only ∷ []) at item) }
+    ensures err { OnErr result.1 (listed result.0 ≡ only ∷ []) }
+    ensures returned { IfErr result.1 (λ failed. failed.value ≡ item) }
 {
     let mut items = Vec::new(alloc);
-    match items.push(first) {
-        Err(failed) => {
-            (
-                Items::One([failed.value]),
-                Err(AllocFailed { value: second }),
-            )
-        }
+    match items.push(only) {
+        Err(failed) => { (Items::One([failed.value]), Err(AllocFailed { value: item })) }
         Ok(()) => {
-            let answer = items.push(second);
+            let answer = items.insert(at, item);
             (Items::Many(items), answer)
         }
     }
@@ -307,31 +309,9 @@ fn inserted<T: Drop>(
 {
     match items {
         Items::Empty => (Items::One([item]), Ok(())),
-        Items::One([first]) => {
-            if at == 0 {
-                before(alloc, item, first)
-            } else {
-                two(alloc, first, item)
-            }
-        }
+        Items::One([only]) => two(alloc, only, at, item),
         Items::Many(mut items) => {
             let answer = items.insert(at, item);
-            (Items::Many(items), answer)
-        }
-    }
-}
-
-/// An item and then the only one; where there is no memory, the only one, and the item.
-fn before<T: Drop>(alloc: Global, item: T, only: T) -> (Items<T>, Result<(), AllocFailed<T>>)
-    ensures ok { OnOk result.1 (listed result.0 ≡ item ∷ only ∷ []) }
-    ensures err { OnErr result.1 (listed result.0 ≡ only ∷ []) }
-    ensures returned { IfErr result.1 (λ failed. failed.value ≡ item) }
-{
-    let mut items = Vec::new(alloc);
-    match items.push(only) {
-        Err(failed) => { (Items::One([failed.value]), Err(AllocFailed { value: item })) }
-        Ok(()) => {
-            let answer = items.insert(0, item);
             (Items::Many(items), answer)
         }
     }
@@ -341,72 +321,49 @@ fn before<T: Drop>(alloc: Global, item: T, only: T) -> (Items<T>, Result<(), All
 fn appended<T: Drop>(
     alloc: Global,
     front: Items<T>,
+    end: usize,
     back: Items<T>,
 ) -> (Items<T>, Items<T>, Result<(), AllocError>)
+    requires { end ≡ length (listed front) }
     ensures ok { OnOk result.2 (listed result.0 ≡ listed front ++ listed back) }
     ensures emptied { OnOk result.2 (listed result.1 ≡ []) }
     ensures err { OnErr result.2 (listed result.0 ≡ listed front) }
     ensures kept { OnErr result.2 (listed result.1 ≡ listed back) }
 {
-    match front {
-        Items::Empty => (back, Items::Empty, Ok(())),
-        Items::One([first]) => before_all(alloc, first, back),
-        Items::Many(items) => behind(items, back),
-    }
-}
-
-/// An item before some items, and none; where there is no memory, the item, and the items as they are.
-fn before_all<T: Drop>(
-    alloc: Global,
-    first: T,
-    back: Items<T>,
-) -> (Items<T>, Items<T>, Result<(), AllocError>)
-    ensures ok { OnOk result.2 (listed result.0 ≡ first ∷ listed back) }
-    ensures emptied { OnOk result.2 (listed result.1 ≡ []) }
-    ensures err { OnErr result.2 (listed result.0 ≡ first ∷ []) }
-    ensures kept { OnErr result.2 (listed result.1 ≡ listed back) }
-{
     match back {
-        Items::Empty => (Items::One([first]), Items::Empty, Ok(())),
-        Items::One([second]) => {
-            let (items, answer) = two(alloc, first, second);
+        Items::Empty => (front, Items::Empty, Ok(())),
+        Items::One([last]) => {
+            let (items, answer) = inserted(alloc, front, end, last);
             match answer {
                 Ok(()) => (items, Items::Empty, Ok(())),
                 Err(failed) => (items, Items::One([failed.value]), Err(AllocError)),
             }
         }
-        Items::Many(mut items) => match items.insert(0, first) {
-            Ok(()) => (Items::Many(items), Items::Empty, Ok(())),
-            Err(failed) => (
-                Items::One([failed.value]),
-                Items::Many(items),
-                Err(AllocError),
-            ),
-        },
+        Items::Many(more) => before_all(front, more),
     }
 }
 
-/// Some items behind others, and none; where there is no memory, both as they are.
-fn behind<T: Drop>(
-    mut items: Vec<T>,
-    back: Items<T>,
+/// Some items before others, and none; where there is no memory, both as they are.
+fn before_all<T: Drop>(
+    items: Items<T>,
+    mut more: Vec<T>,
 ) -> (Items<T>, Items<T>, Result<(), AllocError>)
-    ensures ok { OnOk result.2 (listed result.0 ≡ items.items ++ listed back) }
+    ensures ok { OnOk result.2 (listed result.0 ≡ listed items ++ more.items) }
     ensures emptied { OnOk result.2 (listed result.1 ≡ []) }
-    ensures err { OnErr result.2 (listed result.0 ≡ items.items) }
-    ensures kept { OnErr result.2 (listed result.1 ≡ listed back) }
+    ensures err { OnErr result.2 (listed result.0 ≡ listed items) }
+    ensures kept { OnErr result.2 (listed result.1 ≡ more.items) }
 {
-    match back {
-        Items::Empty => (Items::Many(items), Items::Empty, Ok(())),
-        Items::One([last]) => match items.push(last) {
-            Ok(()) => (Items::Many(items), Items::Empty, Ok(())),
+    match items {
+        Items::Empty => (Items::Many(more), Items::Empty, Ok(())),
+        Items::One([first]) => match more.insert(0, first) {
+            Ok(()) => (Items::Many(more), Items::Empty, Ok(())),
             Err(failed) => (
-                Items::Many(items),
                 Items::One([failed.value]),
+                Items::Many(more),
                 Err(AllocError),
             ),
         },
-        Items::Many(mut more) => {
+        Items::Many(mut items) => {
             let answer = items.append(&mut more);
             (Items::Many(items), Items::Many(more), answer)
         }

@@ -138,8 +138,10 @@ impl Name {
     {
         if text.len() <= SHORT {
             let mut bytes: [u8; 16] = short_bytes(text.as_bytes());
-            lower_all(&mut bytes);
-            let spelling = Spelling::Short(text.len() as u8, front_of(&bytes));
+            bytes.make_ascii_lowercase();
+            let mut front = [0; SHORT];
+            front.copy_from_slice(&bytes[..SHORT]);
+            let spelling = Spelling::Short(text.len() as u8, front);
             return Ok(Name { spelling });
         }
         let mut own = String::from_str(alloc, text)?;
@@ -195,22 +197,4 @@ impl Name {
         };
         Ok(Name { spelling })
     }
-}
-
-/// Lowers the ASCII upper case letters of so many bytes that it is done at once.
-#[inline(never)]
-fn lower_all(bytes: &mut [u8; 16])
-    ensures { bytes.new ≡ map to_ascii_lowercase bytes.old }
-{
-    bytes.make_ascii_lowercase();
-}
-
-/// The first bytes of so many that their letters are lowered at once.
-#[inline]
-fn front_of(bytes: &[u8; 16]) -> [u8; SHORT]
-    ensures { result ≡ take 14 bytes.now }
-{
-    let mut front = [0; SHORT];
-    front.copy_from_slice(&bytes[..SHORT]);
-    front
 }

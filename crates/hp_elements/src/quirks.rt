@@ -12,14 +12,11 @@ impl<'p> DoctypeParts<'p> {
     pub fn gives_quirks(&self) -> bool
         ensures { result ≡ gives_quirks self.now }
     {
-        self.force_quirks
-            || !is_html(&self.name)
-            || is_quirky(&self.public)
-            || is_quirky_alone(&self.public) && self.system.is_none()
+        self.force_quirks || !is_html(&self.name) || is_quirky(&self.public, self.system.is_none())
     }
 }
 
-ghost use Rattle.std.specs.Prelude.{codes};
+ghost use Rattle.std.specs.Prelude.{codes, ◌&&◌, ◌||◌};
 ghost use Rattle.hp_elements.specs.Quirks.{begins as spec_begins, equals as spec_equals, is_part, quirky, quirky_alone};
 
 /// Whether a name is `html`.
@@ -32,9 +29,9 @@ fn is_html(name: &Option<Text<'_>>) -> bool
     }
 }
 
-/// Whether a public identifier gives quirks.
-fn is_quirky(public: &Option<Text<'_>>) -> bool
-    ensures { result ≡ is_part quirky public.now }
+/// Whether a public identifier gives quirks; some do where it stands alone, without a system identifier.
+fn is_quirky(public: &Option<Text<'_>>, alone: bool) -> bool
+    ensures { result ≡ (is_part quirky public.now || (is_part quirky_alone public.now && alone)) }
 {
     match public {
         None => false,
@@ -45,19 +42,9 @@ fn is_quirky(public: &Option<Text<'_>>) -> bool
                 || begins(public, "-//w3c//dtd html 4.0 frameset//")
                 || begins(public, "-//w3c//dtd html 4.0 transitional//")
                 || begins(public, "-//netscape comm. corp.//dtd")
-        }
-    }
-}
-
-/// Whether a public identifier gives quirks where there is no system identifier.
-fn is_quirky_alone(public: &Option<Text<'_>>) -> bool
-    ensures { result ≡ is_part quirky_alone public.now }
-{
-    match public {
-        None => false,
-        Some(public) => {
-            begins(public, "-//w3c//dtd html 4.01 frameset//")
-                || begins(public, "-//w3c//dtd html 4.01 transitional//")
+                || alone
+                    && (begins(public, "-//w3c//dtd html 4.01 frameset//")
+                        || begins(public, "-//w3c//dtd html 4.01 transitional//"))
         }
     }
 }

@@ -1,8 +1,8 @@
 //! Names that foreign elements and their attributes have in another spelling than the page.
-ghost use Rattle.std.specs.Prelude.{◌≡◌, slice_index, MatchOption, ℕ, List};
+ghost use Rattle.std.specs.Prelude.{◌≡◌, MatchOption, ℕ, List};
 ghost use Rattle.std.specs.Option.{option_map};
-ghost use Rattle.hp_elements.specs.Names.{index_of, text_of, is_among, lowered};
-ghost use Rattle.hp_elements.specs.Respelling.{bit_of, respellings, spellings_of, respelling_of, foreign_attribute_of};
+ghost use Rattle.hp_elements.specs.Names.{text_of, is_among, lowered};
+ghost use Rattle.hp_elements.specs.Respelling.{bit_of, spellings_of, respelling_of, foreign_attribute_of};
 
 use crate::find::{candidate, lowers_to};
 use crate::known::Known;
@@ -39,6 +39,24 @@ static RESPELLINGS: [u8; 240] = [
     2, 2, 0, 0, 0, 0, 0, 0, 0, 0, 0, 0, 0, 0, 2, 2,
 ];
 
+/// The place of the first known name of an attribute that has a namespace in foreign elements. Those names stand side by side.
+const FIRST_FOREIGN: usize = 227;
+
+/// The namespace and the local name of each of those attributes (13.2.6.1), in the order of the known names.
+static FOREIGN: [(AttributeSpace, Known); 11] = [
+    (AttributeSpace::Xlink, Known::ACTUATE),
+    (AttributeSpace::Xlink, Known::ARCROLE),
+    (AttributeSpace::Xlink, Known::HREF),
+    (AttributeSpace::Xlink, Known::ROLE),
+    (AttributeSpace::Xlink, Known::SHOW),
+    (AttributeSpace::Xlink, Known::TITLE),
+    (AttributeSpace::Xlink, Known::TYPE),
+    (AttributeSpace::Xml, Known::LANG),
+    (AttributeSpace::Xml, Known::SPACE),
+    (AttributeSpace::Xmlns, Known::XMLNS),
+    (AttributeSpace::Xmlns, Known::XLINK),
+];
+
 impl Respelling {
     /// The bit of the table in the row of a name.
     fn mask(self) -> u8
@@ -51,15 +69,8 @@ impl Respelling {
     fn has(self, known: Known) -> bool
         ensures { result ≡ is_among (spellings_of self) (text_of known) }
     {
-        respellings_of(known) & self.mask() != 0
+        RESPELLINGS[known.index()] & self.mask() != 0
     }
-}
-
-/// The tables that a known name is in.
-fn respellings_of(name: Known) -> u8
-    ensures { result ≡ slice_index respellings (index_of name) }
-{
-    RESPELLINGS[name.index()]
 }
 
 impl Name {
@@ -80,7 +91,19 @@ impl Name {
     {
         match self.known() {
             None => None,
-            Some(known) => foreign_attribute(known),
+            Some(known) => {
+                let place = known.index();
+                if place < FIRST_FOREIGN {
+                    return None;
+                }
+                match FOREIGN.get(place - FIRST_FOREIGN) {
+                    None => None,
+                    Some(row) => Some(ForeignAttribute {
+                        space: row.0,
+                        local: row.1,
+                    }),
+                }
+            }
         }
     }
 }
@@ -102,36 +125,4 @@ fn lower_of(text: &str) -> Option<Known>
         }
         None => None,
     }
-}
-
-/// The namespace and the local name of an attribute of that name in foreign elements.
-fn foreign_attribute(name: Known) -> Option<ForeignAttribute>
-    ensures { option_map (λ a. (a.space, text_of a.local)) result ≡ foreign_attribute_of (text_of name) }
-{
-    let (space, local) = if name == Known::XLINK_ACTUATE {
-        (AttributeSpace::Xlink, Known::ACTUATE)
-    } else if name == Known::XLINK_ARCROLE {
-        (AttributeSpace::Xlink, Known::ARCROLE)
-    } else if name == Known::XLINK_HREF {
-        (AttributeSpace::Xlink, Known::HREF)
-    } else if name == Known::XLINK_ROLE {
-        (AttributeSpace::Xlink, Known::ROLE)
-    } else if name == Known::XLINK_SHOW {
-        (AttributeSpace::Xlink, Known::SHOW)
-    } else if name == Known::XLINK_TITLE {
-        (AttributeSpace::Xlink, Known::TITLE)
-    } else if name == Known::XLINK_TYPE {
-        (AttributeSpace::Xlink, Known::TYPE)
-    } else if name == Known::XML_LANG {
-        (AttributeSpace::Xml, Known::LANG)
-    } else if name == Known::XML_SPACE {
-        (AttributeSpace::Xml, Known::SPACE)
-    } else if name == Known::XMLNS {
-        (AttributeSpace::Xmlns, Known::XMLNS)
-    } else if name == Known::XMLNS_XLINK {
-        (AttributeSpace::Xmlns, Known::XLINK)
-    } else {
-        return None;
-    };
-    Some(ForeignAttribute { space, local })
 }

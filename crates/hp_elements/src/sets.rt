@@ -1,7 +1,7 @@
 //! The namespaces of elements, and the sets that the rules name.
-ghost use Rattle.std.specs.Prelude.{◌≡◌, false, slice_index};
-ghost use Rattle.hp_elements.specs.Names.{index_of, text_of};
-ghost use Rattle.hp_elements.specs.SetMasks.{mask_of, masks_of};
+ghost use Rattle.std.specs.Prelude.{◌≡◌, false};
+ghost use Rattle.hp_elements.specs.Names.{text_of};
+ghost use Rattle.hp_elements.specs.SetMasks.{mask_of};
 ghost use Rattle.hp_elements.specs.Sets.{in_set};
 
 use crate::known::Known;
@@ -97,17 +97,10 @@ impl SetName {
 pub fn is_in(set: SetName, namespace: Namespace, name: Known) -> bool
     ensures { result ≡ in_set set namespace (text_of name) }
 {
-    sets_of(namespace, name) & set.mask() != 0
-}
-
-/// The sets that the elements of a namespace and a known name are in.
-#[inline(always)]
-fn sets_of(namespace: Namespace, name: Known) -> u64
-    ensures { result ≡ slice_index (masks_of namespace) (index_of name) }
-{
-    match namespace {
-        Namespace::Html => HTML_SETS[name.index()],
-        Namespace::MathMl => MATHML_SETS[name.index()],
-        Namespace::Svg => SVG_SETS[name.index()],
-    }
+    let sets = match namespace {
+        Namespace::Html => &HTML_SETS,
+        Namespace::MathMl => &MATHML_SETS,
+        Namespace::Svg => &SVG_SETS,
+    };
+    sets[name.index()] & set.mask() != 0
 }

@@ -55,7 +55,7 @@ pub enum Rest {
 }
 
 /// The class of a code point: white space, U+0000, or another one.
-#[derive(Clone, Copy, PartialEq, Eq)]
+#[derive(Clone, Copy)]
 pub enum CharClass {
     White,
     Nul,
@@ -79,7 +79,7 @@ impl CharClass {
 }
 
 /// What the rules look at in a token. `None` is a name that is no known one.
-#[derive(Clone, Copy, PartialEq, Eq)]
+#[derive(Clone, Copy)]
 pub enum Kind {
     Characters(CharClass),
     Comment,
@@ -172,7 +172,10 @@ fn copied_part(alloc: Global, part: &Option<Text<'_>>) -> Result<Option<Text<'st
 {
     match part {
         None => Ok(None),
-        Some(text) => Ok(Some(text.copy(alloc)?)),
+        Some(text) => match text.copy(alloc) {
+            Ok(text) => Ok(Some(text)),
+            Err(error) => Err(error),
+        },
     }
 }
 

@@ -1,5 +1,5 @@
-use Rattle.std.proofs.Common.{ℕ, ap, ◌∙◌, slice_get, arith}
-use Rattle.hp_elements.specs.Names.{every}
+use Rattle.std.proofs.Common.{◌∙◌, arith}
+use Rattle.hp_elements.specs.Slots.{slots}
 use Rattle.hp_elements.proofs.FindLemmas.{at_its_slot, text_some, text_short}
 use Rattle.hp_elements.proofs.find.candidate.Goals as goal
 
@@ -10,4 +10,5 @@ pub returns-then-len-gt-LONGEST : goal.returns-then-len-gt-LONGEST
 returns-then-len-gt-LONGEST c = λ name e. absurd (omega (arith, c.if-len-gt-LONGEST.true, text_short c.args.text.now name e))
 
 pub returns : goal.returns
-returns c = λ name e. c.at.ensures ∙ (ap (λ (i : ℕ). slice_get every i) c.place_at.ensures ∙ at_its_slot c.args.text.now name c.slot.result c.slot.ensures.value e)
+unfolding slots
+returns c = λ name e. c.at.ensures ∙ at_its_slot c.args.text.now name c.slot.result c.slot.ensures.value e

@@ -15,8 +15,8 @@ front_lowered text now array array' front v e m f fits =
 pub invariant_of-result : goal.invariant_of-result
 invariant_of-result c =
     let text = c.args.text.now in
-    let e : take (length text) c.front_of.result ≡ lowered text =
-    front_lowered text c.as_bytes.result.now c.short_bytes-bytes.result c.lower_all.new.bytes c.front_of.result c.as_bytes.ensures.value c.short_bytes-bytes.ensures c.lower_all.ensures c.front_of.ensures c.if-text-le-SHORT.true in (
+    let e : take (length text) c.copy_from_slice.new.self ≡ lowered text =
+    front_lowered text c.as_bytes.result.now c.short_bytes-bytes.result c.make_ascii_lowercase.new.self c.copy_from_slice.new.self c.as_bytes.ensures.value c.short_bytes-bytes.ensures c.make_ascii_lowercase.ensures.after c.copy_from_slice.ensures.after c.if-text-le-SHORT.true in (
       c.if-text-le-SHORT.true,
       subst (λ (xs : List ℕ). IsUtf8 xs) (sym e) (lowered_utf8 text c.utf8.text),
       ap (λ (xs : List ℕ). known_of (chars xs)) e ∙ other_chars (lowered text) (lowered_utf8 text c.utf8.text) c.requires,
@@ -25,19 +25,19 @@ invariant_of-result c =
 pub returns-then-text-le-SHORT : goal.returns-then-text-le-SHORT
 returns-then-text-le-SHORT c =
     let text = c.args.text.now in
-    let e : take (length text) c.front_of.result ≡ lowered text =
-    front_lowered text c.as_bytes.result.now c.short_bytes-bytes.result c.lower_all.new.bytes c.front_of.result c.as_bytes.ensures.value c.short_bytes-bytes.ensures c.lower_all.ensures c.front_of.ensures c.if-text-le-SHORT.true in
+    let e : take (length text) c.copy_from_slice.new.self ≡ lowered text =
+    front_lowered text c.as_bytes.result.now c.short_bytes-bytes.result c.make_ascii_lowercase.new.self c.copy_from_slice.new.self c.as_bytes.ensures.value c.short_bytes-bytes.ensures c.make_ascii_lowercase.ensures.after c.copy_from_slice.ensures.after c.if-text-le-SHORT.true in
     ap chars e ∙ lowered_chars text c.utf8.text
 
 pub invariant_of-result-2 : goal.invariant_of-result-2
 invariant_of-result-2 c =
     let text = c.args.text.now in
-    let bytes : string_bytes c.make_ascii_lowercase.new.self ≡ lowered text = c.make_ascii_lowercase.ensures.bytes ∙ ap lowered c.in_ok-own.ensures.ok in
+    let bytes : string_bytes c.make_ascii_lowercase-2.new.self ≡ lowered text = c.make_ascii_lowercase-2.ensures.bytes ∙ ap lowered c.in_ok-own.ensures.ok in
     ap (λ s. known_of (chars (string_bytes s))) c.in_ok-new.ensures.ok
     ∙ (ap (λ (xs : List ℕ). known_of (chars xs)) bytes ∙ other_chars (lowered text) (lowered_utf8 text c.utf8.text) c.requires)
 
 pub returns : goal.returns
 returns c =
     let text = c.args.text.now in
-    let bytes : string_bytes c.make_ascii_lowercase.new.self ≡ lowered text = c.make_ascii_lowercase.ensures.bytes ∙ ap lowered c.in_ok-own.ensures.ok in
+    let bytes : string_bytes c.make_ascii_lowercase-2.new.self ≡ lowered text = c.make_ascii_lowercase-2.ensures.bytes ∙ ap lowered c.in_ok-own.ensures.ok in
     ap (λ s. chars (string_bytes s)) c.in_ok-new.ensures.ok ∙ (ap chars bytes ∙ lowered_chars text c.utf8.text)
