@@ -165,7 +165,12 @@ impl Lexer {
     {
         match self.asked {
             Asked::Nothing => match self.lex.machine.state {
-                State::Data => hp_lex_tags::next_plain(&self.lex, input, &self.names, &mut self.rested),
+                State::Data => hp_lex_tags::next_plain(
+                    &self.lex,
+                    input,
+                    &self.names,
+                    &mut self.rested,
+                ),
                 _ => hp_lex_raw::next_plain(&self.lex, input, &mut self.rested),
             },
             _ => None,
