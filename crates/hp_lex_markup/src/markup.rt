@@ -65,21 +65,6 @@ pub fn row(
         State::CdataSection => cdata_section(alloc, machine, symbol, tokens),
         State::CdataSectionBracket => cdata_section_bracket(alloc, machine, symbol, tokens),
         State::CdataSectionEnd => cdata_section_end(alloc, machine, symbol, tokens),
-        _ => doctype_row(alloc, machine, symbol, tokens),
-    }
-}
-
-/// The row of a doctype's state.
-fn doctype_row(
-    alloc: Global,
-    machine: &mut Machine,
-    symbol: Option<char>,
-    tokens: &mut Tokens<'_>,
-) -> Result<Reads, NoMemory>
-    requires { IsTrue (rows.in_doctype machine.old.state) }
-    ensures { IfOk result (Follows (rows.row machine.old symbol) tokens.old machine.new tokens.new) }
-{
-    match machine.state {
         State::Doctype => doctype(alloc, machine, symbol, tokens),
         State::BeforeDoctypeName => before_doctype_name(alloc, machine, symbol, tokens),
         State::DoctypeName => doctype_name(alloc, machine, symbol, tokens),
@@ -108,29 +93,12 @@ fn doctype_row(
             after_system_identifier(alloc, machine, symbol, tokens)
         }
         State::BogusDoctype => bogus_doctype(alloc, machine, symbol, tokens),
-        _ => identifier_row(alloc, machine, symbol, tokens),
-    }
-}
-
-/// The row of a state within an identifier.
-fn identifier_row(
-    alloc: Global,
-    machine: &mut Machine,
-    symbol: Option<char>,
-    tokens: &mut Tokens<'_>,
-) -> Result<Reads, NoMemory>
-    requires { IsTrue (rows.in_identifier machine.old.state) }
-    ensures { IfOk result (Follows (rows.row machine.old symbol) tokens.old machine.new tokens.new) }
-{
-    let behind_public = State::AfterDoctypePublicIdentifier;
-    let behind_system = State::AfterDoctypeSystemIdentifier;
-    match machine.state {
         State::DoctypePublicIdentifierDoubleQuoted => {
             quoted_identifier(
                 alloc,
                 '"',
                 Part::Public,
-                behind_public,
+                State::AfterDoctypePublicIdentifier,
                 machine,
                 symbol,
                 tokens,
@@ -141,7 +109,7 @@ fn identifier_row(
                 alloc,
                 '\'',
                 Part::Public,
-                behind_public,
+                State::AfterDoctypePublicIdentifier,
                 machine,
                 symbol,
                 tokens,
@@ -152,7 +120,7 @@ fn identifier_row(
                 alloc,
                 '"',
                 Part::System,
-                behind_system,
+                State::AfterDoctypeSystemIdentifier,
                 machine,
                 symbol,
                 tokens,
@@ -163,7 +131,7 @@ fn identifier_row(
                 alloc,
                 '\'',
                 Part::System,
-                behind_system,
+                State::AfterDoctypeSystemIdentifier,
                 machine,
                 symbol,
                 tokens,

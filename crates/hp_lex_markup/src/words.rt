@@ -3,7 +3,7 @@
 ghost use Rattle.std.specs.Prelude.{◌≡◌, ◌≤◌, ℕ, Bool, List, Option, Some, IfOk, OnOk, IsTrue, true, false, drop, length, []};
 ghost use Rattle.hp_elements.specs.declared.token.Token.{Token};
 ghost use Rattle.hp_tokens.specs.Reading.{first};
-ghost use Rattle.hp_tokens.specs.Moves.{Lexing, Move, move, read_as as spec_read_as};
+ghost use Rattle.hp_tokens.specs.Moves.{Lexing, Move, move};
 ghost use Rattle.hp_tokens.specs.Advancing.{held, unread, Steps, EndSteps, ReadsOne, MovesByRows};
 ghost use Rattle.hp_lex_markup.specs.Rows.{reads_word, has_row, row as spec_row};
 ghost use Rattle.hp_lex_markup.specs.Words.{progress as spec_progress, is_open as spec_is_open, word as spec_word, count as spec_count, asks as spec_asks, folded as spec_folded, front_of, begins_of};
@@ -202,7 +202,7 @@ fn read_word(alloc: Global, state: &mut LexState, word: Word) -> Result<(), NoMe
     Ok(())
 }
 
-/// One code point, by the row of the state. Answers whether something was appended.
+/// One code point, by the row of the state, where CR is read as LF. Answers whether something was appended.
 fn read_row(
     alloc: Global,
     c: char,
@@ -217,8 +217,9 @@ fn read_row(
     ensures held { IfOk result (λ emitted. held state.new ≤ input.new.place) }
     ensures ended { IfOk result (λ emitted. input.old.text ≡ [] → input.new.text ≡ []) }
 {
+    let symbol = if c == '\r' { '\n' } else { c };
     let before = tokens.len();
-    match row(alloc, &mut state.machine, Some(read_as(c)), tokens)? {
+    match row(alloc, &mut state.machine, Some(symbol), tokens)? {
         Reads::Consume => {
             let _ = state.take(input);
             state.machine.after_cr = c == '\r';
@@ -227,13 +228,6 @@ fn read_row(
         Reads::End => unreachable!(),
     }
     Ok(tokens.len() != before)
-}
-
-/// CR is read as LF.
-fn read_as(c: char) -> char
-    ensures { result ≡ spec_read_as c }
-{
-    if c == '\r' { '\n' } else { c }
 }
 
 /// Whether the LF of a CR LF pair comes next.
@@ -307,7 +301,11 @@ pub fn end(
     ensures ended { IfOk result (λ step. input.new.text ≡ []) }
 {
     let Some(c) = state.peek(input) else {
-        return end_row(alloc, state, input, tokens);
+        return match row(alloc, &mut state.machine, None, tokens)? {
+            Reads::Consume => unreachable!(),
+            Reads::Again => Ok(EndStep::Made),
+            Reads::End => Ok(EndStep::Ended),
+        };
     };
     if is_pair_next(state, input) {
         drop_line_feed(state, input);
@@ -319,24 +317,4 @@ pub fn end(
     };
     read_word(alloc, state, word)?;
     Ok(EndStep::Made)
-}
-
-/// The row of the state on the end of input.
-fn end_row(
-    alloc: Global,
-    state: &mut LexState,
-    input: &Cursor<'_>,
-    tokens: &mut Tokens<'_>,
-) -> Result<EndStep, NoMemory>
-    requires here { IsTrue (reads_word state.old.machine.state) }
-    requires held { held state.old ≤ input.now.place }
-    requires none { unread state.old input.now ≡ [] }
-    ensures step { IfOk result (λ step. EndSteps markup_rules state.old input.now tokens.old state.new input.now tokens.new step) }
-    ensures held { IfOk result (λ step. held state.new ≤ input.now.place) }
-{
-    match row(alloc, &mut state.machine, None, tokens)? {
-        Reads::Consume => unreachable!(),
-        Reads::Again => Ok(EndStep::Made),
-        Reads::End => Ok(EndStep::Ended),
-    }
 }

@@ -1,5 +1,5 @@
 -- A code point is read by the row of its state, where nothing is asked.
-use Rattle.std.proofs.Common.{◌≡◌, ℕ, ◌+◌, ◌*◌, ◌<◌, List, [], ◌∷◌, ◌++◌, Bool, true, false, ◌&&◌, cond, not, nat_eq, length, refl, ap, ◌∙◌, sym, subst, Option, None, Some, eqb-true, IsTrue}
+use Rattle.std.proofs.Common.{◌≡◌, ℕ, ◌+◌, List, ◌∷◌, Bool, true, false, ◌&&◌, cond, not, nat_eq, length, refl, ap, ◌∙◌, sym, Some, IsTrue}
 use Rattle.std.specs.Prelude.{◌==◌}
 use Rattle.std.specs.Char.{len_utf8}
 use Rattle.hp_elements.specs.declared.token.Token.{Token}
@@ -10,7 +10,7 @@ use Rattle.hp_tokens.specs.declared.rows.Reads.{Reads}
 use Rattle.hp_tokens.specs.declared.rows.Reads.TheVariants.{Consume, Again, End}
 use Rattle.hp_tokens.specs.Reading.{Unread}
 use Rattle.hp_tokens.specs.Rows.{Row, Follows}
-use Rattle.hp_tokens.specs.Moves.{Lexing, Move, Rules, asks_last_tag, needs_more, makes, all_began, read_as, after_row, row_move, row_end, move_on, move}
+use Rattle.hp_tokens.specs.Moves.{Lexing, Move, Rules, needs_more, makes, all_began, read_as, after_row, row_move, row_end, move_on, move}
 use Rattle.hp_tokens.specs.Ranks.{IsFine, Falls}
 use Rattle.hp_tokens.specs.Advancing.{unread, place_of, lexing, Goes, HasRows, MovesByRows}
 use Rattle.hp_tokens.proofs.Stepping.{goes_by, stand_same, read_smaller, again_smaller}

@@ -1,9 +1,9 @@
 -- A move that is made stays made when more text follows.
-use Rattle.std.proofs.Common.{◌≡◌, ℕ, List, [], ◌∷◌, ◌++◌, Bool, true, false, cond, refl, Some}
+use Rattle.std.proofs.Common.{ℕ, List, ◌++◌, Bool, true, false, cond, refl, Some}
 use Rattle.hp_tokens.specs.declared.rows.Reads.{Reads}
 use Rattle.hp_tokens.specs.declared.rows.Reads.TheVariants.{Consume, Again, End}
 use Rattle.hp_tokens.specs.Rows.{Row}
-use Rattle.hp_tokens.specs.Moves.{Lexing, Move, asks_last_tag, needs_more, read_as, after_row, row_move}
+use Rattle.hp_tokens.specs.Moves.{Lexing, Move, asks_last_tag, needs_more, read_as, after_row}
 use Rattle.hp_tokens.specs.Runs.{followed_by, Stays, IsSteady}
 use Rattle.hp_lex_raw.specs.Rows.{has_row, row}
 use Rattle.hp_lex_raw.specs.Raw.{asks, raw_rules}

@@ -1,11 +1,11 @@
 -- In a state of text the row emits each code point of a run, and the state stays.
-use Rattle.std.proofs.Common.{◌≡◌, ℕ, List, [], ◌∷◌, Bool, true, false, refl, ap, ◌∙◌, sym, Some, eqb-true, IsTrue}
+use Rattle.std.proofs.Common.{◌≡◌, ℕ, [], ◌∷◌, Bool, true, false, refl, ap, ◌∙◌, Some, IsTrue, ◌⊎◌, inl, inr}
 use Rattle.std.specs.Prelude.{◌==◌, ◌&&◌}
 use Rattle.hp_tokens.specs.declared.state.State.{State}
 use Rattle.hp_tokens.specs.declared.state.State.TheVariants.{Rcdata, Rawtext, ScriptData, Plaintext, ScriptDataEscaped, ScriptDataDoubleEscaped}
 use Rattle.hp_tokens.specs.declared.machine.Machine.{Machine}
-use Rattle.hp_tokens.specs.Rows.{Row, is_blank, replaced, stay, plus}
-use Rattle.hp_tokens.specs.Moves.{Lexing, read_as, row_move, row_end, needs_more}
+use Rattle.hp_tokens.specs.Rows.{is_blank, replaced, stay, plus}
+use Rattle.hp_tokens.specs.Moves.{read_as}
 use Rattle.hp_tokens.specs.Advancing.{HasRows}
 use Rattle.hp_tokens.specs.Plain.{none_of, data_stops, raw_stops, whole_data_stops, whole_raw_stops, plaintext_stops, escaped_stops, EmitsPlain}
 use Rattle.hp_tokens.specs.PlainLaws.{apart, blank-apart}
@@ -104,6 +104,23 @@ module _ (s : State) where
         row_there m c s ScriptData is e ∙ raw_emits _ m c a.1.1.0 a.0;
   }
 
+  -- in RAWTEXT and in script data
+  pub raw_blanks : (s ≡ Rawtext) ⊎ (s ≡ ScriptData) → EmitsPlain row is_blank s
+  raw_blanks (inl raw) = rawtext_blanks raw
+  raw_blanks (inr script) = script_blanks script
+
+  pub raw_others : (s ≡ Rawtext) ⊎ (s ≡ ScriptData) → EmitsPlain row (none_of raw_stops) s
+  raw_others (inl raw) = rawtext_others raw
+  raw_others (inr script) = script_others script
+
+  pub raw_whole : (s ≡ Rawtext) ⊎ (s ≡ ScriptData) → EmitsPlain row (none_of whole_raw_stops) s
+  raw_whole (inl raw) = rawtext_whole raw
+  raw_whole (inr script) = script_whole script
+
+  pub raw_here : (s ≡ Rawtext) ⊎ (s ≡ ScriptData) → has_row s ≡ true
+  raw_here (inl raw) = ap has_row raw
+  raw_here (inr script) = ap has_row script
+
   pub plaintext_blanks : s ≡ Plaintext → EmitsPlain row is_blank s
   plaintext_blanks e = record {
     stays = λ m c is h. row_there m c s Plaintext is e ∙ plaintext_emits m c (blank-apart (0 ∷ []) refl c h).0;
@@ -141,6 +158,15 @@ module _ (s : State) where
         let a = apart escaped_stops c h in
         row_there m c s ScriptDataDoubleEscaped is e ∙ double_escaped_emits m c a.1.1.1.1.1.1.0 a.1.1.1.1.1.1.1.0 a.0;
   }
+
+  -- in both kinds of escaped script data
+  pub any_escaped_blanks : (s ≡ ScriptDataEscaped) ⊎ (s ≡ ScriptDataDoubleEscaped) → EmitsPlain row is_blank s
+  any_escaped_blanks (inl once) = escaped_blanks once
+  any_escaped_blanks (inr twice) = double_escaped_blanks twice
+
+  pub any_escaped_others : (s ≡ ScriptDataEscaped) ⊎ (s ≡ ScriptDataDoubleEscaped) → EmitsPlain row (none_of escaped_stops) s
+  any_escaped_others (inl once) = escaped_others once
+  any_escaped_others (inr twice) = double_escaped_others twice
 
 -- nothing is asked in a state of text
 pub text_rows : HasRows raw_rules reads_text row

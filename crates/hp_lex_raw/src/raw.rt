@@ -3,17 +3,16 @@ ghost use Rattle.std.specs.Prelude.{◌≡◌, ◌≤◌, ◌^◌, ◌==◌, ◌
 ghost use Rattle.hp_tokens.specs.declared.rows.Turn.TheVariants as turns;
 ghost use Rattle.hp_tokens.specs.declared.machine.Machine.{Machine};
 ghost use Rattle.hp_tokens.specs.declared.state.State.{State};
-ghost use Rattle.hp_tokens.specs.Reading.{first};
 ghost use Rattle.std.specs.Prelude.{◌<◌, length, map};
 ghost use Rattle.std.specs.List.{list_all};
 ghost use Rattle.hp_tokens.specs.Rows.{Follows, character, is_blank};
 ghost use Rattle.hp_tokens.specs.Plain.{EmitsPlain, none_of};
 ghost use Rattle.hp_tokens.specs.Ranks.{IsFine};
-ghost use Rattle.hp_tokens.specs.Advancing.{held, unread, lexing, end_of_text, ReadsOne, Steps, EndSteps, Turned, EndTurned};
+ghost use Rattle.hp_tokens.specs.Advancing.{held, lexing, end_of_text, Steps, EndSteps, Turned, EndTurned};
 ghost use Rattle.hp_tokens.specs.Moves.{move, read_as as spec_read_as};
 ghost use Rattle.hp_lex_raw.specs.Rows as rows;
 ghost use Rattle.hp_lex_raw.specs.Fine.{row_fine, text_fine};
-ghost use Rattle.hp_lex_raw.specs.Raw.{is_here as spec_is_here, asks as spec_asks, names_end_tag as spec_names_end_tag, reads_text, raw_rules};
+ghost use Rattle.hp_lex_raw.specs.Raw.{is_here as spec_is_here, asks as spec_asks, reads_text, raw_rules};
 
 use crate::rows::{
     end_tag_name, end_tag_open, ends_name, less_than_sign, plaintext, raw_text, rcdata,
@@ -213,55 +212,22 @@ fn read_as(c: char) -> char
     if c == '\r' { '\n' } else { c }
 }
 
-/// Whether the name of an end tag is read here.
-fn names_end_tag(state: State) -> bool
-    ensures { result ≡ spec_names_end_tag state }
-{
-    match state {
-        State::RcdataEndTagName
-        | State::RawtextEndTagName
-        | State::ScriptDataEndTagName
-        | State::ScriptDataEscapedEndTagName => true,
-        _ => false,
-    }
-}
-
 /// Whether the last start tag's name is asked before this code point is read.
 fn asks(machine: &Machine, c: char) -> bool
     ensures { result ≡ spec_asks machine.now c }
 {
-    names_end_tag(machine.state) && machine.last_tag.is_none() && ends_name(read_as(c))
-}
-
-/// One code point, by the row of the state. Answers whether something was appended.
-fn read(
-    alloc: Global,
-    c: char,
-    state: &mut LexState,
-    input: &mut Cursor<'_>,
-    tokens: &mut Tokens<'_>,
-) -> Result<bool, NoMemory>
-    requires row { IsTrue (rows.has_row state.old.machine.state) }
-    requires held { held state.old ≤ input.old.place }
-    requires next { first (unread state.old input.old) ≡ Some c }
-    requires no_line_feed { (state.old.machine.after_cr && c == 10) ≡ false }
-    requires not_asked { spec_asks state.old.machine c ≡ false }
-    ensures step { IfOk result (λ emitted. ReadsOne (move raw_rules) state.old input.old tokens.old state.new input.new tokens.new emitted) }
-    ensures held { IfOk result (λ emitted. held state.new ≤ input.new.place) }
-{
-    let before = tokens.len();
-    match row(alloc, &mut state.machine, Some(read_as(c)), tokens)? {
-        Reads::Consume => {
-            let _ = state.take(input);
-            state.machine.after_cr = c == '\r';
+    match machine.state {
+        State::RcdataEndTagName
+        | State::RawtextEndTagName
+        | State::ScriptDataEndTagName
+        | State::ScriptDataEscapedEndTagName => {
+            machine.last_tag.is_none() && ends_name(read_as(c))
         }
-        Reads::Again => {}
-        Reads::End => unreachable!(),
+        _ => false,
     }
-    Ok(tokens.len() != before)
 }
 
-/// One code point, or the question of the last start tag's name.
+/// One code point, by the row of the state, or the question of the last start tag's name.
 fn read_one(
     alloc: Global,
     state: &mut LexState,
@@ -284,7 +250,16 @@ fn read_one(
     if asks(&state.machine, c) {
         return Ok(Step::AskLastTag);
     }
-    let emitted = read(alloc, c, state, input, tokens)?;
+    let before = tokens.len();
+    match row(alloc, &mut state.machine, Some(read_as(c)), tokens)? {
+        Reads::Consume => {
+            let _ = state.take(input);
+            state.machine.after_cr = c == '\r';
+        }
+        Reads::Again => {}
+        Reads::End => unreachable!(),
+    }
+    let emitted = tokens.len() != before;
     Ok(Step::Made { emitted })
 }
 
@@ -317,11 +292,13 @@ impl Lexes for Raw {
     {
         match state.machine.state {
             State::Rcdata => read_text::<DataText>(alloc, state, input, tokens),
-            State::Rawtext => read_text::<RawText>(alloc, state, input, tokens),
-            State::ScriptData => read_text::<RawText>(alloc, state, input, tokens),
+            State::Rawtext | State::ScriptData => {
+                read_text::<RawText>(alloc, state, input, tokens)
+            }
             State::Plaintext => read_text::<PlaintextText>(alloc, state, input, tokens),
-            State::ScriptDataEscaped => read_text::<EscapedText>(alloc, state, input, tokens),
-            State::ScriptDataDoubleEscaped => read_text::<EscapedText>(alloc, state, input, tokens),
+            State::ScriptDataEscaped | State::ScriptDataDoubleEscaped => {
+                read_text::<EscapedText>(alloc, state, input, tokens)
+            }
             _ => read_one(alloc, state, input, tokens),
         }
     }
@@ -417,8 +394,9 @@ pub fn next_text<'p>(
 {
     match state.machine.state {
         State::Rcdata => hp_tokens::next_text::<TextRows, DataText>(state, input, rested),
-        State::Rawtext => hp_tokens::next_text::<TextRows, RawText>(state, input, rested),
-        State::ScriptData => hp_tokens::next_text::<TextRows, RawText>(state, input, rested),
+        State::Rawtext | State::ScriptData => {
+            hp_tokens::next_text::<TextRows, RawText>(state, input, rested)
+        }
         _ => None,
     }
 }
@@ -442,8 +420,9 @@ pub fn next_plain<'p>(
 {
     match state.machine.state {
         State::Rcdata => hp_tokens::next_data::<TextRows>(state, input, rested),
-        State::Rawtext => hp_tokens::next_raw::<TextRows>(state, input, rested),
-        State::ScriptData => hp_tokens::next_raw::<TextRows>(state, input, rested),
+        State::Rawtext | State::ScriptData => {
+            hp_tokens::next_raw::<TextRows>(state, input, rested)
+        }
         _ => None,
     }
 }

@@ -2,28 +2,25 @@
 use Rattle.std.specs.Option.{is_some}
 use Rattle.std.specs.List.{list_all}
 use Rattle.std.specs.Prelude.{IfSome, ◌<◌, length, map}
-use Rattle.std.proofs.Common.{◌≡◌, ℕ, Bool, true, false, ◌-◌, ◌≤◌, ◌^◌, List, [], ◌∷◌, ◌++◌, refl, ap, ◌∙◌, sym, subst, arith, Option, None, Some}
+use Rattle.std.proofs.Common.{◌≡◌, ℕ, true, false, ◌-◌, ◌≤◌, ◌^◌, List, [], ◌∷◌, ◌++◌, refl, ap, ◌∙◌, sym, subst, arith, Option, None, Some}
 use Rattle.hp_elements.specs.declared.token.Token.{Token}
-use Rattle.hp_names.specs.References.{Reference}
 use Rattle.hp_tokens.specs.declared.state.State.{State}
 use Rattle.hp_tokens.specs.declared.state.State.TheVariants.{Data}
 use Rattle.hp_tokens.specs.declared.rows.Turn.TheVariants as turns
 use Rattle.hp_tokens.specs.Reading.{IsFront, Unread}
-use Rattle.hp_tokens.specs.Moves.{Lexing, Emitted, Rules, needs_more, makes, move_on, move}
+use Rattle.hp_tokens.specs.Moves.{Lexing, move_on}
 use Rattle.hp_tokens.specs.Plain.{none_of}
 use Rattle.hp_tokens.specs.Rows.{character}
-use Rattle.hp_tokens.specs.Runs.{Leads}
 use Rattle.hp_tokens.specs.Advancing.{held, unread, lexing, Advances, Stops, Turned}
 use Rattle.hp_tokens.proofs.OneByOne.{none_yet}
 use Rattle.hp_lex_tags.specs.Tags.{EmitsLast, TagTurned, tag_rules, is_here}
-use Rattle.hp_lexer.specs.declared.lexer.Asked.{Asked}
 use Rattle.hp_lexer.specs.declared.lexer.Asked.TheVariants as asked
 use Rattle.hp_lexer.specs.declared.lexer.Lexer.{Lexer}
 use Rattle.hp_lexer.specs.declared.lexer.Step.TheVariants as steps
 use Rattle.hp_lexer.specs.Table.{table, part_of}
-use Rattle.hp_lexer.specs.Standing.{stands, Reaches, ReachesCut, RestsInData, Stepped, PlainStepped, TagStepped}
+use Rattle.hp_lexer.specs.Standing.{stands, Reaches, RestsInData, Stepped, PlainStepped, TagStepped}
 use Rattle.hp_lexer.proofs.Opening.{at_nothing}
-use Rattle.hp_lexer.proofs.Parts.{IsPart, tags-part, text_in_tags, advances, part_made, part_leads}
+use Rattle.hp_lexer.proofs.Parts.{tags-part, text_in_tags, advances, part_made, part_leads}
 
 module _ (old new : Lexer) (old_input new_input : Unread) (none : old.asked ≡ asked.Nothing) (still : new.asked ≡ asked.Nothing) where
   -- where both stand

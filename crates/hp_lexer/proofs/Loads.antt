@@ -1,9 +1,8 @@
 -- The load falls with each step.
-use Rattle.std.proofs.Common.{◌≡◌, ℕ, ◌+◌, ◌*◌, ◌<◌, ◌≤◌, List, [], ◌∷◌, Bool, true, false, cond, length, drop, refl, ap, ◌∙◌, sym, subst, arith, Option, None, Some, length-drop}
+use Rattle.std.proofs.Common.{◌≡◌, ℕ, ◌+◌, ◌*◌, ◌<◌, ◌≤◌, List, [], Bool, true, false, cond, length, drop, refl, sym, subst, arith, Option, None, Some, length-drop}
 use Rattle.hp_elements.specs.declared.token.Rest.{Rest}
 use Rattle.hp_elements.specs.declared.token.Rest.TheVariants as rest
 use Rattle.hp_names.specs.References.{Reference}
-use Rattle.hp_tokens.specs.declared.state.State.{State}
 use Rattle.hp_tokens.specs.declared.machine.Machine.{Machine}
 use Rattle.hp_tokens.specs.Reading.{Unread}
 use Rattle.hp_tokens.specs.States.{enter, state_of_rest}
@@ -21,7 +20,7 @@ use Rattle.hp_lexer.specs.declared.lexer.Lexer.{Lexer}
 use Rattle.hp_lexer.specs.declared.lexer.Step.{Step}
 use Rattle.hp_lexer.specs.declared.lexer.Step.TheVariants as steps
 use Rattle.hp_lexer.specs.Table.{table}
-use Rattle.hp_lexer.specs.Standing.{opened, stands, stands_answered, ReachesCdata, Reaches, Stepped, load, Falls, switched}
+use Rattle.hp_lexer.specs.Standing.{opened, stands, stands_answered, Reaches, Stepped, load, Falls, switched}
 use Rattle.hp_lexer.proofs.Falling.{FallsTo, AsksCdata, move_falls, Leads-at_most}
 
 -- one where it isn't told

@@ -1,5 +1,5 @@
 -- The steps of the lexer on a piece are steps in the whole text.
-use Rattle.std.proofs.Common.{◌≡◌, ℕ, ◌+◌, ◌-◌, ◌≤◌, ◌^◌, List, [], ◌∷◌, ◌++◌, Bool, true, false, cond, refl, ap, ◌∙◌, sym, subst, arith, Option, None, Some, append-nil, append_assoc}
+use Rattle.std.proofs.Common.{◌≡◌, ℕ, ◌+◌, ◌-◌, ◌≤◌, ◌^◌, List, [], ◌∷◌, ◌++◌, Bool, true, false, cond, refl, ap, ◌∙◌, sym, subst, arith, Some, append-nil, append_assoc}
 use Rattle.std.specs.List.{concat}
 use Rattle.hp_elements.specs.declared.token.Rest.{Rest}
 use Rattle.hp_elements.specs.declared.token.Rest.TheVariants as rest
@@ -8,18 +8,17 @@ use Rattle.hp_names.specs.References.{Reference}
 use Rattle.hp_tokens.specs.declared.machine.Machine.{Machine}
 use Rattle.hp_tokens.specs.Reading.{Unread}
 use Rattle.hp_tokens.specs.States.{enter, is_resting, state_of_rest}
-use Rattle.hp_tokens.specs.Moves.{Lexing, Emitted, Move, needs_more, asks_cdata, asks_last_tag, makes, standing, move}
+use Rattle.hp_tokens.specs.Moves.{Lexing, Emitted, Move, needs_more, asks_cdata, makes, standing, move}
 use Rattle.hp_tokens.specs.Runs.{Leads, Waits, RunsTo, followed_by}
-use Rattle.hp_tokens.specs.Advancing.{held, unread, singles, tokens_of, Began, Says, Advances}
+use Rattle.hp_tokens.specs.Advancing.{held, unread, singles, Began, Says, Advances}
 use Rattle.hp_tokens.proofs.Pieces.{Leads-followed, Leads-join}
 use Rattle.hp_lexer.specs.declared.lexer.Asked.{Asked}
 use Rattle.hp_lexer.specs.declared.lexer.Asked.TheVariants as asked
 use Rattle.hp_lexer.specs.declared.lexer.Lexer.{Lexer}
-use Rattle.hp_lexer.specs.declared.lexer.Step.{Step}
 use Rattle.hp_lexer.specs.declared.lexer.Step.TheVariants as steps
 use Rattle.hp_lexer.specs.Table.{table}
 use Rattle.hp_lexer.specs.Standing.{opened, stands, stands_answered, switched, ReachesCdata, ReachesCut, Stepped}
-use Rattle.hp_lexer.specs.Places.{IsInPiece, BeganIn, IsTold, Reached, AsksThere, CutsThere, PlacedIn, StepsPlaced, StartsPlaced, SwitchesPlaced, TellsPlaced, told, text_at, Answer, Calls, at_end, goes_on, at_cut, AreTold, CallsRun}
+use Rattle.hp_lexer.specs.Places.{IsInPiece, BeganIn, IsTold, Reached, AsksThere, CutsThere, PlacedIn, StepsPlaced, StartsPlaced, SwitchesPlaced, TellsPlaced, told, text_at, Answer, at_end, goes_on, at_cut, AreTold, CallsRun}
 use Rattle.hp_lexer.proofs.Steady.{table_steady}
 use Rattle.hp_lexer.proofs.Placing.{BeganAlike, PlacedMove, Led, move-placed, leads-placed, alike-tokens, alike-none, here_alike, same_place, stand}
 

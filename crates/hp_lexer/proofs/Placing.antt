@@ -1,5 +1,5 @@
 -- The moves in a piece are those in the whole text, and so are the places where tokens begin.
-use Rattle.std.proofs.Common.{◌≡◌, ℕ, ◌+◌, ◌-◌, ◌≤◌, ◌^◌, List, [], ◌∷◌, ◌++◌, Bool, true, false, cond, map, refl, ap, ◌∙◌, sym, subst, arith, Option, None, Some, append-nil}
+use Rattle.std.proofs.Common.{◌≡◌, ℕ, ◌+◌, ◌-◌, ◌≤◌, ◌^◌, List, [], ◌∷◌, ◌++◌, Bool, true, false, cond, refl, ap, ◌∙◌, sym, subst, arith, Option, None, Some}
 use Rattle.std.specs.Prelude.{◌==◌, ◌&&◌, sum_by, take, drop}
 use Rattle.std.specs.Char.{len_utf8}
 use Rattle.hp_elements.specs.declared.token.Token.{Token}

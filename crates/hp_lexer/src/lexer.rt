@@ -3,7 +3,7 @@ ghost use Rattle.std.specs.Prelude.{◌≡◌, ◌-◌, ◌≤◌, ◌^◌, ℕ,
 ghost use Rattle.hp_tokens.specs.declared.rows.Turn.TheVariants as turns;
 ghost use Rattle.hp_lexer.specs.Standing.{behind_cdata};
 
-use crate::turns::{make_all_end_moves, make_moves, next_plain, next_text};
+use crate::turns::{make_all_end_moves, make_moves};
 use hp_elements::{Name, Rest, Text, Token, Tokens};
 use hp_names::Names;
 pub use hp_tokens::NoMemory;
@@ -164,7 +164,15 @@ impl Lexer {
         ensures ahead { self.new.lex.ahead ≡ self.old.lex.ahead }
     {
         match self.asked {
-            Asked::Nothing => next_plain(&self.lex, input, &self.names, &mut self.rested),
+            Asked::Nothing => match self.lex.machine.state {
+                State::Data => hp_lex_tags::next_plain(
+                    &self.lex,
+                    input,
+                    &self.names,
+                    &mut self.rested,
+                ),
+                _ => hp_lex_raw::next_plain(&self.lex, input, &mut self.rested),
+            },
             _ => None,
         }
     }
@@ -283,7 +291,10 @@ impl Lexer {
         ensures asked { self.new.asked ≡ self.old.asked }
         ensures lex { self.new.lex ≡ self.old.lex }
     {
-        next_text(&self.lex, input, &self.names, &mut self.rested)
+        match self.lex.machine.state {
+            State::Data => hp_lex_tags::next_text(&self.lex, input, &self.names, &mut self.rested),
+            _ => hp_lex_raw::next_text(&self.lex, input, &mut self.rested),
+        }
     }
 
     /// Makes moves until something is emitted, more input is needed or a question is asked.

@@ -1,12 +1,7 @@
 // One call of the part of the table that the state is in.
-ghost use Rattle.std.specs.Prelude.{◌≡◌, ◌≤◌, ◌^◌, ℕ, [], ◌∷◌, IfOk, IfSome, IfNone, IsTrue, false, if◌then◌else◌, Bool};
+ghost use Rattle.std.specs.Prelude.{◌≡◌, ◌≤◌, ◌^◌, ℕ, [], IfOk, IsTrue, false, if◌then◌else◌, Bool};
 ghost use Rattle.hp_tokens.specs.Advancing.{held, lexing, end_of_text, Turned, EndTurned, Ends};
-ghost use Rattle.std.specs.Prelude.{◌<◌, true, length, map};
-ghost use Rattle.std.specs.List.{list_all};
-ghost use Rattle.hp_tokens.specs.Plain.{none_of};
-ghost use Rattle.hp_tokens.specs.Rows.{character};
 ghost use Rattle.hp_tokens.specs.declared.rows.Turn.{Turn};
-ghost use Rattle.hp_tokens.specs.declared.rows.Turn.TheVariants as turns;
 ghost use Rattle.hp_lexer.specs.Table.{table, part_of};
 ghost use Rattle.hp_lex_tags.specs.Tags as tags;
 ghost use Rattle.hp_lex_raw.specs.Raw as raw;
@@ -15,9 +10,9 @@ ghost use Rattle.hp_lex_markup.specs.Rows as markup_rows;
 ghost use Rattle.hp_lexer.specs.Table.{gone_on as spec_gone_on};
 
 use crate::NoMemory;
-use hp_elements::{Text, Token, Tokens};
+use hp_elements::Tokens;
 use hp_names::Names;
-use hp_tokens::{Cursor, LexState, State, Turn};
+use hp_tokens::{Cursor, LexState, Turn};
 use std::alloc::Global;
 
 /// More input is needed only where the state is still the part's.
@@ -113,49 +108,6 @@ pub(crate) fn make_moves<'p>(
         return in_raw(alloc, state, input, names, rested, tokens);
     }
     in_markup(alloc, state, input, names, rested, tokens)
-}
-
-/// The run of text at the front as one token, where the lexer rests in a state of text and `rested` becomes the place of its
-/// start; otherwise `None`, and nothing changes. It is what `make_moves` does there.
-#[inline]
-pub(crate) fn next_text<'p>(
-    state: &LexState,
-    input: &mut Cursor<'p>,
-    names: &Names,
-    rested: &mut u64,
-) -> Option<Token<'p>>
-    requires held { held state.now ≤ input.old.place }
-    ensures turn { IfSome result (λ token. Turned (table names.now) (part_of state.now.machine.state) (lexing state.now input.old rested.old) [] (lexing state.now input.new rested.new) (token ∷ []) rested.new turns.Emitted) }
-    ensures none { IfNone result ((input.new ≡ input.old) × (rested.new ≡ rested.old)) }
-    ensures held { held state.now ≤ input.new.place }
-{
-    match state.machine.state {
-        State::Data => hp_lex_tags::next_text(state, input, names, rested),
-        _ => hp_lex_raw::next_text(state, input, rested),
-    }
-}
-
-/// The text at the front that is emitted as it stands, where the lexer rests in a state of text and `rested` becomes the place of
-/// its start; otherwise `None`, and nothing changes. It is what calls of `make_moves` do there, with each code point in a token
-/// of its own.
-#[inline]
-pub(crate) fn next_plain<'p>(
-    state: &LexState,
-    input: &mut Cursor<'p>,
-    names: &Names,
-    rested: &mut u64,
-) -> Option<Text<'p>>
-    requires held { held state.now ≤ input.old.place }
-    ensures turn { IfSome result (λ text. Turned (table names.now) (part_of state.now.machine.state) (lexing state.now input.old rested.old) [] (lexing state.now input.new rested.new) (map character text) rested.new turns.Emitted) }
-    ensures no_nul { IfSome result (λ text. list_all (none_of (0 ∷ [])) text ≡ true) }
-    ensures long { IfSome result (λ text. 0 < length text) }
-    ensures none { IfNone result ((input.new ≡ input.old) × (rested.new ≡ rested.old)) }
-    ensures held { held state.now ≤ input.new.place }
-{
-    match state.machine.state {
-        State::Data => hp_lex_tags::next_plain(state, input, names, rested),
-        _ => hp_lex_raw::next_plain(state, input, rested),
-    }
 }
 
 /// Makes the moves of the end of input in the part of the table that the state is in, and appends what they emit.

@@ -1,7 +1,7 @@
 -- Searches by whole vectors, 16 bytes at a time.
-use Rattle.std.proofs.Common.{◌≡◌, ℕ, ◌+◌, ◌*◌, ◌%◌, ◌^◌, ◌<◌, ◌≤◌, Bool, true, false, not, ◌||◌, ◌&&◌, cond, eqb, List, [], ◌∷◌, map, length, drop, get_or, replicate, refl, ap, ap₂, ◌∙◌, arith, inl, inr}
+use Rattle.std.proofs.Common.{◌≡◌, ℕ, ◌+◌, ◌*◌, ◌%◌, ◌^◌, ◌<◌, ◌≤◌, Bool, true, false, not, ◌||◌, ◌&&◌, cond, eqb, eqb-true, List, [], ◌∷◌, map, length, drop, get_or, replicate, refl, ap, ap₂, ◌∙◌, arith, inl, inr}
 use Rattle.std.proofs.lemmas.Simd.{zip2_splat, zip2_of_maps, map-map, mask_l-mod, length-chunk, none_from_empty_mask, trailing_mask_l, run_in_chunk_fails, run_in_chunk_stops}
-use Rattle.std.proofs.lemmas.Bool.{cases_lt}
+use Rattle.std.proofs.lemmas.Bool.{cases_lt, and_from}
 use Rattle.std.proofs.lemmas.List.{length-map}
 use Rattle.std.specs.List.{prefix_len}
 use lib.Bits.{bit_or}
@@ -68,6 +68,17 @@ apart false false false false = refl
 -- what is none of these passes
 pub passes_is : (a b x : ℕ) → none_of (0 ∷ 13 ∷ a ∷ b ∷ []) x ≡ not (is_stop a b x)
 passes_is a b x = apart (eqb x 0) (eqb x 13) (eqb x a) (eqb x b)
+
+unlike : (x y : ℕ) → (x ≡ y → ⊥) → not (eqb x y) ≡ true
+unlike x y h = by (eqb x y) (eqb-true x y)
+  where
+    by : (b : Bool) → (b ≡ true → x ≡ y) → not b ≡ true
+    by true e = absurd (h (e refl))
+    by false e = refl
+
+pub unlike_all : (a b x : ℕ) → (x ≡ 0 → ⊥) → (x ≡ 13 → ⊥) → (x ≡ a → ⊥) → (x ≡ b → ⊥) → none_of (0 ∷ 13 ∷ a ∷ b ∷ []) x ≡ true
+unlike_all a b x nul cr first second =
+    and_from _ _ (unlike x 0 nul) (and_from _ _ (unlike x 13 cr) (and_from _ _ (unlike x a first) (and_from _ _ (unlike x b second) refl)))
 
 -- where the mask has a bit, a lane stops
 some_stop : (p : ℕ → Bool) (xs : List ℕ) → 0 < mask_l (map p xs) → prefix_len (λ x. not (p x)) xs < length xs

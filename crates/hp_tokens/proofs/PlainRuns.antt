@@ -31,7 +31,7 @@ use Rattle.hp_tokens.specs.Runs.{Leads, here, onward}
 use Rattle.hp_tokens.specs.Ranks.{symbol_of}
 use Rattle.hp_tokens.specs.Advancing.{place_of, lexing, tokens_of, IsRunText, Goes, MovesByRows}
 use Rattle.hp_tokens.specs.PlainLaws.{unlike}
-use Rattle.hp_tokens.specs.Plain.{EmitsPlain, PutsPlain, TextTaken, MayTake, TextRan}
+use Rattle.hp_tokens.specs.Plain.{EmitsPlain, PutsPlain, TextTaken, IsOneToken, MayTake, TextRan}
 use Rattle.hp_tokens.proofs.Texts.{has_none}
 use Rattle.hp_tokens.proofs.Stepping.{stand_same, rank-below}
 use Rattle.hp_tokens.proofs.OneByOne.{Appends-none}
@@ -279,6 +279,51 @@ line_feed_taken old new (Some c) taken f r is =
       is = is;
     }
 
+-- a run that does not begin with a line feed
+lone_run : (passes : ℕ → Bool) (old new : Unread) (run : List ℕ) {c : ℕ} → first old.text ≡ Some c → (c ≡ 10 → ⊥)
+    → ReadsRun passes old run new → 0 < length run → IsRunText run
+lone_run passes old new [] {c} at other reads some = absurd (omega (arith, some))
+lone_run passes old new (x ∷ xs) {c} at other reads some = λ is.
+    let e : Some c ≡ Some x = sym at ∙ ap first reads.text in
+    let same : c ≡ x = cc in
+    absurd (other (same ∙ is))
+
+no_run : (passes : ℕ → Bool) (old new : Unread) (run : List ℕ) → ReadsRun passes old run new → run ≡ [] → new ≡ old
+no_run passes old new run reads empty =
+    let text : old.text ≡ new.text = reads.text ∙ ap (λ (xs : List ℕ). xs ++ new.text) empty in
+    let place : new.place ≡ old.place = reads.place ∙ (ap (λ (xs : List ℕ). old.place + sum_by len_utf8 xs) empty ∙ omega arith) in
+    ap (λ (p : ℕ). record { place = p; text = new.text }) place ∙ ap (λ (t : List ℕ). record { place = old.place; text = t }) (sym text)
+
+-- a run of white space, and one of text
+pub blanks_taken : (passes : ℕ → Bool) (old new : Unread) (run : List ℕ) (answer : Option Token) {c : ℕ} → first old.text ≡ Some c → (c ≡ 10 → ⊥)
+    → ReadsRun is_blank old run new → IsOneToken White run answer → MayTake passes old answer new
+blanks_taken passes old new run (Some taken) at other reads one = inl (record {
+  run = run;
+  reads = reads;
+  some = one.0;
+  lone = lone_run is_blank old new run at other reads one.0;
+  is = one.1;
+})
+blanks_taken passes old new run None at other reads one = no_run is_blank old new run reads one
+
+others_lone : (passes : ℕ → Bool) (other : (c : ℕ) → passes c ≡ true → class_of c ≡ Other) (run : List ℕ) → list_all passes run ≡ true
+    → 0 < length run → IsRunText run
+others_lone passes other [] all some = absurd (omega (arith, some))
+others_lone passes other (x ∷ xs) all some = λ is.
+    let P : ℕ → Type 0 = λ c. class_of c ≡ Other in
+    let e : White ≡ Other = subst P is (other x (and_parts (passes x) _ all).0) in cc
+
+pub others_taken : (passes : ℕ → Bool) (other : (c : ℕ) → passes c ≡ true → class_of c ≡ Other) (old new : Unread) (run : List ℕ) (answer : Option Token)
+    → ReadsRun passes old run new → IsOneToken Other run answer → MayTake passes old answer new
+others_taken passes other old new run (Some taken) reads one = inr (record {
+  run = run;
+  reads = reads;
+  some = one.0;
+  lone = others_lone passes other run reads.passes one.0;
+  is = one.1;
+})
+others_taken passes other old new run None reads one = no_run passes old new run reads one
+
 -- a run of text that was taken is moves
 pub text_answer : (has : State → Bool) (row : Machine → Option ℕ → Row) (passes : ℕ → Bool)
     (no_cr : passes 13 ≡ false) (other : (c : ℕ) → passes c ≡ true → class_of c ≡ Other) (l : LexState) (old new : Unread)
@@ -292,8 +337,4 @@ text_answer has row passes no_cr other l old new (Some taken) is blanks others c
 
 -- an empty run
 pub none_taken : (passes : ℕ → Bool) (old new : Unread) (bs : List ℕ) → true ≡ (length bs == 0) → ReadsRun passes old (chars bs) new → new ≡ old
-none_taken passes old new bs h run =
-    let empty : chars bs ≡ [] = ap (λ (xs : List ℕ). chars xs) (has_none bs h) ∙ chars-nil in
-    let text : old.text ≡ new.text = run.text ∙ ap (λ (xs : List ℕ). xs ++ new.text) empty in
-    let place : new.place ≡ old.place = run.place ∙ (ap (λ (xs : List ℕ). old.place + sum_by len_utf8 xs) empty ∙ omega arith) in
-    ap (λ (p : ℕ). record { place = p; text = new.text }) place ∙ ap (λ (t : List ℕ). record { place = old.place; text = t }) (sym text)
+none_taken passes old new bs h run = no_run passes old new (chars bs) run (ap (λ (xs : List ℕ). chars xs) (has_none bs h) ∙ chars-nil)

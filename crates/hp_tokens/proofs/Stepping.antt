@@ -197,6 +197,10 @@ pair_dropped next rows old input new new_input c rested tokens is_lf settled mac
     (sym (append-nil tokens)) tt (rw (eq-eqb (length tokens) (length tokens) refl) refl)
     (read_smaller old.machine.state new.machine.state c (unread new new_input) (unread old input) text)
 
+pub none_left : (u : List ℕ) → None ≡ first u → u ≡ []
+none_left [] h = refl
+none_left (c ∷ cs) h = cc
+
 pub nothing_unread : (rules : Rules) (l : Lexing) → first l.unread ≡ None → move rules l ≡ needs_more
 nothing_unread rules l h = ap (λ (u : List ℕ). move_on rules l u) (empty l.unread h)
   where

@@ -48,13 +48,24 @@ pub struct NewDoctype {
 }
 
 /// The token under construction. Attributes of an end tag are read and dropped.
-#[derive(Drop)]
 pub enum Building {
     Nothing,
     StartTag(NewTag),
     EndTag(OwnedText),
     Comment(OwnedText),
     Doctype(NewDoctype),
+}
+
+impl Drop for Building {
+    #[inline(always)]
+    fn drop(self) {
+        match self {
+            Building::Nothing => {}
+            Building::StartTag(_) => {}
+            Building::EndTag(_) | Building::Comment(_) => {}
+            Building::Doctype(_) => {}
+        }
+    }
 }
 
 impl Building {

@@ -263,7 +263,8 @@ impl<'p> Cursor<'p> {
         ensures run { ReadsRun (none_of whole_raw_stops) self.old result self.new }
         ensures stops { StopsRun (none_of whole_raw_stops) self.new }
     {
-        let count = raw_len(self.text.as_bytes(), self.at);
+        let rest = &self.text.as_bytes()[self.at..];
+        let count = memchr3(b'<', b'\r', b'\0', rest).unwrap_or(rest.len());
         let from = self.at;
         self.at += count;
         Text::of_page(self.text, from, self.at)
@@ -312,16 +313,4 @@ fn blanks_len(bytes: &[u8], at: usize) -> usize
         }
     }
     bytes.len() - at
-}
-
-ghost use Rattle.hp_tokens.specs.Plain.{none_of, whole_raw_stops};
-
-/// How many bytes from `at` on stand before the next `<`, CR or U+0000.
-#[inline]
-fn raw_len(bytes: &[u8], at: usize) -> usize
-    requires { at ≤ length bytes.now }
-    ensures { PassesFrom (none_of whole_raw_stops) bytes.now at result }
-{
-    let rest = &bytes[at..];
-    memchr3(b'<', b'\r', b'\0', rest).unwrap_or(rest.len())
 }

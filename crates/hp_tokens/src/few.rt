@@ -1,5 +1,5 @@
 // A few bytes, which stand in the value itself.
-ghost use Rattle.std.specs.Prelude.{◌≡◌, ℕ, List, [], ◌∷◌, ◌++◌, ◌≤◌, ◌+◌, ◌<◌, length, drop};
+ghost use Rattle.std.specs.Prelude.{◌≡◌, ℕ, List, [], ◌++◌, ◌≤◌, ◌+◌, length, drop};
 
 use std::marker::Model;
 
@@ -54,15 +54,6 @@ impl Few {
         ensures { self.new ≡ [] }
     {
         self.len = 0;
-    }
-
-    #[inline]
-    pub fn push(&mut self, byte: u8)
-        requires { length self.old < 22 }
-        ensures { self.new ≡ self.old ++ byte ∷ [] }
-    {
-        self.bytes[self.len] = byte;
-        self.len += 1;
     }
 
     #[inline]

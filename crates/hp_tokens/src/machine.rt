@@ -172,12 +172,23 @@ impl Machine {
     pub fn emit_built(&mut self, alloc: Global, tokens: &mut Tokens<'_>) -> Result<(), NoMemory>
         ensures { OnOk result (EmitsBuilt self.old tokens.old self.new tokens.new) }
     {
-        let built = built_token(alloc, &mut self.building, &mut self.last_tag)?;
+        let token = match &mut self.building {
+            Building::Nothing => return Ok(()),
+            Building::StartTag(tag) => start_token(alloc, tag, &mut self.last_tag)?,
+            Building::EndTag(name) => Token::EndTag {
+                name: Name::from_text(alloc, name.as_str())?,
+            },
+            Building::Comment(comment) => {
+                let text = mem::replace(comment, OwnedText::new()).into_text(alloc)?;
+                Token::Comment { text }
+            }
+            Building::Doctype(doctype) => {
+                let doctype = finished_doctype(alloc, doctype)?;
+                Token::Doctype { doctype }
+            }
+        };
         self.build_nothing();
-        match built {
-            None => Ok(()),
-            Some(token) => push_token(alloc, tokens, token),
-        }
+        push_token(alloc, tokens, token)
     }
 
     /// The buffer goes into the attribute's value, where the character reference stands in one; otherwise its code points
@@ -193,36 +204,10 @@ impl Machine {
     }
 }
 
-ghost use Rattle.hp_tokens.specs.Parts.{built, last_tag_after, finished_tag as spec_tag};
+ghost use Rattle.hp_tokens.specs.Parts.{finished_tag as spec_tag};
 ghost use Rattle.hp_tokens.specs.Rows.{character};
-ghost use Rattle.std.specs.Prelude.{map, option_to_list, Some};
+ghost use Rattle.std.specs.Prelude.{map, Some};
 ghost use Rattle.hp_elements.specs.declared.token.Token.TheVariants as tokens;
-
-/// The token that was built, whose texts are taken; the name of a start tag is kept as the last one.
-fn built_token<'p>(
-    alloc: Global,
-    building: &mut Building,
-    last_tag: &mut Option<OwnedText>,
-) -> Result<Option<Token<'p>>, NoMemory>
-    ensures token { IfOk result (λ token. option_to_list token ≡ built building.old) }
-    ensures last { OnOk result (last_tag.new ≡ last_tag_after building.old last_tag.old) }
-{
-    Ok(Some(match building {
-        Building::Nothing => return Ok(None),
-        Building::StartTag(tag) => start_token(alloc, tag, last_tag)?,
-        Building::EndTag(name) => Token::EndTag {
-            name: Name::from_text(alloc, name.as_str())?,
-        },
-        Building::Comment(comment) => {
-            let text = mem::replace(comment, OwnedText::new()).into_text(alloc)?;
-            Token::Comment { text }
-        }
-        Building::Doctype(doctype) => {
-            let doctype = finished_doctype(alloc, doctype)?;
-            Token::Doctype { doctype }
-        }
-    }))
-}
 
 /// The start tag that was built; its name is kept as the last one.
 fn start_token<'p>(

@@ -1,15 +1,14 @@
 // Runs of plain code points, each of them many moves at once.
-ghost use Rattle.std.specs.Prelude.{◌≡◌, ℕ, ◌≤◌, ◌==◌, false, true, [], ◌∷◌, Some, IfOk, IfSome, IfNone, IsTrue, Bool};
+ghost use Rattle.std.specs.Prelude.{◌≡◌, ℕ, ◌≤◌, ◌==◌, false, true, [], ◌∷◌, IfOk, IfSome, IfNone, IsTrue, Bool};
 ghost use Rattle.hp_elements.specs.Tokens.{class_of};
 ghost use Rattle.hp_elements.specs.declared.token.CharClass.TheVariants as classes;
-ghost use Rattle.hp_tokens.specs.Reading.{first, ReadsRun};
 ghost use Rattle.hp_tokens.specs.Moves.{Lexing, Move, Rules, move};
 ghost use Rattle.hp_tokens.specs.Advancing.{held, lexing, HasRows, MovesByRows, Steps, Turned};
 ghost use Rattle.hp_tokens.specs.States.{is_resting};
 ghost use Rattle.hp_tokens.specs.declared.state.State.{State};
 ghost use Rattle.hp_tokens.specs.declared.rows.Turn.TheVariants as turns;
 ghost use Rattle.hp_tokens.specs.Rows.{is_blank};
-ghost use Rattle.hp_tokens.specs.Plain.{EmitsPlain, PutsPlain, IsOneToken, TextTaken, MayTake, TextRan, PutRan};
+ghost use Rattle.hp_tokens.specs.Plain.{EmitsPlain, PutsPlain, IsOneToken, TextRan, PutRan};
 
 use crate::NoMemory;
 use crate::building::Part;
@@ -37,33 +36,8 @@ fn one_token<'p>(class: CharClass, run: Text<'p>) -> Option<Token<'p>>
     Some(Token::Characters { class, text: run })
 }
 
-/// Takes the line feed at the front, which is a token of its own.
-#[inline]
-fn take_line_feed<'p>(input: &mut Cursor<'p>) -> Token<'p>
-    requires { first input.old.text ≡ Some 10 }
-    ensures { TextTaken is_blank classes.White input.old result input.new }
-{
-    let _ = input.next();
-    Token::Characters {
-        class: CharClass::White,
-        text: Text::of_char('\n'),
-    }
-}
-
-/// Takes the run at the front: white space, or code points that pass. A line feed stands alone.
-#[inline]
-fn take_text<'p, R: TextRun>(input: &mut Cursor<'p>) -> Option<Token<'p>>
-    ensures { MayTake R.passes input.old result input.new }
-{
-    match input.peek() {
-        None => None,
-        Some('\n') => Some(take_line_feed(input)),
-        Some('\t' | '\x0c' | ' ') => one_token(CharClass::White, input.take_blanks()),
-        Some(_) => one_token(CharClass::Other, input.take_text::<R>()),
-    }
-}
-
-/// Takes the run of text at the front, as one token that is borrowed from the page; `None` where there is none.
+/// Takes the run of text at the front, as one token that is borrowed from the page: white space, or code points that pass. A
+/// line feed stands alone. `None` where there is no run.
 #[inline]
 pub fn text_run<'p, T: Table, R: TextRun>(
     state: &LexState,
@@ -79,7 +53,17 @@ pub fn text_run<'p, T: Table, R: TextRun>(
     if state.machine.after_cr || !state.ahead.is_empty() {
         return None;
     }
-    take_text::<R>(input)
+    match input.peek()? {
+        '\n' => {
+            let _ = input.next();
+            Some(Token::Characters {
+                class: CharClass::White,
+                text: Text::of_char('\n'),
+            })
+        }
+        '\t' | '\x0c' | ' ' => one_token(CharClass::White, input.take_blanks()),
+        _ => one_token(CharClass::Other, input.take_text::<R>()),
+    }
 }
 
 /// One step in a state of text: a run of text where there is one, otherwise by the rows.

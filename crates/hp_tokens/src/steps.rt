@@ -1,11 +1,11 @@
 // Steps by rows, and the way from one rest to the next.
-ghost use Rattle.std.specs.Prelude.{◌≡◌, ℕ, ◌≤◌, ◌^◌, ◌==◌, ◌&&◌, List, [], Option, Some, Bool, false, IfOk, IsTrue};
+ghost use Rattle.std.specs.Prelude.{◌≡◌, ℕ, ◌≤◌, ◌^◌, List, [], Option, Some, Bool, IfOk, IsTrue};
 ghost use Rattle.hp_tokens.specs.declared.state.State.{State};
 ghost use Rattle.hp_tokens.specs.declared.machine.Machine.{Machine};
 ghost use Rattle.hp_tokens.specs.declared.rows.Turn.TheVariants as turns;
 ghost use Rattle.hp_tokens.specs.Reading.{first};
 ghost use Rattle.hp_tokens.specs.Rows.{Row, Follows};
-ghost use Rattle.hp_tokens.specs.Moves.{Lexing, Move, Rules, move, end_move, read_as as spec_read_as};
+ghost use Rattle.hp_tokens.specs.Moves.{Lexing, Move, Rules, move, end_move};
 ghost use Rattle.hp_tokens.specs.Ranks.{IsFine};
 ghost use Rattle.hp_tokens.specs.Advancing.{unread, held, lexing, HasRows, MovesByRows, ReadsOne, Steps, Turned, EndSteps, EndTurned, end_of_text};
 
@@ -37,15 +37,8 @@ pub trait Table {
     ghost fine: { (m : Machine) (symbol : Option ℕ) → IsTrue (has_row m.state) → IsFine m.state symbol (row_of m symbol) };
 }
 
-/// CR is read as LF.
-#[inline]
-fn read_as(c: char) -> char
-    ensures { result ≡ spec_read_as c }
-{
-    if c == '\r' { '\n' } else { c }
-}
-
-/// One code point, by the row of the state. Answers whether something was appended.
+/// One code point, by the row of the state, where CR is read as LF; or the LF of a CR LF pair, which is dropped. Answers
+/// whether something was appended.
 #[inline]
 fn read<T: Table>(
     alloc: Global,
@@ -57,13 +50,18 @@ fn read<T: Table>(
     requires row { IsTrue (T.has_row state.old.machine.state) }
     requires held { held state.old ≤ input.old.place }
     requires next { first (unread state.old input.old) ≡ Some c }
-    requires no_line_feed { (state.old.machine.after_cr && c == 10) ≡ false }
     ensures step { IfOk result (λ emitted. (next : Lexing → Move) → MovesByRows next T.has_row T.row_of → ReadsOne next state.old input.old tokens.old state.new input.new tokens.new emitted) }
     ensures held { IfOk result (λ step. held state.new ≤ input.new.place) }
     ensures ended { IfOk result (λ step. input.old.text ≡ [] → input.new.text ≡ []) }
 {
+    if state.machine.after_cr && c == '\n' {
+        let _ = state.take(input);
+        state.machine.after_cr = false;
+        return Ok(false);
+    }
+    let symbol = if c == '\r' { '\n' } else { c };
     let before = tokens.len();
-    match T::row(alloc, &mut state.machine, Some(read_as(c)), tokens)? {
+    match T::row(alloc, &mut state.machine, Some(symbol), tokens)? {
         Reads::Consume => {
             let _ = state.take(input);
             state.machine.after_cr = c == '\r';
@@ -90,11 +88,6 @@ pub fn step_by_row<T: Table>(
     let Some(c) = state.peek(input) else {
         return Ok(Step::NeedsMore);
     };
-    if state.machine.after_cr && c == '\n' {
-        let _ = state.take(input);
-        state.machine.after_cr = false;
-        return Ok(Step::Made { emitted: false });
-    }
     let emitted = read::<T>(alloc, c, state, input, tokens)?;
     Ok(Step::Made { emitted })
 }
@@ -113,31 +106,11 @@ pub fn end_by_row<T: Table>(
     ensures held { IfOk result (λ step. held state.new ≤ input.new.place) }
     ensures ended { IfOk result (λ step. input.new.text ≡ []) }
 {
-    let Some(c) = state.peek(input) else {
-        return end_row::<T>(alloc, state, input, tokens);
-    };
-    if state.machine.after_cr && c == '\n' {
-        let _ = state.take(input);
-        state.machine.after_cr = false;
+    if let Some(c) = state.peek(input) {
+        let emitted = read::<T>(alloc, c, state, input, tokens)?;
+        let _ = emitted;
         return Ok(EndStep::Made);
     }
-    let emitted = read::<T>(alloc, c, state, input, tokens)?;
-    let _ = emitted;
-    Ok(EndStep::Made)
-}
-
-/// The row of the state on the end of input.
-fn end_row<T: Table>(
-    alloc: Global,
-    state: &mut LexState,
-    input: &Cursor<'_>,
-    tokens: &mut Tokens<'_>,
-) -> Result<EndStep, NoMemory>
-    requires row { IsTrue (T.has_row state.old.machine.state) }
-    requires none { unread state.old input.now ≡ [] }
-    ensures step { IfOk result (λ step. (rules : Rules) → HasRows rules T.has_row T.row_of → EndSteps rules state.old input.now tokens.old state.new input.now tokens.new step) }
-    ensures ahead { state.new.ahead ≡ state.old.ahead }
-{
     match T::row(alloc, &mut state.machine, None, tokens)? {
         Reads::Consume => unreachable!(),
         Reads::Again => Ok(EndStep::Made),

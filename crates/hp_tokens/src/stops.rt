@@ -3,7 +3,7 @@ ghost use Rattle.std.specs.Prelude.{◌≡◌, ◌≤◌, ◌<◌, ℕ, true, �
 ghost use Rattle.std.specs.Simd.Lanes.{mask_l};
 ghost use Rattle.hp_tokens.specs.Plain.{none_of};
 ghost use Rattle.hp_tokens.specs.Reading.{PassesFrom};
-ghost use Rattle.hp_tokens.specs.Blocks.{is_stop as spec_is_stop, EndsRun};
+ghost use Rattle.hp_tokens.specs.Blocks.{is_stop, EndsRun};
 
 use std::simd::prelude::*;
 
@@ -16,29 +16,22 @@ pub(crate) fn four_stops_len(bytes: &[u8], at: usize, a: u8, b: u8) -> usize
     requires { at ≤ length bytes.now }
     ensures { PassesFrom (none_of (0 ∷ 13 ∷ a ∷ b ∷ [])) bytes.now at result }
 {
-    first_stop(&bytes[at..], a, b)
-}
-
-/// The place of the first of these, or the end.
-#[inline(always)]
-fn first_stop(bytes: &[u8], a: u8, b: u8) -> usize
-    ensures { EndsRun (none_of (0 ∷ 13 ∷ a ∷ b ∷ [])) bytes.now result }
-{
-    let mut at = 0;
-    while bytes.len() - at >= LANES {
-        let found = stops(u8x16::from_slice(&bytes[at..]), a, b);
+    let rest = &bytes[at..];
+    let mut count = 0;
+    while rest.len() - count >= LANES {
+        let found = stops(u8x16::from_slice(&rest[count..]), a, b);
         if found != 0 {
-            return at + found.trailing_zeros() as usize;
+            return count + found.trailing_zeros() as usize;
         }
-        at += LANES;
+        count += LANES;
     }
-    last_stop(bytes, at, a, b)
+    last_stop(rest, count, a, b)
 }
 
 /// Which of the bytes are among these.
 #[inline(always)]
 fn stops(v: u8x16, a: u8, b: u8) -> u64
-    ensures { result ≡ mask_l (map (spec_is_stop a b) v) }
+    ensures { result ≡ mask_l (map (is_stop a b) v) }
 {
     (v.simd_eq(u8x16::splat(0))
         | v.simd_eq(u8x16::splat(13))
@@ -55,18 +48,11 @@ fn last_stop(bytes: &[u8], from: usize, a: u8, b: u8) -> usize
 {
     let mut at = from;
     while at < bytes.len() {
-        if is_stop(bytes[at], a, b) {
+        let byte = bytes[at];
+        if byte == 0 || byte == 13 || byte == a || byte == b {
             return at;
         }
         at += 1;
     }
     at
-}
-
-/// Whether the byte is one of these.
-#[inline(always)]
-fn is_stop(byte: u8, a: u8, b: u8) -> bool
-    ensures { result ≡ spec_is_stop a b byte }
-{
-    byte == 0 || byte == 13 || byte == a || byte == b
 }

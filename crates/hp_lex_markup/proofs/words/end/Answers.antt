@@ -1,14 +1,33 @@
-use Rattle.std.proofs.Common.{◌∙◌, sym, false}
+use Rattle.std.proofs.Common.{◌∙◌, sym, subst, false, not, nat_eq, length, None}
+use Rattle.hp_tokens.specs.declared.rows.Reads.{Reads}
+use Rattle.hp_tokens.specs.Rows.{Follows}
 use Rattle.hp_tokens.specs.Advancing.{unread}
 use Rattle.hp_tokens.proofs.Stepping.{text_of_some, end_by_rows}
 use Rattle.hp_lex_markup.specs.Rows.{has_row, row}
 use Rattle.hp_lex_markup.specs.Markup.{markup_rules}
 use Rattle.hp_lex_markup.proofs.Spelled.{word_fits}
-use Rattle.hp_lex_markup.proofs.WordSteps.{markup_rows, none_unread, no_pair_at, none_read_at_end, past_at_end, past_held}
+use Rattle.hp_lex_markup.proofs.WordSteps.{markup_rows, none_unread, no_pair_at, none_read_at_end, past_at_end, past_held, reread_end, ended_there}
 use Rattle.hp_lex_markup.proofs.words.end.Goals as goal
 
-pub end_row-requires-clause-none : goal.end_row-requires-clause-none
-end_row-requires-clause-none c = none_unread _ (sym c.peek.ensures ∙ c.in_default.is)
+pub returns-in-Again-clause-step : goal.returns-in-Again-clause-step
+returns-in-Again-clause-step c = λ rested settled.
+    let P : Reads → Type 0 = λ x. Follows (row c.args.state.now.machine None) c.args.tokens.now c.row.new.machine c.row.new.tokens x in (
+      not (nat_eq (length c.row.new.tokens) (length c.args.tokens.now)),
+      reread_end c.args.state.now c.args.input.now c.row.new.machine rested c.args.tokens.now c.row.new.tokens c.requires.here
+          (none_unread (unread c.args.state.now c.args.input.now) (sym c.peek.ensures ∙ c.in_default.is)) settled (subst P c.in-Again.is c.in_ok-row.ensures),
+    )
+
+pub returns-in-Again-clause-held : goal.returns-in-Again-clause-held
+returns-in-Again-clause-held c = c.requires.held
+
+pub returns-in-End-clause-step : goal.returns-in-End-clause-step
+returns-in-End-clause-step c = λ rested settled.
+    let P : Reads → Type 0 = λ x. Follows (row c.args.state.now.machine None) c.args.tokens.now c.row.new.machine c.row.new.tokens x in
+    ended_there c.args.state.now c.args.input.now c.row.new.machine rested c.args.tokens.now c.row.new.tokens c.requires.here
+    (none_unread (unread c.args.state.now c.args.input.now) (sym c.peek.ensures ∙ c.in_default.is)) settled (subst P c.in-End.is c.in_ok-row.ensures)
+
+pub returns-in-End-clause-held : goal.returns-in-End-clause-held
+returns-in-End-clause-held c = c.requires.held
 
 pub returns-then-is_pair_next-clause-step : goal.returns-then-is_pair_next-clause-step
 returns-then-is_pair_next-clause-step c = λ rested settled.
@@ -38,12 +57,6 @@ returns-clause-step c = λ rested settled.
 
 pub returns-clause-held : goal.returns-clause-held
 returns-clause-held c = past_held c.in-Some-first_word.word c.args.state.now c.args.input.now c.read_word.new.state 0 c.requires.held c.in_ok-read_word.ensures
-
-pub returns-in_default-clause-step : goal.returns-in_default-clause-step
-returns-in_default-clause-step c = c.end_row.ensures.step
-
-pub returns-in_default-clause-held : goal.returns-in_default-clause-held
-returns-in_default-clause-held c = c.end_row.ensures.held
 
 pub returns-then-is_pair_next-clause-held : goal.returns-then-is_pair_next-clause-held
 returns-then-is_pair_next-clause-held c = c.drop_line_feed.ensures.held

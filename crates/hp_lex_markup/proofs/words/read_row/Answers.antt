@@ -1,4 +1,4 @@
-use Rattle.std.proofs.Common.{◌≡◌, ℕ, ◌∙◌, ap, subst, not, nat_eq, length, Some, Option, refl}
+use Rattle.std.proofs.Common.{◌≡◌, ℕ, ◌∙◌, ap, subst, not, nat_eq, length, Some, Option, refl, rules}
 use Rattle.std.specs.Prelude.{◌==◌, IfSome}
 use Rattle.hp_tokens.specs.declared.machine.Machine.{Machine}
 use Rattle.hp_tokens.specs.declared.rows.Reads.{Reads}
@@ -10,18 +10,21 @@ use Rattle.hp_tokens.proofs.Stepping.{text_of_some}
 use Rattle.hp_lex_markup.specs.Rows.{row}
 use Rattle.hp_lex_markup.proofs.WordSteps.{consumed, reread, word_here}
 use Rattle.hp_lex_markup.proofs.words.read_row.Goals as goal
-use Rattle.hp_lex_markup.proofs.words.read_row.Goals.{in-Consume, in-Again, After-len}
+use Rattle.hp_lex_markup.proofs.words.read_row.Goals.{in-Consume, in-Again, After-len, then-c-eq13, else-c-eq13}
 
 flag : (c : After-len) → not (nat_eq c.len.result c.len-before.result) ≡ not (nat_eq (length c.row.new.tokens) (length c.args.tokens.now))
 flag c = ap (λ (x : ℕ). not (nat_eq x c.len-before.result)) c.len.ensures
     ∙ ap (λ (x : ℕ). not (nat_eq (length c.row.new.tokens) x)) c.len-before.ensures
+
+read_symbol : (c : After-len) → c.if-c-eq13.symbol ≡ read_as c.args.c
+read_symbol c = elim c.if-c-eq13.branch [ then-c-eq13 w ↦ search rules | else-c-eq13 w ↦ search rules ]
 
 follows : (c : After-len) (reads : Reads) → c.in_ok-row.field-0 ≡ reads
     → Follows (row c.args.state.now.machine (Some (read_as c.args.c))) c.args.tokens.now c.row.new.machine c.row.new.tokens reads
 follows c reads is =
     let P : ℕ → Type 0 = λ x. Follows (row c.args.state.now.machine (Some x)) c.args.tokens.now c.row.new.machine c.row.new.tokens c.in_ok-row.field-0 in
     let Q : Reads → Type 0 = λ x. Follows (row c.args.state.now.machine (Some (read_as c.args.c))) c.args.tokens.now c.row.new.machine c.row.new.tokens x in
-    subst Q is (subst P c.read_as.ensures c.in_ok-row.ensures)
+    subst Q is (subst P (read_symbol c) c.in_ok-row.ensures)
 
 pub returns-clause-step : goal.returns-clause-step
 returns-clause-step c = λ next rowed rested settled. elim c.match-branch-2.branch [

@@ -5,7 +5,7 @@ use Rattle.hp_tokens.specs.declared.state.State.TheVariants.{Rcdata}
 use Rattle.hp_tokens.specs.Plain.{none_of, data_stops, EmitsPlain}
 use Rattle.hp_lex_raw.specs.Rows.{row}
 use Rattle.hp_lex_raw.specs.Raw.{is_here, raw_rules}
-use Rattle.hp_lex_raw.proofs.TextRuns.{text_rows, rcdata_blanks, rcdata_others, rawtext_blanks, rawtext_others, script_blanks, script_others}
+use Rattle.hp_lex_raw.proofs.TextRuns.{text_rows, rcdata_blanks, rcdata_others, raw_blanks, raw_others, raw_here}
 use Rattle.hp_lex_raw.proofs.raw.next_text.Goals as goal
 
 rcdata_run : (passes : ℕ → Bool) → passes ≡ none_of data_stops → (s : State) → s ≡ Rcdata → EmitsPlain row passes s
@@ -20,16 +20,10 @@ pub next_text-requires-clause-others : goal.next_text-requires-clause-others
 next_text-requires-clause-others c = rcdata_run _ refl c.args.state.now.machine.state c.in-Rcdata.is
 
 pub next_text-requires-in-Rawtext-clause-blanks : goal.next_text-requires-in-Rawtext-clause-blanks
-next_text-requires-in-Rawtext-clause-blanks c = rawtext_blanks c.args.state.now.machine.state c.in-Rawtext.is
+next_text-requires-in-Rawtext-clause-blanks c = raw_blanks c.args.state.now.machine.state c.in-Rawtext.is
 
 pub next_text-requires-in-Rawtext-clause-others : goal.next_text-requires-in-Rawtext-clause-others
-next_text-requires-in-Rawtext-clause-others c = rawtext_others c.args.state.now.machine.state c.in-Rawtext.is
-
-pub next_text-requires-in-ScriptData-clause-blanks : goal.next_text-requires-in-ScriptData-clause-blanks
-next_text-requires-in-ScriptData-clause-blanks c = script_blanks c.args.state.now.machine.state c.in-ScriptData.is
-
-pub next_text-requires-in-ScriptData-clause-others : goal.next_text-requires-in-ScriptData-clause-others
-next_text-requires-in-ScriptData-clause-others c = script_others c.args.state.now.machine.state c.in-ScriptData.is
+next_text-requires-in-Rawtext-clause-others c = raw_others c.args.state.now.machine.state c.in-Rawtext.is
 
 pub returns-in-Rcdata-clause-turn : goal.returns-in-Rcdata-clause-turn
 returns-in-Rcdata-clause-turn c = IfSome_then c.next_text.result c.next_text.ensures.turn (λ token turned. turned raw_rules is_here text_rows)
@@ -41,10 +35,5 @@ pub returns-in-Rawtext-clause-turn : goal.returns-in-Rawtext-clause-turn
 returns-in-Rawtext-clause-turn c = IfSome_then c.next_text-in-Rawtext.result c.next_text-in-Rawtext.ensures.turn (λ token turned. turned raw_rules is_here text_rows)
 
 pub returns-in-Rawtext-clause-here : goal.returns-in-Rawtext-clause-here
-returns-in-Rawtext-clause-here c = IfSome_then c.next_text-in-Rawtext.result c.next_text-in-Rawtext.ensures.turn (λ token turned. ap is_here c.in-Rawtext.is)
-
-pub returns-in-ScriptData-clause-turn : goal.returns-in-ScriptData-clause-turn
-returns-in-ScriptData-clause-turn c = IfSome_then c.next_text-in-ScriptData.result c.next_text-in-ScriptData.ensures.turn (λ token turned. turned raw_rules is_here text_rows)
-
-pub returns-in-ScriptData-clause-here : goal.returns-in-ScriptData-clause-here
-returns-in-ScriptData-clause-here c = IfSome_then c.next_text-in-ScriptData.result c.next_text-in-ScriptData.ensures.turn (λ token turned. ap is_here c.in-ScriptData.is)
+returns-in-Rawtext-clause-here c =
+    IfSome_then c.next_text-in-Rawtext.result c.next_text-in-Rawtext.ensures.turn (λ token turned. raw_here c.args.state.now.machine.state c.in-Rawtext.is)

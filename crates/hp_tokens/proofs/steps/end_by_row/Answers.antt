@@ -1,25 +1,28 @@
-use Rattle.std.proofs.Common.{ℕ, ◌∙◌, ap, subst, Option, sym, eq-eqb, false}
-use Rattle.std.specs.Prelude.{IfSome}
-use Rattle.std.proofs.lemmas.Bool.{and_from}
-use Rattle.hp_tokens.specs.declared.machine.Machine.{Machine}
+use Rattle.std.proofs.Common.{not, nat_eq, length, None, refl, subst}
+use Rattle.hp_tokens.specs.declared.rows.Reads.{Reads}
+use Rattle.hp_tokens.specs.Rows.{Follows}
 use Rattle.hp_tokens.specs.Moves.{end_move}
-use Rattle.hp_tokens.specs.Advancing.{Takes}
-use Rattle.hp_tokens.proofs.Stepping.{pair_dropped, end_by_rows}
+use Rattle.hp_tokens.specs.Advancing.{unread}
+use Rattle.hp_tokens.proofs.Stepping.{none_left, end_by_rows, reread_end, ended_there}
 use Rattle.hp_tokens.proofs.steps.end_by_row.Goals as goal
 
-pub returns-then-c-eq10-clause-step : goal.returns-then-c-eq10-clause-step
-returns-then-c-eq10-clause-step g c = λ rules rows rested settled.
-    let P : Option ℕ → Type 0 = λ o. IfSome o (Takes c.args.state.now c.args.input.now c.take.new.self c.take.new.input) in
-    let some = c.take.ensures.value ∙ sym c.in-Some.ensures in
-    let takes = subst P some c.take.ensures.takes in (
-      false,
-      pair_dropped (end_move rules) (end_by_rows rules g.T.Table.has_row g.T.Table.row_of rows) c.args.state.now c.args.input.now
-          (record c.take.new.self { machine = record c.take.new.self.machine { after_cr = false } }) c.take.new.input
-          c.in-Some.c rested c.args.tokens.now
-          (and_from _ _ c.if-state.true (eq-eqb c.in-Some.c 10 c.if-c-eq10.true)) settled
-          (ap (λ (x : Machine). record x { after_cr = false }) takes.machine) takes.text takes.place,
+pub returns-in-Some-clause-step : goal.returns-in-Some-clause-step
+returns-in-Some-clause-step g c = λ rules rows rested settled.
+    (c.in_ok-emitted.emitted, c.in_ok-emitted.ensures.step (end_move rules) (end_by_rows rules g.T.Table.has_row g.T.Table.row_of rows) rested settled)
+
+pub returns-in-Again-clause-step : goal.returns-in-Again-clause-step
+returns-in-Again-clause-step g c = λ rules rows rested settled.
+    let P : Reads → Type 0 = λ x. Follows (g.T.Table.row_of c.args.state.now.machine None) c.args.tokens.now c.row.new.machine c.row.new.tokens x in (
+      not (nat_eq (length c.row.new.tokens) (length c.args.tokens.now)),
+      reread_end g.T.Table.has_row g.T.Table.row_of rules rows c.args.state.now c.args.input.now c.row.new.machine rested _ _ _
+          c.requires.row (g.met.T.Table.fine c.args.state.now.machine None c.requires.row) (none_left (unread c.args.state.now c.args.input.now) c.in_default.ensures) settled refl
+          (subst P c.in-Again.is c.in_ok-row.ensures),
     )
 
-pub returns-clause-step : goal.returns-clause-step
-returns-clause-step g c = λ rules rows rested settled.
-    (c.in_ok-emitted.emitted, c.in_ok-emitted.ensures.step (end_move rules) (end_by_rows rules g.T.Table.has_row g.T.Table.row_of rows) rested settled)
+pub returns-in-End-clause-step : goal.returns-in-End-clause-step
+returns-in-End-clause-step g c = λ rules rows rested settled.
+    let P : Reads → Type 0 = λ x. Follows (g.T.Table.row_of c.args.state.now.machine None) c.args.tokens.now c.row.new.machine c.row.new.tokens x in
+    ended_there g.T.Table.has_row g.T.Table.row_of rules rows c.args.state.now c.args.input.now c.row.new.machine rested _ _
+    (not (nat_eq (length c.row.new.tokens) (length c.args.tokens.now)))
+    c.requires.row (g.met.T.Table.fine c.args.state.now.machine None c.requires.row) (none_left (unread c.args.state.now c.args.input.now) c.in_default.ensures) settled refl
+    (subst P c.in-End.is c.in_ok-row.ensures)
