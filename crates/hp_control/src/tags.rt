@@ -30,14 +30,24 @@ fn same_attribute(attribute: &Attribute, other: &Attribute) -> bool
 fn is_among(attribute: &Attribute, those: &Chain<Attribute>) -> bool
     ensures { result ≡ list_any (λ other. same_attribute attribute.now other) those.now }
 {
-    those.iter().any(|other| same_attribute(attribute, other))
+    for other in those.iter() {
+        if same_attribute(attribute, other) {
+            return true;
+        }
+    }
+    false
 }
 
 /// Whether each of the first attributes is among the second.
 fn are_among(these: &Chain<Attribute>, those: &Chain<Attribute>) -> bool
     ensures { result ≡ among these.now those.now }
 {
-    these.iter().all(|attribute| is_among(attribute, those))
+    for attribute in these.iter() {
+        if !is_among(attribute, those) {
+            return false;
+        }
+    }
+    true
 }
 
 pub(crate) fn same_namespace(namespace: Namespace, other: Namespace) -> bool
