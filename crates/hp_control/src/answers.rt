@@ -1,13 +1,11 @@
 //! The true answer to each question, read in a full state.
 ghost use Rattle.std.specs.Prelude.{◌≡◌, ◌+◌, ◌<◌, ◌^◌, IfOk, IfSome, drop, slice_get};
-ghost use Rattle.hp_control.specs.Truth.{answer_of, yes_or_no, depth_answer, pointer_answer, element_answer, entry_answer, rest_of, fact_answer, listed_answer};
+ghost use Rattle.hp_control.specs.Truth.{answer_of, yes_or_no, depth_answer, pointer_answer, element_answer, entry_answer, rest_of, fact_answer};
 
 use crate::control::Control;
-use crate::element::FormattingEntry;
 use crate::open_elements::OpenElements;
 use crate::question::{Answer, FactKind, Question};
 use crate::reset::reset_from;
-use crate::stack::Stack;
 use crate::truths::{is_quiet, kind_of, last_tag, second_is_body, top_has_entry};
 use crate::walks::{cleared_from, equals_from, has_template, reach_from, run_from, scope_from};
 use hp_elements::{Mode, Name, NoMemory};
@@ -58,22 +56,6 @@ fn element_answer(alloc: Global, stack: &OpenElements, depth: u64) -> Result<Ans
         name: element.name.copy(alloc)?,
         point: element.point,
     })
-}
-
-/// How the last entry of the name stands in the list from a place on.
-fn listed_answer(
-    stack: &OpenElements,
-    depth: usize,
-    list: &Stack<FormattingEntry>,
-    from: usize,
-    name: &Name,
-) -> Answer
-    ensures { result ≡ listed_answer name.now (drop depth stack.now) (drop from list.now) }
-{
-    Answer::Entry {
-        kind: kind_of(stack, depth, list, from, name),
-        top: top_has_entry(stack, depth, list, from),
-    }
 }
 
 /// What is told at a chunk's start.
@@ -157,7 +139,11 @@ pub fn answer(alloc: Global, control: &Control, question: &Question) -> Result<A
         Question::Listed { depth, cuts, name } => {
             let from = cleared_from(&control.formatting, *cuts);
             let (stack, list) = (&control.stack, &control.formatting);
-            Ok(listed_answer(stack, *depth as usize, list, from, name))
+            let depth = *depth as usize;
+            Ok(Answer::Entry {
+                kind: kind_of(stack, depth, list, from, name),
+                top: top_has_entry(stack, depth, list, from),
+            })
         }
         Question::Same { cuts, tag } => {
             let from = cleared_from(&control.formatting, *cuts);

@@ -2,7 +2,6 @@
 use hp_elements::{Name, Namespace, Point, Tag};
 
 /// An element of the stack (13.2.4.2). Its id is its number in the order in which elements are made; the document is 0.
-#[derive(Drop)]
 pub struct OpenElement {
     pub id: u64,
     pub namespace: Namespace,
@@ -10,9 +9,29 @@ pub struct OpenElement {
     pub point: Point,
 }
 
+impl Drop for OpenElement {
+    #[inline(always)]
+    fn drop(self) {
+        let OpenElement {
+            id: _,
+            namespace: _,
+            name: _,
+            point: _,
+        } = self;
+    }
+}
+
 /// An entry of the list of active formatting elements (13.2.4.3): a marker, or an element with the tag that it was made for.
-#[derive(Drop)]
 pub enum FormattingEntry {
     Marker,
     Element { id: u64, tag: Tag },
+}
+
+impl Drop for FormattingEntry {
+    #[inline(always)]
+    fn drop(self) {
+        match self {
+            FormattingEntry::Marker | FormattingEntry::Element { id: _, tag: _ } => {}
+        }
+    }
 }

@@ -11,7 +11,7 @@ use std::alloc::Global;
 use std::marker::Model;
 
 /// Where a walk down a stack ends: at a goal, at a stop, or below the last element.
-#[derive(Clone, Copy, Drop)]
+#[derive(Clone, Copy)]
 pub enum WalkEnd {
     Goal,
     Stop,
@@ -200,7 +200,6 @@ impl OpenElements {
 
     /// Takes the top `count` elements off; they come with the topmost first. At an `Err`, which comes only for want of memory,
     /// the stack is spent.
-    #[tactic(auto, using(crate::proofs::Setting::moved, crate::proofs::Setting::none_left, crate::proofs::Setting::front_of, crate::proofs::Setting::back_of))]
     pub fn lift(&mut self, alloc: Global, count: usize) -> Result<List<OpenElement>, NoMemory>
         requires { count ≤ length self.old }
         ensures top { IfOk result (λ top. top ≡ take count self.old) }
@@ -217,7 +216,6 @@ impl OpenElements {
     }
 
     /// Puts elements on top, the first of them topmost. At an `Err`, which comes only for want of memory, the stack is spent.
-    #[tactic(auto, using(crate::proofs::Setting::moved_back))]
     pub fn pile(&mut self, alloc: Global, items: List<OpenElement>) -> Result<(), NoMemory>
         ensures { IfOk result (λ _. self.new ≡ items ++ self.old) }
     {

@@ -1,6 +1,6 @@
 //! The mode to which the insertion mode is reset (13.2.4.1).
 ghost use Rattle.std.specs.Prelude.{◌≡◌, ◌+◌, ◌<◌, length, drop};
-ghost use Rattle.hp_control.specs.Walks.{mode_at, mode_of, is_last, reset_mode, last_template_mode, table_comes};
+ghost use Rattle.hp_control.specs.Walks.{mode_at, mode_of, is_last, reset_mode, table_comes};
 
 use crate::element::OpenElement;
 use crate::kinds::{is_named, is_within};
@@ -8,17 +8,6 @@ use crate::open_elements::OpenElements;
 use crate::stack::Stack;
 use crate::walks::reach_from;
 use hp_elements::{Kinds, Known, Mode, Name, SetName};
-
-/// The last template mode; in body where there is none.
-fn last_template_mode(templates: &Stack<Mode>) -> Mode
-    ensures { result ≡ last_template_mode templates.now }
-{
-    if templates.is_empty() {
-        Mode::InBody
-    } else {
-        *templates.at(0)
-    }
-}
 
 /// Whether a table comes from this depth down before a template.
 fn table_comes(stack: &OpenElements, depth: usize) -> bool
@@ -59,7 +48,11 @@ fn mode_at(
         return Some(Mode::InCell);
     }
     if is_named(Known::TEMPLATE, element) {
-        return Some(last_template_mode(templates));
+        return Some(if templates.is_empty() {
+            Mode::InBody
+        } else {
+            *templates.at(0)
+        });
     }
     if is_named(Known::HEAD, element) && !is_last {
         return Some(Mode::InHead);
@@ -75,7 +68,7 @@ fn mode_at(
 }
 
 /// The mode of an element that decides one wherever it stands.
-fn mode_of(element: &OpenElement) -> Option<Mode>
+pub fn mode_of(element: &OpenElement) -> Option<Mode>
     ensures { result ≡ mode_of element.now }
 {
     if is_named(Known::TR, element) {

@@ -34,7 +34,6 @@ impl<T: Drop> Stack<T> {
 
     /// Takes the top `count` items off; they come with the topmost first. At an `Err`, which comes only for want of memory,
     /// the stack is spent.
-    #[tactic(auto, using(crate::proofs::Setting::moved, crate::proofs::Setting::none_left, crate::proofs::Setting::front_of, crate::proofs::Setting::back_of))]
     pub fn lift(&mut self, alloc: Global, count: usize) -> Result<List<T>, NoMemory>
         requires { count ≤ length self.old }
         ensures top { IfOk result (λ top. top ≡ take count self.old) }
@@ -51,7 +50,6 @@ impl<T: Drop> Stack<T> {
     }
 
     /// Puts items on top, the first of them topmost. At an `Err`, which comes only for want of memory, the stack is spent.
-    #[tactic(auto, using(crate::proofs::Setting::moved_back))]
     pub fn pile(&mut self, alloc: Global, items: List<T>) -> Result<(), NoMemory>
         ensures { IfOk result (λ _. self.new ≡ items ++ self.old) }
     {
@@ -64,7 +62,6 @@ impl<T: Drop> Stack<T> {
 
     /// Puts items, the first of them topmost, in the place of `count` items at a depth. At an `Err`, which comes only for want
     /// of memory, the stack is spent.
-    #[tactic(auto, using(crate::proofs::Setting::room_left))]
     pub fn splice(
         &mut self,
         alloc: Global,

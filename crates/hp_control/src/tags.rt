@@ -4,7 +4,7 @@ ghost use Rattle.std.specs.List.{list_any};
 ghost use Rattle.hp_control.specs.Walks.{same_space, same_attribute, among, same_tag};
 ghost use Rattle.hp_elements.specs.Sets.{same_namespace};
 
-use crate::spelled::{same_name, same_text};
+use crate::spelled::same_name;
 use hp_elements::{Attribute, AttributeSpace, Chain, Namespace, Tag};
 
 fn same_space(space: AttributeSpace, other: AttributeSpace) -> bool
@@ -24,20 +24,30 @@ fn same_attribute(attribute: &Attribute, other: &Attribute) -> bool
 {
     same_space(attribute.space, other.space)
         && same_name(&attribute.name, &other.name)
-        && same_text(&attribute.value, &other.value)
+        && attribute.value.same(&other.value)
 }
 
 fn is_among(attribute: &Attribute, those: &Chain<Attribute>) -> bool
     ensures { result ≡ list_any (λ other. same_attribute attribute.now other) those.now }
 {
-    those.iter().any(|other| same_attribute(attribute, other))
+    for other in those.iter() {
+        if same_attribute(attribute, other) {
+            return true;
+        }
+    }
+    false
 }
 
 /// Whether each of the first attributes is among the second.
 fn are_among(these: &Chain<Attribute>, those: &Chain<Attribute>) -> bool
     ensures { result ≡ among these.now those.now }
 {
-    these.iter().all(|attribute| is_among(attribute, those))
+    for attribute in these.iter() {
+        if !is_among(attribute, those) {
+            return false;
+        }
+    }
+    true
 }
 
 pub(crate) fn same_namespace(namespace: Namespace, other: Namespace) -> bool

@@ -172,7 +172,7 @@ pub(crate) fn is_quiet(
 }
 
 /// Whether the second element is an HTML `body` that stands at the depth or below.
-pub(crate) fn second_is_body(stack: &OpenElements, depth: usize) -> bool
+pub fn second_is_body(stack: &OpenElements, depth: usize) -> bool
     ensures { result ≡ second_is_body (drop depth stack.now) }
 {
     let count = stack.len();

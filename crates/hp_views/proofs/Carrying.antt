@@ -1,7 +1,7 @@
 -- What was found out, and then a call on the view as it is; and one call after the other.
 use Rattle.std.specs.Prelude.{◌≡◌, Result, Ok, Err}
 use Rattle.std.specs.Result.{IsErrAnd}
-use Rattle.std.proofs.Common.{subst, sym}
+use Rattle.std.proofs.Common.{subst, sym, ◌∙◌}
 use Rattle.hp_control.specs.declared.change.Refusal.{Refusal}
 use Rattle.hp_control.specs.declared.change.Refusal.TheVariants.{Crossed, NoMemory}
 use Rattle.hp_control.specs.Faithful.{Split}
@@ -18,6 +18,26 @@ carries_then (Err (Crossed crossing)) old mid new plan next x f k =
     let P : Split → Type 0 = λ v. Runs mid.heard new.heard (next v x) (Err crossing) in
     runs_then (next old.split) f.runs (subst P f.same k)
 carries_then (Err NoMemory) old mid new plan next x f k = tt
+
+-- one question, and then a call on the view as it was changed meanwhile
+pub carries_asked : {X : Type 0} (result : Result (Unit {0}) Refusal) (old mid new : Sight) (asked : Split → Plan X) (next : Split → X → Plan Split) (p : Split → Plan Split) (x : X)
+    → Runs old.heard mid.heard (asked old.split) (Ok x) → p mid.split ≡ next old.split x → Carries result mid new p → Carries result old new (λ v. followed_by (asked v) (next v))
+carries_asked (Ok u) old mid new asked next p x run e k =
+    let P : Plan Split → Type 0 = λ q. Runs mid.heard new.heard q (Ok new.split) in
+    runs_then (next old.split) run (subst P e k)
+carries_asked (Err (Crossed crossing)) old mid new asked next p x run e k =
+    let P : Plan Split → Type 0 = λ q. Runs mid.heard new.heard q (Err crossing) in
+    runs_then (next old.split) run (subst P e k)
+carries_asked (Err NoMemory) old mid new asked next p x run e k = tt
+
+-- one thing found out after the other
+pub answers_then : {X Y : Type 0} (result : Result Y Refusal) (old mid new : Sight) (plan : Split → Plan X) (next : Split → X → Plan Y) (x : X)
+    → Finds old mid plan x → Answers result mid new (λ v. next v x) → Answers result old new (λ v. followed_by (plan v) (next v))
+answers_then (Ok y) old mid new plan next x f k =
+    let P : Split → Type 0 = λ v. Runs mid.heard new.heard (next v x) (Ok y) in
+    record { runs = runs_then (next old.split) f.runs (subst P f.same k.runs); same = k.same ∙ f.same }
+answers_then (Err (Crossed crossing)) old mid new plan next x f k = k
+answers_then (Err NoMemory) old mid new plan next x f k = tt
 
 -- one call, and then another
 pub carries_next : (result : Result (Unit {0}) Refusal) (old mid new : Sight) (p q : Split → Plan Split)

@@ -1,11 +1,10 @@
 -- The first and the second element of a stack by their places.
-use Rattle.std.specs.Prelude.{false, suc, ◌-◌, ◌<◌, ◌≤◌, ◌≡◌, List, [], ◌∷◌, length, slice_index_or, refl}
+use Rattle.std.specs.Prelude.{suc, ◌-◌, ◌<◌, ◌≤◌, ◌≡◌, List, [], ◌∷◌, length, slice_index_or, refl}
 use Rattle.std.proofs.Common.{arith, ap, ◌∙◌}
 use Rattle.hp_control.specs.declared.element.OpenElement.{OpenElement}
 use Rattle.hp_elements.specs.KnownNames.{Body}
 use Rattle.hp_control.specs.Acts.{first_id, second_id}
 use Rattle.hp_control.specs.States.{is_named}
-use Rattle.hp_control.specs.Walks.{second_is_body}
 use Rattle.hp_views.specs.SecondPlans.{last_is_body}
 
 pub first_at : (es : List OpenElement) (d : OpenElement) → 1 ≤ length es → (slice_index_or es (length es - 1) d).id ≡ first_id es
@@ -38,16 +37,3 @@ last_body_at (e ∷ []) d h = refl
 last_body_at (e ∷ f ∷ es) d h =
     let n : suc (suc (length es)) - 1 ≡ suc (suc (length es) - 1) = omega arith in
     ap (λ k. is_named Body (slice_index_or (e ∷ f ∷ es) k d)) n ∙ last_body_at (f ∷ es) d (omega arith)
-
-pub second_body_at : (es : List OpenElement) (d : OpenElement) → 2 ≤ length es → is_named Body (slice_index_or es (length es - 2) d) ≡ second_is_body es
-second_body_at [] d h = absurd (omega (arith, h))
-second_body_at (e ∷ []) d h = absurd (omega (arith, h))
-second_body_at (e ∷ f ∷ []) d h = refl
-second_body_at (e ∷ f ∷ g ∷ es) d h =
-    let n : suc (suc (suc (length es))) - 2 ≡ suc (suc (suc (length es)) - 2) = omega arith in
-    ap (λ k. is_named Body (slice_index_or (e ∷ f ∷ g ∷ es) k d)) n ∙ second_body_at (f ∷ g ∷ es) d (omega arith)
-
-pub no_second_body : (es : List OpenElement) → length es < 2 → false ≡ second_is_body es
-no_second_body [] h = refl
-no_second_body (e ∷ []) h = refl
-no_second_body (e ∷ f ∷ es) h = absurd (omega (arith, h))

@@ -1,13 +1,14 @@
 -- The walk that resets the insertion mode, one own element further.
 use Rattle.std.specs.Prelude.{ℕ, zero, suc, ◌+◌, ◌<◌, ◌≡◌, List, [], ◌∷◌, length, drop, Result, Ok, Err}
 use Rattle.std.proofs.Common.{arith, ap, sym, subst, ◌∙◌}
+use Rattle.hp_elements.specs.declared.token.Mode.{Mode}
 use Rattle.hp_control.specs.declared.change.Refusal.{Refusal}
 use Rattle.hp_control.specs.declared.change.Refusal.TheVariants.{Crossed, NoMemory}
 use Rattle.hp_control.specs.declared.element.OpenElement.{OpenElement}
 use Rattle.hp_control.specs.Faithful.{Split}
-use Rattle.hp_control.specs.Plan.{Plan, Runs, Heard}
-use Rattle.hp_views.specs.declared.reset.Decides.TheVariants.{Nothing, Select}
-use Rattle.hp_views.specs.ResetPlans.{decides_at, reset_by, reset_on, select_plan}
+use Rattle.hp_control.specs.Plan.{Plan, Runs, Heard, gives}
+use Rattle.hp_views.specs.declared.reset.Decides.TheVariants.{Nothing, Select, To}
+use Rattle.hp_views.specs.ResetPlans.{decides_at, reset_by, reset_on, select_plan, to_mode}
 use Rattle.hp_views.specs.View.{Sight, Carries, sight, split_of}
 use Rattle.hp_views.specs.declared.view.View.{View}
 
@@ -24,6 +25,11 @@ reset_selects v zero (x ∷ xs) h e = sym (ap (λ d. reset_by v xs d (reset_on v
 reset_selects v (suc k) (x ∷ xs) h e =
     let n : suc k + 1 ≡ suc (k + 1) = omega arith in
     ap (λ j. select_plan v (drop j (x ∷ xs))) n ∙ reset_selects v k xs (omega (arith, h)) e
+
+pub reset_goes : (v : Split) (k : ℕ) (xs : List OpenElement) (m : Mode) → k < length xs → decides_at v (drop k xs) ≡ To m → gives (to_mode v m) ≡ reset_on v (drop k xs)
+reset_goes v k [] m h e = absurd (omega (arith, h))
+reset_goes v zero (x ∷ xs) m h e = sym (ap (λ d. reset_by v xs d (reset_on v xs)) e)
+reset_goes v (suc k) (x ∷ xs) m h e = reset_goes v k xs m (omega (arith, h)) e
 
 -- another plan that is the same on this view
 pub carries_as : (result : Result (Unit {0}) Refusal) (old new : Sight) (p q : Split → Plan Split) → p old.split ≡ q old.split → Carries result old new p → Carries result old new q

@@ -233,15 +233,8 @@ pub fn older_last_tag<B: Below>(below: &mut B, alloc: Global) -> Result<Name, No
     };
     match below.ask(alloc, question)? {
         Answer::LastTag(name) => Ok(name),
-        _ => no_name(alloc),
+        _ => Ok(Name::from_text(alloc, "")?),
     }
-}
-
-fn no_name(alloc: Global) -> Result<Name, NoMemory>
-    ensures { IfOk result (λ name. name ≡ []) }
-{
-    let name = Name::from_text(alloc, "")?;
-    Ok(name)
 }
 
 /// Whether the second element is an HTML `body` and stands at this depth or below.

@@ -3,7 +3,7 @@ ghost use Rattle.std.specs.Prelude.{◌≡◌};
 ghost use Rattle.std.specs.List.{list_any};
 ghost use Rattle.std.specs.Str.{bytes_eq, chars};
 ghost use Rattle.hp_elements.specs.Names.{lowered, text_of};
-ghost use Rattle.hp_control.specs.Acts.{point_in, mathml_point as spec_mathml_point, encodes_html as spec_encodes_html};
+ghost use Rattle.hp_control.specs.Acts.{point_in, encodes_html as spec_encodes_html};
 ghost use Rattle.hp_views.specs.Encodings.{encodes_as};
 
 use hp_elements::{Attribute, Chain, Known, Name, Namespace, Point, SetName, Tag, Text};
@@ -14,7 +14,15 @@ pub fn point_of(tag: &Tag) -> Point
 {
     match tag.namespace {
         Namespace::Html => Point::No,
-        Namespace::MathMl => mathml_point(tag),
+        Namespace::MathMl => {
+            if SetName::MathMlTextPoints.has(Namespace::MathMl, &tag.name) {
+                Point::MathText
+            } else if is_called(&tag.name, Known::ANNOTATION_XML) && encodes_html(&tag.attributes) {
+                Point::Html
+            } else {
+                Point::No
+            }
+        }
         Namespace::Svg => {
             if SetName::SvgHtmlPoints.has(Namespace::Svg, &tag.name) {
                 Point::Html
@@ -22,19 +30,6 @@ pub fn point_of(tag: &Tag) -> Point
                 Point::No
             }
         }
-    }
-}
-
-fn mathml_point(tag: &Tag) -> Point
-    ensures { result ≡ spec_mathml_point tag.now }
-{
-    if SetName::MathMlTextPoints.has(Namespace::MathMl, &tag.name) {
-        return Point::MathText;
-    }
-    if is_called(&tag.name, Known::ANNOTATION_XML) && encodes_html(&tag.attributes) {
-        Point::Html
-    } else {
-        Point::No
     }
 }
 
@@ -48,9 +43,12 @@ fn encodes_html(attributes: &Chain<Attribute>) -> bool
 fn any_encodes(attributes: &Chain<Attribute>, html: &str, xhtml: &str) -> bool
     ensures { result ≡ list_any (encodes_as (chars html.now) (chars xhtml.now)) attributes.now }
 {
-    attributes
-        .iter()
-        .any(|attribute| encodes(attribute, html, xhtml))
+    for attribute in attributes.iter() {
+        if encodes(attribute, html, xhtml) {
+            return true;
+        }
+    }
+    false
 }
 
 /// Whether the attribute is an `encoding` of one of these values.

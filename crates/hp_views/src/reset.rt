@@ -1,17 +1,16 @@
 //! Resetting the insertion mode (13.2.4.1).
 ghost use Rattle.std.specs.Prelude.{◌≡◌, ◌<◌, ◌≤◌, ◌+◌, drop, length, slice_index_or, ℕ};
 ghost use Rattle.hp_control.specs.declared.element.OpenElement.{OpenElement};
-ghost use Rattle.hp_control.specs.Walks.{mode_of as spec_mode_of};
 ghost use Rattle.hp_views.specs.Steps.{reset_step};
-ghost use Rattle.hp_views.specs.View.{sight, split_of, Carries, Answers, Meets};
+ghost use Rattle.hp_views.specs.View.{sight, split_of, Answers, Meets};
 ghost use Rattle.hp_views.specs.ResetPlans.{table_plan};
 
 use crate::asking::older_reset;
 use crate::place::{a_table, a_template};
 use crate::view::View;
 use crate::walks::{Walk, element_walk_from};
-use hp_control::{Below, OpenElement, Refusal, Stack, is_named, is_within};
-use hp_elements::{Kinds, Known, Mode, SetName};
+use hp_control::{Below, OpenElement, Refusal, Stack, is_named, mode_of};
+use hp_elements::{Known, Mode};
 use std::alloc::Global;
 
 /// What an element decides of the insertion mode.
@@ -21,29 +20,6 @@ pub enum Decides {
     /// It is a select: in select, in or out of a table.
     Select,
     To(Mode),
-}
-
-/// The mode of an element that decides one wherever it stands.
-fn mode_of(element: &OpenElement) -> Option<Mode>
-    ensures { result ≡ spec_mode_of element.now }
-{
-    if is_named(Known::TR, element) {
-        Some(Mode::InRow)
-    } else if is_within(&Kinds::Set(SetName::TableSections), element) {
-        Some(Mode::InTableBody)
-    } else if is_named(Known::CAPTION, element) {
-        Some(Mode::InCaption)
-    } else if is_named(Known::COLGROUP, element) {
-        Some(Mode::InColumnGroup)
-    } else if is_named(Known::TABLE, element) {
-        Some(Mode::InTable)
-    } else if is_named(Known::BODY, element) {
-        Some(Mode::InBody)
-    } else if is_named(Known::FRAMESET, element) {
-        Some(Mode::InFrameset)
-    } else {
-        None
-    }
 }
 
 /// What an element decides, of which it is said whether it is the first of all, and whether the page has a head.
@@ -117,19 +93,6 @@ impl<'p, B: Below> View<'p, B> {
         }
     }
 
-    /// The mode in a select whose own elements below begin at that depth.
-    fn reset_to_select(&mut self, alloc: Global, from: usize) -> Result<(), Refusal>
-        requires { from ≤ length self.old.change.stack }
-        ensures { Carries result (sight B.heard self.old) (sight B.heard self.new) (λ v. select_plan v (drop from self.old.change.stack)) }
-    {
-        self.change.mode = if self.table_comes(alloc, from)? {
-            Mode::InSelectInTable
-        } else {
-            Mode::InSelect
-        };
-        Ok(())
-    }
-
     /// Resets the insertion mode.
     pub fn reset(&mut self, alloc: Global) -> Result<(), Refusal>
         ensures { Meets result (sight B.heard self.old) (sight B.heard self.new) reset_step }
@@ -137,7 +100,14 @@ impl<'p, B: Below> View<'p, B> {
         for depth in 0..self.change.stack.len() {
             match self.decides_at(depth) {
                 Decides::Nothing => {}
-                Decides::Select => return self.reset_to_select(alloc, depth + 1),
+                Decides::Select => {
+                    self.change.mode = if self.table_comes(alloc, depth + 1)? {
+                        Mode::InSelectInTable
+                    } else {
+                        Mode::InSelect
+                    };
+                    return Ok(());
+                }
                 Decides::To(mode) => {
                     self.change.mode = mode;
                     return Ok(());
@@ -150,5 +120,3 @@ impl<'p, B: Below> View<'p, B> {
         Ok(())
     }
 }
-
-ghost use Rattle.hp_views.specs.ResetPlans.{select_plan};

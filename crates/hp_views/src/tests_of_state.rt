@@ -10,7 +10,9 @@ use crate::asking::{
 use crate::place::a_template;
 use crate::view::View;
 use crate::walks::{Walk, element_walk};
-use hp_control::{Below, FormChange, OpenElements, Refusal, is_html, is_named, is_within};
+use hp_control::{
+    Below, FormChange, OpenElements, Refusal, is_html, is_named, is_within, second_is_body,
+};
 use hp_elements::{Kinds, Known, Mode, Name, NoMemory, Scope, SetName};
 use std::alloc::Global;
 
@@ -29,14 +31,6 @@ fn ends_of(scope: Scope) -> SetName
 
 ghost use Rattle.hp_control.specs.Composed.{ends_of as spec_ends_of};
 
-/// Whether the second element is an HTML `body`.
-fn second_is_body(stack: &OpenElements) -> bool
-    ensures { result ≡ spec_second_is_body stack.now }
-{
-    let count = stack.len();
-    count >= 2 && is_named(Known::BODY, stack.at(count - 2))
-}
-
 /// Whether the first element of the stack is an HTML `body`.
 fn last_is_body(stack: &OpenElements) -> bool
     ensures { result ≡ spec_last_is_body stack.now }
@@ -45,8 +39,7 @@ fn last_is_body(stack: &OpenElements) -> bool
     count >= 1 && is_named(Known::BODY, stack.at(count - 1))
 }
 
-ghost use Rattle.hp_control.specs.Walks.{second_is_body as spec_second_is_body};
-ghost use Rattle.hp_views.specs.SecondPlans.{last_is_body as spec_last_is_body, second_plan, second_older_plan, own_modes, foreign_now_plan};
+ghost use Rattle.hp_views.specs.SecondPlans.{last_is_body as spec_last_is_body, second_plan, own_modes, foreign_now_plan};
 ghost use Rattle.hp_views.specs.View.{Knows};
 ghost use Rattle.hp_views.specs.Asking.{ask_last_tag, ask_seen};
 
@@ -134,21 +127,14 @@ impl<'p, B: Below> View<'p, B> {
         older_last_tag(&mut self.below, alloc)
     }
 
-    /// Whether the second element is an HTML `body`.
+    /// Whether the second element is an HTML `body`. Over an older state an own element is the second where only the first one
+    /// is left below, which is asked where that matters.
     pub fn second_is_body(&mut self, alloc: Global) -> Result<bool, Refusal>
         ensures { Answers result (sight B.heard self.old) (sight B.heard self.new) second_plan }
     {
-        match self.page {
-            Some(_) => Ok(second_is_body(&self.change.stack)),
-            None => self.second_below(alloc),
+        if self.page.is_some() {
+            return Ok(second_is_body(&self.change.stack, 0));
         }
-    }
-
-    /// The same over an older state. An own element is the second where only the first one is left below, which is asked
-    /// where that matters.
-    fn second_below(&mut self, alloc: Global) -> Result<bool, Refusal>
-        ensures { Answers result (sight B.heard self.old) (sight B.heard self.new) second_older_plan }
-    {
         let depth = self.change.popped;
         if last_is_body(&self.change.stack) {
             let Some(next) = depth.checked_add(1) else {

@@ -2,7 +2,7 @@
 use hp_control::{Change, Edits};
 
 /// What is known of the page where the parser starts from a known state: the head element, and whether it is in quirks mode.
-#[derive(Clone, Copy, Drop)]
+#[derive(Clone, Copy)]
 pub struct PageFacts {
     pub head: Option<u64>,
     pub quirks: bool,

@@ -1,12 +1,12 @@
 //! Walks over a view's own stack and its own list, the top first.
 ghost use Rattle.std.specs.Prelude.{◌≡◌, drop};
-ghost use Rattle.hp_views.specs.Walks.{walk_of, run_walk, id_walk, id_scope_walk, id_stop_walk, id_entry_walk, marker_of, entry_walk, IsWithin, EndsAs};
+ghost use Rattle.hp_views.specs.Walks.{walk_of, run_walk, id_walk, id_scope_walk, id_entry_walk, marker_of, entry_walk, IsWithin, EndsAs};
 
-use hp_control::{FormattingEntry, OpenElements, Stack, is_within};
+use hp_control::{FormattingEntry, OpenElements, Stack, is_within, same_name};
 use hp_elements::{Kinds, Name, SetName};
 
 /// Where a walk ended: at a goal, at a stop, or below the last of its own.
-#[derive(Clone, Copy, Drop)]
+#[derive(Clone, Copy)]
 pub enum Walk {
     Found(usize),
     Stopped,
@@ -79,20 +79,12 @@ pub fn scope_walk(stack: &OpenElements, id: u64) -> Walk
     ensures walk { result ≡ id_scope_walk id stack.now }
     ensures within { IsWithin result stack.now }
 {
-    id_walk_to(stack, id, &Kinds::Set(SetName::DefaultScopeEnds))
-}
-
-/// Walks down to the element of this id, or to the first that is a stop.
-fn id_walk_to(stack: &OpenElements, id: u64, stops: &Kinds) -> Walk
-    ensures walk { result ≡ id_stop_walk stops.now id stack.now }
-    ensures within { IsWithin result stack.now }
-{
     for depth in 0..stack.len() {
         let element = stack.at(depth);
         if element.id == id {
             return Walk::Found(depth);
         }
-        if is_within(stops, element) {
+        if is_within(&Kinds::Set(SetName::DefaultScopeEnds), element) {
             return Walk::Stopped;
         }
     }
@@ -145,11 +137,3 @@ pub fn name_walk(list: &Stack<FormattingEntry>, name: &Name) -> Walk
     }
     Walk::PastAll
 }
-
-fn same_name(name: &Name, other: &Name) -> bool
-    ensures { result ≡ bytes_eq name.now other.now }
-{
-    name.same(other)
-}
-
-ghost use Rattle.std.specs.Str.{bytes_eq};

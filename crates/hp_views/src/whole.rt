@@ -3,33 +3,13 @@ ghost use Rattle.std.specs.Prelude.{◌≡◌, Option};
 ghost use Rattle.hp_control.specs.States.{IsValid};
 ghost use Rattle.hp_control.specs.Faithful.{StandsOn, state_over};
 ghost use Rattle.hp_control.specs.Nothing.{nothing};
-ghost use Rattle.hp_views.specs.Begins.{form_of as spec_form_of, form_left as spec_form_left, whole_of, with_lexer};
+ghost use Rattle.hp_views.specs.Begins.{whole_of, with_lexer};
 ghost use Rattle.hp_views.specs.View.{split_of};
 
 use crate::guessed::end_with;
 use crate::view::{PageFacts, View};
 use hp_control::{Change, Control, Edits, FormChange, Nothing};
 use hp_tokens::LexState;
-
-/// Where the form pointer points, as what became of an empty one.
-fn form_of(form: Option<u64>) -> FormChange
-    ensures { result ≡ spec_form_of form }
-{
-    match form {
-        Some(id) => FormChange::Own(id),
-        None => FormChange::Cleared,
-    }
-}
-
-/// Where the form pointer points after that became of an empty one.
-fn form_left(form: FormChange) -> Option<u64>
-    ensures { result ≡ spec_form_left form }
-{
-    match form {
-        FormChange::Own(id) => Some(id),
-        FormChange::Kept | FormChange::Cleared => None,
-    }
-}
 
 impl<'p> View<'p, Nothing> {
     /// The view that is this state, all of which is its own. It takes no memory.
@@ -53,6 +33,10 @@ impl<'p> View<'p, Nothing> {
             skip_lf,
             next,
         } = control;
+        let form = match form {
+            Some(id) => FormChange::Own(id),
+            None => FormChange::Cleared,
+        };
         View {
             below: Nothing,
             change: Change {
@@ -65,7 +49,7 @@ impl<'p> View<'p, Nothing> {
                 mode,
                 original,
                 templates,
-                form: form_of(form),
+                form,
                 frameset_off: !frameset_ok,
                 pending,
                 skip_lf,
@@ -90,6 +74,11 @@ impl<'p> View<'p, Nothing> {
             ..
         } = self;
         end_with(&mut change, lex, true);
+        let form = match change.form {
+            FormChange::Own(id) => Some(id),
+            FormChange::Kept => None,
+            FormChange::Cleared => None,
+        };
         let facts = page.unwrap_or(PageFacts {
             head: None,
             quirks: false,
@@ -102,7 +91,7 @@ impl<'p> View<'p, Nothing> {
             stack: change.stack,
             formatting: change.formatting,
             head: facts.head,
-            form: form_left(change.form),
+            form,
             frameset_ok: !change.frameset_off,
             quirks: facts.quirks,
             pending: change.pending,

@@ -28,7 +28,7 @@ pub returns-in-Quiet : goal.returns-in-Quiet
 returns-in-Quiet c = rw (← c.control.view_is, c.in-Quiet.is, ← c.cleared_from-from.ensures.cleared, ← c.is_quiet-quiet.ensures) c.yes_or_no-in-Quiet.ensures
 
 pub returns-in-Listed : goal.returns-in-Listed
-returns-in-Listed c = rw (← c.control.view_is, c.in-Listed.is, ← c.cleared_from-from-in-Listed.ensures.cleared) c.listed_answer.ensures
+returns-in-Listed c = rw (← c.control.view_is, c.in-Listed.is, ← c.cleared_from-from-in-Listed.ensures.cleared, ← c.kind_of.ensures, ← c.top_has_entry.ensures)
 
 pub returns-in-Same : goal.returns-in-Same
 returns-in-Same c = rw (← c.control.view_is, c.in-Same.is, ← c.cleared_from-from-in-Same.ensures.cleared, ← c.equals_from.ensures)

@@ -9,6 +9,15 @@ use Rattle.hp_views.proofs.AtOnce.{gives_at_once}
 use Rattle.hp_views.proofs.Carrying.{carries_then}
 use Rattle.hp_views.proofs.view.View.close_description.Goals as goal
 
+pub returns-then-branch : goal.returns-then-branch
+returns-then-branch g c =
+    let first = sight g.B.Below.heard c.is_item.new.self in
+    let new = sight g.B.Below.heard c.close.new.self in
+    let P : Bool → Type 0 = λ b. Carries c.close.result first new (λ v. either (close_plan known.Dd) close_term_plan b v) in
+    carries_then c.close.result (sight g.B.Below.heard c.args.self.now) first new
+    (is_item_plan (kinds.Html (text_of known.Dd))) (λ v b. either (close_plan known.Dd) close_term_plan b v) c.in_ok-is_item.field-0 c.in_ok-is_item.ensures
+    (subst P (sym c.if-branch.true) c.close.ensures)
+
 pub returns-then-branch-2 : goal.returns-then-branch-2
 returns-then-branch-2 g c =
     let result = c.close-then-branch-2.result in
