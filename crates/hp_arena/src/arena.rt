@@ -14,7 +14,7 @@ use crate::attributes::add_attributes;
 use crate::leaves::{Doctype, Leaf, add_leaf, add_text, alone, text_at};
 use crate::links::{Kind, Node, put_before, splice, unlink};
 use crate::readers::{NodeView, Runs, Spot};
-use crate::room::{largest, widen};
+use crate::room::widen;
 use hp_control::{Child, Edit, Edits, Place, Ref};
 use hp_elements::{Attribute, Chain, Tag, Text};
 use std::alloc::{AllocError, Global};
@@ -70,19 +70,11 @@ impl<'p> Arena<'p> {
         ensures { IfOk result (λ t. t.branches ≡ document) }
     {
         let mut nodes = Vec::with_capacity(alloc, 2 * FIRST)?;
-        nodes.push(Node {
-            prev: 0,
-            next: 0,
-            kind: Kind::Element(0),
-        })?;
-        nodes.push(Node {
-            prev: 1,
-            next: 1,
-            kind: Kind::End(0),
-        })?;
         let mut elements = Vec::with_capacity(alloc, FIRST)?;
-        elements.push(Element { tag: None, node: 0 })?;
         let leaves = Vec::with_capacity(alloc, FIRST)?;
+        nodes.push_reserved(alone(0, Kind::Element(0)));
+        nodes.push_reserved(alone(1, Kind::End(0)));
+        elements.push_reserved(Element { tag: None, node: 0 });
         Ok(Arena {
             nodes,
             elements,
@@ -105,13 +97,13 @@ impl<'p> Arena<'p> {
         if room <= self.spare as u64 {
             return Ok(());
         }
-        let most = largest(
-            self.nodes.len(),
-            self.elements.len(),
-            self.leaves.len(),
-            self.doctypes.len(),
-            self.used,
-        );
+        let most = self
+            .nodes
+            .len()
+            .max(self.elements.len())
+            .max(self.leaves.len())
+            .max(self.doctypes.len())
+            .max(self.used);
         if room > MOST as u64 || most > MOST {
             return Err(AllocError);
         }

@@ -61,28 +61,6 @@ fn take_cell<'p>(cells: &mut Vec<Chain<Text<'p>>>, text: Text<'p>) -> Chain<Text
     }
 }
 
-/// A list of these two texts, in cells that were made before.
-fn take_pair<'p>(
-    cells: &mut Vec<Chain<Text<'p>>>,
-    first: Text<'p>,
-    second: Text<'p>,
-) -> Chain<Text<'p>>
-    requires some { 0 < vec_len cells.old }
-    requires cell { All IsCell cells.old.items }
-    ensures result { result ≡ first.entry ∷ second.entry ∷ [] }
-    ensures len { vec_len cells.new + 1 ≡ vec_len cells.old }
-    ensures cell { All IsCell cells.new.items }
-{
-    match cells.pop() {
-        Some(mut pair) => {
-            pair.set_first(first);
-            let _ = pair.replace_last(second);
-            pair
-        }
-        None => unreachable!(),
-    }
-}
-
 /// Two cells for runs.
 fn make_pair<'p>(alloc: Global) -> Result<Chain<Text<'p>>, AllocError>
     ensures { IfOk result IsCell }
@@ -157,7 +135,8 @@ fn extend<'p>(runs: &mut Chain<Text<'p>>, cells: &mut Vec<Chain<Text<'p>>>, text
     }
 }
 
-/// Appends a text to a run. Where it doesn't become a part of it, the runs come that stand in its place.
+/// Appends a text to a run. Where it doesn't become a part of it, the runs come that stand in its place, in cells that were made
+/// before.
 #[inline(never)]
 fn extend_run<'p>(
     first: &mut Text<'p>,
@@ -171,12 +150,16 @@ fn extend_run<'p>(
     ensures len { vec_len cells.old ≤ vec_len cells.new + 1 }
     ensures cell { All IsCell cells.new.items }
 {
-    match first.join(text) {
-        None => None,
-        Some(text) => {
-            let first = mem::replace(first, Text::new());
-            Some(take_pair(cells, first, text))
+    let Some(text) = first.join(text) else {
+        return None;
+    };
+    match cells.pop() {
+        Some(mut pair) => {
+            pair.set_first(mem::replace(first, Text::new()));
+            let _ = pair.replace_last(text);
+            Some(pair)
         }
+        None => unreachable!(),
     }
 }
 

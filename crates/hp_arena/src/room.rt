@@ -10,17 +10,6 @@ use crate::links::Node;
 use hp_elements::{Chain, Text};
 use std::alloc::{AllocError, Global};
 
-/// The largest of five numbers.
-pub fn largest(nodes: usize, elements: usize, leaves: usize, doctypes: usize, used: usize) -> usize
-    ensures nodes { nodes ≤ result }
-    ensures elements { elements ≤ result }
-    ensures leaves { leaves ≤ result }
-    ensures doctypes { doctypes ≤ result }
-    ensures used { used ≤ result }
-{
-    nodes.max(elements).max(leaves).max(doctypes).max(used)
-}
-
 /// Makes room for so many more items in each list, and for twice as many nodes.
 pub fn widen<'p>(
     alloc: Global,

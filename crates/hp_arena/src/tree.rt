@@ -159,8 +159,10 @@ impl<'p> Tree<'p> {
     {
         match child {
             Child::Text(text) => self.put_text(text, parent),
-            Child::Element(node) => self.put_element(node.told(), parent),
-            Child::Comment(_) | Child::Doctype(_) => self.put_seldom(child, parent),
+            Child::Element(node) if parent != 0 => self
+                .arena
+                .put_element_into(Ref::Fixed(node.told()), Ref::Fixed(parent)),
+            _ => self.put_seldom(child, parent),
         }
     }
 
@@ -203,34 +205,6 @@ impl<'p> Tree<'p> {
     {
         let text = mem::replace(text, Text::new());
         self.arena.put_text_into(text, Ref::Fixed(parent));
-    }
-
-    /// Puts an element last into another.
-    #[inline(always)]
-    fn put_element(&mut self, node: u64, parent: u64)
-        requires { 0 < self.old.spare }
-        ensures branches { self.new.branches ≡ applied self.old.branches (Edit.Put (Child.Element (Ref.Fixed node)) (Place.Into (Ref.Fixed parent))) }
-        ensures spare { self.old.spare ≤ self.new.spare + 1 }
-    {
-        if parent == 0 {
-            self.put_root(node);
-        } else {
-            self.arena
-                .put_element_into(Ref::Fixed(node), Ref::Fixed(parent));
-        }
-    }
-
-    /// Puts an element last into the document.
-    #[inline(never)]
-    fn put_root(&mut self, node: u64)
-        requires { 0 < self.old.spare }
-        ensures branches { self.new.branches ≡ applied self.old.branches (Edit.Put (Child.Element (Ref.Fixed node)) (Place.Into (Ref.Fixed 0))) }
-        ensures spare { self.old.spare ≤ self.new.spare + 1 }
-    {
-        self.apply(Edit::Put {
-            child: Child::Element(Ref::Fixed(node)),
-            place: Place::Into(Ref::Fixed(0)),
-        });
     }
 
     /// Makes an edit of any kind.

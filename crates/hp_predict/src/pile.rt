@@ -107,25 +107,12 @@ fn found_ends(names: &Stack<TagName<'_>>, ends: &[TagName<'_>]) -> usize
 {
     let mut found = 0;
     for depth in 0..names.len() {
-        found = found_at(names.at(depth), ends, found);
+        let name = names.at(depth);
+        if found < ends.len() && name.same(&ends[found]) {
+            found += 1;
+        }
     }
     found
-}
-
-/// How many of the end tags are found up to one more name.
-fn found_at(name: &TagName<'_>, ends: &[TagName<'_>], found: usize) -> usize
-    requires { found ≤ length ends.now }
-    ensures within { result ≤ length ends.now }
-    ensures found { (rest : Names) → with_ends (name.now ∷ rest) (drop found ends.now) ≡ name.now ∷ with_ends rest (drop result ends.now) }
-{
-    if found >= ends.len() {
-        return found;
-    }
-    if name.same(&ends[found]) {
-        found + 1
-    } else {
-        found
-    }
 }
 
 /// Piles up end tags, the last one first.

@@ -117,28 +117,21 @@ fn state_for(
     })
 }
 
-/// The state that is guessed for a text, from the text before it.
-fn guess(alloc: Global, before: &[u8], text: &[u8]) -> Result<Control, NoMemory>
-    ensures { IfOk result (λ state. state ≡ guessed before.now text.now) }
-{
-    let part = &before[before.len().saturating_sub(BEFORE)..];
-    let open = read_tags(alloc, part)?;
-    let closed = read_tags(alloc, text)?;
-    state_for(
-        alloc,
-        ends_in_cr(before),
-        &open.names,
-        closed.unmatched.as_slice(),
-    )
-}
-
 impl Prescan {
     /// The guess for a chunk, from the last 4,096 bytes before it and from its own text.
     pub fn new(alloc: Global, chunk: &Chunk<'_>) -> Result<Prescan, NoMemory>
         ensures state { IfOk result (λ prescan. prescan ≡ guessed (take chunk.now.from (text_of_page chunk.now.page)) (slice_range (text_of_page chunk.now.page) chunk.now.from chunk.now.to)) }
         ensures law { IfOk result (λ prescan. IsGuess chunk.now.from chunk.now.to prescan) }
     {
-        let state = guess(alloc, chunk.before(), chunk.text())?;
+        let before = chunk.before();
+        let open = read_tags(alloc, &before[before.len().saturating_sub(BEFORE)..])?;
+        let closed = read_tags(alloc, chunk.text())?;
+        let state = state_for(
+            alloc,
+            ends_in_cr(before),
+            &open.names,
+            closed.unmatched.as_slice(),
+        )?;
         Ok(Prescan { state })
     }
 

@@ -1,6 +1,6 @@
 //! The predictors that look at no text.
 ghost use Rattle.std.specs.Prelude.{◌≡◌, IfOk};
-ghost use Rattle.hp_predict.specs.Says.{quiet_says, contrary_says, quiet_fact, has_all_html as spec_has_all_html, has_body as spec_has_body};
+ghost use Rattle.hp_predict.specs.Says.{quiet_says, contrary_says, has_all_html as spec_has_all_html, has_body as spec_has_body};
 
 use crate::name::has_name;
 use hp_control::{Answer, EntryKind, FactKind, Predictor, Question};
@@ -68,18 +68,6 @@ fn has_body(goals: &Kinds) -> bool
     }
 }
 
-fn quiet_fact(alloc: Global, which: FactKind) -> Result<Answer, NoMemory>
-    ensures { IfOk result (λ answer. answer ≡ quiet_fact which) }
-{
-    match which {
-        FactKind::Quirks => Ok(Answer::No),
-        FactKind::LastTag => {
-            let name = Name::from_text(alloc, "")?;
-            Ok(Answer::LastTag(name))
-        }
-    }
-}
-
 fn quiet_answer(alloc: Global, question: &Question) -> Result<Answer, NoMemory>
     ensures { IfOk result (λ answer. answer ≡ quiet_says question.now) }
 {
@@ -110,7 +98,10 @@ fn quiet_answer(alloc: Global, question: &Question) -> Result<Answer, NoMemory>
         }),
         Question::Same { .. } => Ok(Answer::Count(0)),
         Question::Pointer { .. } => Ok(Answer::Null),
-        Question::Fact { which } => quiet_fact(alloc, *which),
+        Question::Fact { which } => match *which {
+            FactKind::Quirks => Ok(Answer::No),
+            FactKind::LastTag => Ok(Answer::LastTag(Name::from_text(alloc, "")?)),
+        },
         Question::Whole { .. } => Ok(Answer::Whole {
             body: true,
             frameset_ok: false,

@@ -8,7 +8,6 @@ invariant_of-self c =
 
 pub invariant_of-self-2 : goal.invariant_of-self-2
 invariant_of-self-2 c =
-    let few = c.largest-most.ensures in
     let made = c.in_ok-widen.ensures in
     IsSound-widened c.self.inside _ c.self.invariant c.widen.ensures.nodes c.widen.ensures.elements c.widen.ensures.leaves c.widen.ensures.doctypes refl c.widen.ensures.cell
     made.nodes_room made.elements_room made.leaves_room made.doctypes_room made.cells_room c.if-room.false (omega arith) (omega arith) (omega arith) (omega arith) (omega arith)
