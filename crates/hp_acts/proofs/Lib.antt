@@ -16,6 +16,7 @@ pub mod OlderMatches
 pub mod TurnRuns
 pub mod PlainRuns
 pub mod StepRuns
+pub mod CarriedOut
 pub mod LineFeeds
 pub mod UsualRuns
 pub mod TableRuns

@@ -1,6 +1,7 @@
 -- The act at a place of a row, carried out.
-use Rattle.std.proofs.Common.{◌≡◌, ℕ, ◌+◌, Bool, true, false, Result, Ok, Err, refl, ap, sym, subst, ◌∙◌}
-use Rattle.std.specs.Prelude.{not, if◌then◌else◌}
+use Rattle.std.proofs.Common.{◌≡◌, ◌<◌, ℕ, ◌+◌, Bool, true, false, Option, Result, Ok, Err, refl, ap, sym, subst, ◌∙◌, arith, inl, inr}
+use Rattle.std.specs.Prelude.{◌⊎◌, IfOk, ltb, not, if◌then◌else◌}
+use Rattle.std.proofs.lemmas.Bool.{ltb-true}
 use Rattle.hp_elements.specs.declared.act.Act.{Act}
 use Rattle.hp_elements.specs.declared.act.Act.TheVariants as act
 use Rattle.hp_elements.specs.declared.act.Test.{Test}
@@ -12,15 +13,18 @@ use Rattle.hp_control.specs.declared.change.Refusal.{Refusal}
 use Rattle.hp_control.specs.declared.change.Refusal.TheVariants.{Crossed, NoMemory}
 use Rattle.hp_control.specs.declared.question.Crossing.{Crossing}
 use Rattle.hp_control.specs.Faithful.{Split}
-use Rattle.hp_control.specs.Plan.{Plan, followed_by, Runs}
+use Rattle.hp_control.specs.Plan.{Heard, Plan, followed_by, gives, Runs}
 use Rattle.hp_control.specs.Running.{Partway, runs_crosses, runs_then}
-use Rattle.hp_views.specs.View.{Sight, Finds}
+use Rattle.hp_model.specs.Tokens.{as_start}
+use Rattle.hp_views.specs.View.{Answers, Sight, Finds}
 use Rattle.hp_acts.specs.declared.turns.Handled.{Handled}
 use Rattle.hp_acts.specs.declared.turns.Next.{Next}
 use Rattle.hp_acts.specs.declared.turns.Next.TheVariants.{At}
-use Rattle.hp_acts.specs.Carrying.{CarriesBy, Goes, IsWay, going}
+use Rattle.hp_acts.specs.Carrying.{CarriesBy, Goes, GoesBy, IsWay, Stays, going, present_plan}
+use Rattle.hp_acts.specs.Handling.{GoesLater}
 use Rattle.hp_acts.specs.Plans.{act_plan, by_plan, test_plan}
-use Rattle.hp_acts.specs.RowPlans.{Reached, Came, act_then, changed}
+use Rattle.hp_acts.specs.RowPlans.{Reached, Came, act_then, again, changed}
+use Rattle.hp_acts.proofs.RowRuns.{left_whole}
 
 -- the acts that carry nothing out themselves
 abbrev pub is_steering : Act → Bool
@@ -57,6 +61,40 @@ way_on (act.If test otherwise) at h = absurd (cc)
 way_on (act.Unless test otherwise) at h = absurd (cc)
 way_on _ at h = refl
 
+-- the way on from an act that is b
+pub way_of : (a b : Act) (at place : ℕ) (next : Next) → a ≡ b → next ≡ At place → IsWay b at place → GoesBy a at next
+way_of a b at place next is e way =
+    let P : Next → Type 0 = GoesBy a at in
+    let Q : Act → Type 0 = λ x. IsWay x at place in
+    subst P (sym e) (subst Q (sym is) way)
+
+-- behind a test a row goes on at one of two places, and both stand later
+pub one_of : (at otherwise : ℕ) (on : Bool) → ((if on then at + 1 else otherwise) ≡ at + 1) ⊎ ((if on then at + 1 else otherwise) ≡ otherwise)
+one_of at otherwise true = inl refl
+one_of at otherwise false = inr refl
+
+pub later_of : (at otherwise : ℕ) (on : Bool) (next : Next) → ltb at otherwise ≡ true → next ≡ At (if on then at + 1 else otherwise) → GoesLater at next
+later_of at otherwise on next later e = let P : Next → Type 0 = GoesLater at in subst P (sym e) (by_place on)
+  where
+    by_place : (b : Bool) → at < (if b then at + 1 else otherwise)
+    by_place true = omega arith
+    by_place false = ltb-true at otherwise later
+
+-- a test leaves the token whole
+pub whole_at : (whole : Bool) (t : Token) (place : ℕ) (next : Next) → next ≡ At place → Stays whole t t next
+whole_at whole t place next e = let P : Next → Type 0 = Stays whole t t in subst P (sym e) (left_whole t, λ w. refl)
+
+-- a test for which memory is wanting
+pub no_next : (result : Result Next Refusal) (refused : Refusal) (P : Next → Type 0) → result ≡ Err refused → IfOk result P
+no_next result refused P e = let Q : Result Next Refusal → Type 0 = λ x. IfOk x P in subst Q (sym e) tt
+
+pub no_answer : (result : Result Next Refusal) (refused : Refusal) (old new : Sight) (plan : Split → Plan Bool) (whole : Plan Came) (rest : Next → Plan Came) → result ≡ Err refused → Answers {X = Bool} (Err refused) old new plan → Goes result old.heard new.heard whole rest
+no_answer result refused old new plan whole rest e h = let Q : Result Next Refusal → Type 0 = λ x. Goes x old.heard new.heard whole rest in subst Q (sym e) (by_refusal refused h)
+  where
+    by_refusal : (x : Refusal) → Answers {X = Bool} (Err x) old new plan → Goes (Err x) old.heard new.heard whole rest
+    by_refusal NoMemory h = tt
+    by_refusal (Crossed crossing) h = absurd h
+
 -- a token that isn't given away stays; one that is, is copied where it is to stay
 pub token_stays : (gives whole : Bool) (old new : Token) → (gives ≡ false → new ≡ old) → (whole ≡ true → gives ≡ true → new ≡ old) → whole ≡ true → new ≡ old
 token_stays true whole old new h k w = k w refl
@@ -65,6 +103,13 @@ token_stays false whole old new h k w = h refl
 module _ (follow : Bool → Mode → Reached → Plan Came) (present : Reached → Plan Came) (fostering : Bool) (t : Token) (at : ℕ) (go : ℕ → Reached → Plan Came) where
   abbrev then_by : Act → Reached → Plan Came
   then_by a r = act_then follow present fostering t a at go r
+
+  -- an act that only steers the row says itself what is left of it
+  pub steered : (h : Heard) (r : Reached) (a b : Act) → a ≡ b → Partway h h (then_by a r) (then_by b r)
+  steered h r a b is = let P : Act → Type 0 = λ x. Partway h h (then_by x r) (then_by b r) in subst P (sym is) (λ last end more. more)
+
+  pub renamed : (h : Heard) (r : Reached) (a : Act) (name : Known) (new : Token) → a ≡ act.AgainAs name → new ≡ as_start name t → Partway h h (then_by a r) (gives (again new r))
+  renamed h r a name new is e = let P : Token → Type 0 = λ x. Partway h h (then_by a r) (gives (again x r)) in subst P (sym e) (steered h r a (act.AgainAs name) is)
 
   then_carried : (a : Act) (r : Reached) → is_steering a ≡ false → then_by a r ≡ followed_by (by_plan (act_plan fostering t a) r.split) (λ v. go (at + 1) (changed r v))
   then_carried act.Done r h = absurd (cc)
@@ -126,3 +171,9 @@ module _ (follow : Bool → Mode → Reached → Plan Came) (present : Reached �
       let P : Next → Type 0 = λ n. Partway old.heard new.heard (then_by a (record { split = old.split; handled = handled })) (going follow go at (record { split = new.split; handled = handled }) t n) in
       let Q : Act → Type 0 = λ b. Partway old.heard new.heard (then_by b (record { split = old.split; handled = handled })) (go (if holds then otherwise else at + 1) (record { split = new.split; handled = handled })) in
       subst P (sym (e ∙ ap At (place_unless holds otherwise))) (subst Q (sym is) (tested old new handled test holds (λ b. if b then otherwise else at + 1) f))
+
+-- the rules of the mode in which the turn began, or nothing where a row may not use them
+pub present_goes : (follow : Bool → Mode → Reached → Plan Came) (fostering : Bool) (t : Token) (at : ℕ) (go : ℕ → Reached → Plan Came) (h : Heard) (r : Reached) (a : Act) (present mode : Option Mode) → a ≡ act.AsPresent → present ≡ mode → Partway h h (act_then follow (present_plan follow present) fostering t a at go r) (act_then follow (present_plan follow mode) fostering t act.AsPresent at go r)
+present_goes follow fostering t at go h r a present mode is e =
+    let P : Option Mode → Type 0 = λ p. Partway h h (act_then follow (present_plan follow p) fostering t a at go r) (act_then follow (present_plan follow mode) fostering t act.AsPresent at go r) in
+    subst P (sym e) (steered follow (present_plan follow mode) fostering t at go h r a act.AsPresent is)

@@ -54,23 +54,24 @@ fn number_in(part: Part, mode: Mode, token: &Token<'_>) -> Option<u16>
     }
 }
 
-/// The acts of the row that has a number in that crate.
-fn acts_numbered(part: Part, number: u16) -> &'static [Act]
-    ensures { result.now ≡ acts_numbered (rows_in part) number }
-{
-    match part {
-        Part::Page => hp_rules_page::acts_numbered(number),
-        Part::Body => hp_rules_body::acts_numbered(number),
-        Part::Table => hp_rules_table::acts_numbered(number),
-        Part::Rest => hp_rules_rest::acts_numbered(number),
-    }
-}
-
+/// The row that has a number in that crate.
 fn row_numbered(part: Part, number: u16) -> Row
     ensures { result.acts.now ≡ acts_numbered (rows_in part) number }
 {
-    let acts = acts_numbered(part, number);
-    Row { acts }
+    match part {
+        Part::Page => Row {
+            acts: hp_rules_page::acts_numbered(number),
+        },
+        Part::Body => Row {
+            acts: hp_rules_body::acts_numbered(number),
+        },
+        Part::Table => Row {
+            acts: hp_rules_table::acts_numbered(number),
+        },
+        Part::Rest => Row {
+            acts: hp_rules_rest::acts_numbered(number),
+        },
+    }
 }
 
 /// The row that the token has in the mode.

@@ -1,7 +1,8 @@
 //! The parts of a token that acts read, or give to the tree and the list.
-ghost use Rattle.std.specs.Prelude.{◌≡◌, [], IfOk, OnOk};
+ghost use Rattle.std.specs.Prelude.{◌≡◌, IfOk, OnOk};
 ghost use Rattle.hp_elements.specs.Names.{text_of};
 ghost use Rattle.hp_model.specs.Tokens.{as_start, bare, characters, comment, is_self_closing, name_for, name_of, tag_of};
+ghost use Rattle.hp_acts.specs.HandlePlans.{without_line_feed};
 ghost use Rattle.hp_acts.specs.Spending.{html_tag, IsLeftOf};
 ghost use Rattle.hp_acts.specs.declared.token_parts.Spending.TheVariants.{Copies};
 
@@ -20,14 +21,6 @@ pub enum Spending {
     Moves,
 }
 
-#[inline(never)]
-fn no_name(alloc: Global) -> Result<Name, NoMemory>
-    ensures { IfOk result (λ name. name ≡ []) }
-{
-    let name = Name::from_text(alloc, "")?;
-    Ok(name)
-}
-
 /// The token's own name; the empty one where it has none.
 #[inline(always)]
 fn own_name(alloc: Global, token: &Token<'_>) -> Result<Name, NoMemory>
@@ -36,10 +29,10 @@ fn own_name(alloc: Global, token: &Token<'_>) -> Result<Name, NoMemory>
     match token {
         Token::Start { tag, .. } => tag.name.copy(alloc),
         Token::EndTag { name } => name.copy(alloc),
-        Token::Characters { .. } => no_name(alloc),
-        Token::Comment { .. } => no_name(alloc),
-        Token::Doctype { .. } => no_name(alloc),
-        Token::EndOfInput => no_name(alloc),
+        _ => {
+            let none = Name::from_text(alloc, "")?;
+            Ok(none)
+        }
     }
 }
 
@@ -203,24 +196,6 @@ pub(crate) fn rename(token: &mut Token<'_>, name: Known)
     }
 }
 
-/// What is left of characters without the line feed that they begin with; none where they are that alone.
-fn after_first<'p>(
-    alloc: Global,
-    class: CharClass,
-    text: Text<'p>,
-) -> Result<Option<Token<'p>>, NoMemory>
-    ensures { IfOk result (λ rest. rest ≡ without_line_feed (Characters class text.entry)) }
-{
-    let after = match text.as_str().strip_prefix('\n') {
-        Some(rest) => Text::from_str(alloc, rest)?,
-        None => return Ok(Some(Token::Characters { class, text })),
-    };
-    if after.is_empty() {
-        return Ok(None);
-    }
-    Ok(Some(Token::Characters { class, text: after }))
-}
-
 /// The token without the line feed that it begins with; none where it is that alone.
 pub(crate) fn after_line_feed<'p>(
     alloc: Global,
@@ -229,10 +204,16 @@ pub(crate) fn after_line_feed<'p>(
     ensures { IfOk result (λ rest. rest ≡ without_line_feed token.entry) }
 {
     match token {
-        Token::Characters { class, text } => after_first(alloc, class, text),
+        Token::Characters { class, text } => {
+            let after = match text.as_str().strip_prefix('\n') {
+                Some(rest) => Text::from_str(alloc, rest)?,
+                None => return Ok(Some(Token::Characters { class, text })),
+            };
+            if after.is_empty() {
+                return Ok(None);
+            }
+            Ok(Some(Token::Characters { class, text: after }))
+        }
         token => Ok(Some(token)),
     }
 }
-
-ghost use Rattle.hp_acts.specs.HandlePlans.{without_line_feed};
-ghost use Rattle.hp_elements.specs.declared.token.Token.TheVariants.{Characters};

@@ -4,9 +4,8 @@ ghost use Rattle.std.specs.List.{list_any};
 ghost use Rattle.hp_elements.specs.Rules.{goes_later};
 ghost use Rattle.hp_elements.specs.declared.token.Mode.{Mode};
 ghost use Rattle.hp_control.specs.Plan.{Plan};
-ghost use Rattle.hp_model.specs.Rows.{is_head_mode};
 ghost use Rattle.hp_views.specs.View.{page_of, sight};
-ghost use Rattle.hp_acts.specs.Carrying.{Comes, Goes, GoesBy, Stays, going, next_present, present_plan, reached, row_plan};
+ghost use Rattle.hp_acts.specs.Carrying.{Comes, Goes, GoesBy, Stays, going, present_plan, reached, row_plan};
 ghost use Rattle.hp_acts.specs.HandlePlans.{all_turns_plan, handle_plan, handle_rest, turns_plan, without_line_feed};
 ghost use Rattle.hp_acts.specs.Handling.{GoesLater, Handles, unskipped};
 ghost use Rattle.hp_acts.specs.RowPlans.{Reached, Came, act_then, is_early, turn_plan};
@@ -143,17 +142,6 @@ fn carry_row<'p, B: Below>(
     Ok(false)
 }
 
-/// The rules of the mode in which the turn began; where there are none the row goes on.
-fn present_rules(present: Option<Mode>, at: u32) -> Next
-    requires { at < 8 }
-    ensures { result ≡ next_present present at }
-{
-    match present {
-        Some(mode) => Next::Rules(mode, false),
-        None => Next::At(at + 1),
-    }
-}
-
 /// The place behind a test.
 fn behind(at: u32, otherwise: u8, goes_on: bool) -> Next
     requires { at < 8 }
@@ -193,7 +181,11 @@ fn step<'p, B: Below>(
         }
         Act::As(mode) => Ok(Next::Rules(mode, fostering)),
         Act::AsFostered(mode) => Ok(Next::Rules(mode, true)),
-        Act::AsPresent => Ok(present_rules(present, at)),
+        // The rules of the mode in which the turn began; where there are none the row goes on.
+        Act::AsPresent => match present {
+            Some(mode) => Ok(Next::Rules(mode, false)),
+            None => Ok(Next::At(at + 1)),
+        },
         Act::If { test, otherwise } => {
             let holds = holds(alloc, view, &turn.token, test)?;
             Ok(behind(at, otherwise, holds))
@@ -220,27 +212,21 @@ fn step<'p, B: Below>(
     }
 }
 
-/// Whether the mode is one in which the page's head isn't done yet.
-fn is_of_head(mode: Mode) -> bool
-    ensures { result ≡ is_head_mode mode }
-{
-    match mode {
-        Mode::Initial
-        | Mode::BeforeHtml
-        | Mode::BeforeHead
-        | Mode::InHead
-        | Mode::InHeadNoscript
-        | Mode::AfterHead => true,
-        _ => false,
-    }
-}
-
-/// Whether a token would be handled before the page's body, over an unknown older state.
+/// Whether a token would be handled before the page's body, over an unknown older state: in a mode in which the page's head isn't
+/// done yet.
 fn is_early(page: &Option<PageFacts>, mode: Mode) -> bool
     ensures { result ≡ is_early (page_of page.now) mode }
 {
     match page {
-        None => is_of_head(mode),
+        None => match mode {
+            Mode::Initial
+            | Mode::BeforeHtml
+            | Mode::BeforeHead
+            | Mode::InHead
+            | Mode::InHeadNoscript
+            | Mode::AfterHead => true,
+            _ => false,
+        },
         Some(_) => false,
     }
 }

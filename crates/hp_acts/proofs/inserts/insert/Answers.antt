@@ -1,16 +1,11 @@
-use Rattle.std.proofs.Common.{Ok, Err, Result, ap, subst, sym}
-use Rattle.std.specs.Prelude.{OnOk}
+use Rattle.std.proofs.Common.{ap, subst, sym}
 use Rattle.hp_elements.specs.declared.tag.Tag.{Tag}
-use Rattle.hp_control.specs.declared.change.Refusal.{Refusal}
 use Rattle.hp_control.specs.Acts.{point_in}
 use Rattle.hp_views.specs.PlacePlans.{insert_plan}
 use Rattle.hp_views.specs.View.{Carries, sight}
 use Rattle.hp_acts.specs.Spending.{IsLeftOf}
+use Rattle.hp_acts.proofs.CarriedOut.{where_ok}
 use Rattle.hp_acts.proofs.inserts.insert.Goals as goal
-
-where_ok : (result : Result (Unit {0}) Refusal) (P : Type 0) → P → OnOk result P
-where_ok (Ok u) P p = p
-where_ok (Err e) P p = tt
 
 pub insert-requires : goal.insert-requires
 insert-requires g c = record { point = sym (ap (λ (t : Tag). point_in t.namespace t) c.in_ok-tag.ensures.value) }
