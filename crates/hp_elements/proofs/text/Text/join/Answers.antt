@@ -1,8 +1,9 @@
-use Rattle.std.proofs.Common.{List, ℕ, ◌++◌, ◌∙◌, ap, sym, subst, arith}
+use Rattle.std.proofs.Common.{◌≡◌, List, ℕ, ◌++◌, ◌==◌, length, refl, ◌∙◌, ap, sym, subst, arith}
 use Rattle.std.specs.Str.{chars, IsUtf8}
 use Rattle.std.proofs.lemmas.Str.{chars-append, IsUtf8-append}
 use Rattle.hp_elements.specs.Texts.{placed, IsPlaced}
 use Rattle.hp_elements.proofs.text.Text.join.Goals as goal
+use Rattle.hp_elements.proofs.text.Text.join.Goals.{in_default-via-in-Here-1, in_default-via-in-Page+in-None-1}
 
 pub invariant_of-self-2 : goal.invariant_of-self-2
 invariant_of-self-2 c =
@@ -11,9 +12,27 @@ invariant_of-self-2 c =
       subst (λ (xs : List ℕ). IsUtf8 xs) (sym c.in-Some.ensures.text) (IsUtf8-append _ c.as_str.result.now held.1 c.as_str.utf8),
     )
 
-pub returns-clause-joined : goal.returns-clause-joined
-returns-clause-joined c =
+pub returns : goal.returns
+returns c =
     let held = subst IsPlaced c.in-Page.is c.self.invariant in
-    ap chars c.in-Some.ensures.text
-    ∙ (chars-append _ c.as_str.result.now held.1
-    ∙ (ap (λ (xs : List ℕ). xs ++ chars c.as_str.result.now) (sym (ap placed c.in-Page.is) ∙ c.self.view_is) ∙ ap (λ (xs : List ℕ). c.args.self.now ++ xs) c.as_str.ensures))
+    record {
+      joined =
+          ap chars c.in-Some.ensures.text
+          ∙ (chars-append _ c.as_str.result.now held.1
+          ∙ (ap (λ (xs : List ℕ). xs ++ chars c.as_str.result.now) (sym (ap placed c.in-Page.is) ∙ c.self.view_is) ∙ ap (λ (xs : List ℕ). c.args.self.now ++ xs) c.as_str.ensures));
+      kept = tt;
+      empty = λ e. refl;
+    }
+
+pub returns-2 : goal.returns-2
+returns-2 c =
+    let same : placed c.in_default.self-inside.place ≡ c.args.self.now =
+    elim c.in_default.branch [
+      | in_default-via-in-Here-1 w ↦ ap (λ text. placed text.place) w.self-inside-is ∙ c.self.view_is
+      | in_default-via-in-Page+in-None-1 w ↦ ap (λ text. placed text.place) w.self-inside-is ∙ (sym (ap placed w.in-Page.is) ∙ c.self.view_is)
+    ] in
+    record {
+      joined = tt;
+      kept = (refl, same);
+      empty = λ e. sym (c.is_empty.ensures ∙ ap (λ (xs : List ℕ). length xs == 0) e) ∙ c.if-is_empty.false;
+    }

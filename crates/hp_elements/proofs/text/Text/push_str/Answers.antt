@@ -31,3 +31,8 @@ returns c =
           ∙ ap (λ (xs : List ℕ). xs ++ chars c.args.more.now) (sym (ap placed c.in-Here.is) ∙ c.self.view_is));
       err = tt;
     }
+
+pub returns-2 : goal.returns-2
+returns-2 c =
+    let now : chars c.as_str.result.now ≡ c.args.self.now = cc (c.as_str.ensures, c.self.view_is) in
+    record { ok = c.drop.view_is ∙ (c.in_ok-grown.ensures ∙ ap (λ (xs : List ℕ). xs ++ chars c.args.more.now) now); err = tt }
