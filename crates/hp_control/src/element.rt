@@ -22,16 +22,8 @@ impl Drop for OpenElement {
 }
 
 /// An entry of the list of active formatting elements (13.2.4.3): a marker, or an element with the tag that it was made for.
+#[derive(Drop)]
 pub enum FormattingEntry {
     Marker,
     Element { id: u64, tag: Tag },
-}
-
-impl Drop for FormattingEntry {
-    #[inline(always)]
-    fn drop(self) {
-        match self {
-            FormattingEntry::Marker | FormattingEntry::Element { id: _, tag: _ } => {}
-        }
-    }
 }
