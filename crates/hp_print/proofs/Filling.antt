@@ -1,5 +1,5 @@
 -- Bytes that are written behind others.
-use Rattle.std.proofs.Common.{◌≡◌, ℕ, ◌+◌, ◌*◌, ◌<◌, ◌≤◌, suc, List, ◌∷◌, ◌++◌, length, take, drop, ap, sym, ◌∙◌, arith}
+use Rattle.std.proofs.Common.{◌≡◌, ℕ, ◌+◌, ◌*◌, ◌<◌, ◌≤◌, suc, List, [], ◌∷◌, ◌++◌, length, take, drop, ap, sym, ◌∙◌, append_assoc, arith}
 use Rattle.std.proofs.lemmas.List.{take-replicate, take-take, length-take-le}
 use Rattle.std.proofs.Math.Seq.{take-append_seam, take-append-add}
 use Rattle.hp_print.specs.Print.{indentation}
@@ -28,3 +28,10 @@ pub written : (into items now piece : List ℕ) (n r at : ℕ) → length into �
 written into items now piece n r at len is same =
     ap (take r) (ap (λ k. take k (into ++ drop (length into) items)) (sym len) ∙ take-append_seam into (drop (length into) items))
     ∙ is ∙ ap (λ xs. xs ++ piece) same
+
+-- a line is written piece by piece
+pub line_written : (start a b c d front text : List ℕ) (left right : ℕ) → a ≡ start ++ front → b ≡ a ++ left ∷ [] → c ≡ b ++ text → d ≡ c ++ right ∷ 10 ∷ [] → d ≡ start ++ (front ++ left ∷ (text ++ right ∷ 10 ∷ []))
+line_written start a b c d front text left right e f g h = rw (h, g, f, e) (simp append_assoc)
+
+pub pair_written : (start a b c d e front name between value behind : List ℕ) → a ≡ start ++ front → b ≡ a ++ name → c ≡ b ++ between → d ≡ c ++ value → e ≡ d ++ behind → e ≡ start ++ (front ++ name ++ between ++ value ++ behind)
+pair_written start a b c d e front name between value behind f g h i j = rw (j, i, h, g, f) (simp append_assoc)

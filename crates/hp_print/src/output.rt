@@ -1,6 +1,6 @@
 //! Where the printed text goes: it is gathered in memory of one size, which goes to the sink whenever it is full.
 
-ghost use Rattle.std.specs.Prelude.{◌≡◌, ◌+◌, ◌^◌, ◌<◌, ◌≤◌, ◌++◌, [], ◌∷◌, IfOk, length, replicate, codes, encode_utf8_all};
+ghost use Rattle.std.specs.Prelude.{◌≡◌, ◌+◌, ◌^◌, ◌<◌, ◌≤◌, ◌++◌, [], ◌∷◌, IfOk, length, codes, encode_utf8_all};
 ghost use Rattle.std.specs.Str.{chars};
 ghost use Rattle.hp_print.specs.Out.{Finished, IsEmpty, Prints, Starts};
 ghost use Rattle.hp_print.specs.Print.{indentation};
@@ -34,7 +34,6 @@ impl Out {
     }
 
     /// Prints these bytes.
-    #[tactic(auto, using(crate::proofs::Pieces::gathers, crate::proofs::Pieces::failed))]
     #[inline]
     pub fn put<K: Sink>(&mut self, sink: &mut K, piece: &[u8])
         ensures { Prints self.old self.new (K.taken sink.old, K.faults sink.old) (K.taken sink.new, K.faults sink.new) piece.now }
@@ -55,14 +54,6 @@ impl Out {
         ensures { Prints self.old self.new (K.taken sink.old, K.faults sink.old) (K.taken sink.new, K.faults sink.new) piece.now }
     {
         self.flush(sink);
-        self.put_first(sink, piece);
-    }
-
-    /// Prints these bytes where nothing is gathered.
-    fn put_first<K: Sink>(&mut self, sink: &mut K, piece: &[u8])
-        requires { IsEmpty self.old }
-        ensures { Prints self.old self.new (K.taken sink.old, K.faults sink.old) (K.taken sink.new, K.faults sink.new) piece.now }
-    {
         match self {
             Out::Gathered(gathered) => {
                 if !gathered.append(piece) {
@@ -113,7 +104,6 @@ impl Out {
     }
 
     /// Prints a line of this depth: a text between two marks.
-    #[tactic(auto, using(crate::proofs::Pieces::gathers, crate::proofs::Pieces::failed))]
     #[inline(always)]
     pub fn put_line<K: Sink>(&mut self, sink: &mut K, depth: u64, left: u8, text: &str, right: u8)
         requires { depth < 2 ^ 63 }
@@ -149,7 +139,6 @@ impl Out {
     }
 
     /// Prints a line of this depth: a name and a value.
-    #[tactic(auto, using(crate::proofs::Pieces::gathers, crate::proofs::Pieces::failed))]
     #[inline(always)]
     pub fn put_pair<K: Sink>(&mut self, sink: &mut K, depth: u64, name: &str, value: &str)
         requires { depth < 2 ^ 63 }
@@ -178,18 +167,6 @@ impl Out {
         self.put(sink, b"\"\n");
     }
 
-    /// Prints so many spaces.
-    fn put_blanks<K: Sink>(&mut self, sink: &mut K, blanks: u64)
-        ensures { Prints self.old self.new (K.taken sink.old, K.faults sink.old) (K.taken sink.new, K.faults sink.new) (replicate blanks 32) }
-    {
-        let mut left = blanks;
-        while left > 64 {
-            self.put(sink, &BLANKS);
-            left -= 64;
-        }
-        self.put(sink, &BLANKS[..left as usize]);
-    }
-
     /// Prints what a line of this depth begins with.
     #[inline]
     pub fn indent<K: Sink>(&mut self, sink: &mut K, depth: u64)
@@ -210,6 +187,11 @@ impl Out {
         ensures { Prints self.old self.new (K.taken sink.old, K.faults sink.old) (K.taken sink.new, K.faults sink.new) (indentation depth) }
     {
         self.put(sink, b"| ");
-        self.put_blanks(sink, depth + depth);
+        let mut left = depth + depth;
+        while left > 64 {
+            self.put(sink, &BLANKS);
+            left -= 64;
+        }
+        self.put(sink, &BLANKS[..left as usize]);
     }
 }

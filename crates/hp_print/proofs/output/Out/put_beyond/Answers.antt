@@ -1,5 +1,22 @@
-use Rattle.hp_print.proofs.Pieces.{prints_then}
+use Rattle.hp_print.proofs.Pieces.{broke_past, failed, gathers, prints_then, wrote_past}
 use Rattle.hp_print.proofs.output.Out.put_beyond.Goals as goal
 
-pub returns : goal.returns
-returns g c = prints_then _ _ _ _ _ _ _ _ c.flush.ensures.printed c.put_first.ensures
+pub returns-in-Err : goal.returns-in-Err
+returns-in-Err g c =
+    let empty = rw c.in-Gathered.is at c.flush.ensures.empty in
+    prints_then _ _ _ _ _ _ _ _ c.flush.ensures.printed
+    (rw c.in-Gathered.is (broke_past c.in-Gathered.gathered _ _ c.args.piece.now c.in-Err.field-0.taken empty c.in-Err.ensures.proper c.in-Err.ensures.part c.in-Err.ensures.failed))
+
+pub returns-in-Ok : goal.returns-in-Ok
+returns-in-Ok g c =
+    let empty = rw c.in-Gathered.is at c.flush.ensures.empty in
+    let kept = c.append.ensures.kept c.if-not-append.true in
+    prints_then _ _ _ _ _ _ _ _ c.flush.ensures.printed
+    (rw (c.in-Gathered.is, kept) (wrote_past c.in-Gathered.gathered _ _ c.args.piece.now empty c.in-Ok.ensures.whole c.in-Ok.ensures.no_fault))
+
+pub returns-else-not-append : goal.returns-else-not-append
+returns-else-not-append g c =
+    prints_then _ _ _ _ _ _ _ _ c.flush.ensures.printed (rw c.in-Gathered.is (gathers c.in-Gathered.gathered c.append.new.self _ _ (c.append.ensures.whole c.if-not-append.false)))
+
+pub returns-in-Failed : goal.returns-in-Failed
+returns-in-Failed g c = prints_then _ _ _ _ _ _ _ _ c.flush.ensures.printed (rw c.in-Failed.is (failed _ _))
