@@ -11,7 +11,7 @@ unfolding masks_of
 returns c =
     let sets : c.match-namespace.sets.now ≡ masks_of c.args.namespace =
     elim c.match-namespace.branch [
-      in-Html w ↦ ap (λ s. s.now) w.sets-is ∙ ap masks_of (sym w.in-Html.is)
+      | in-Html w ↦ ap (λ s. s.now) w.sets-is ∙ ap masks_of (sym w.in-Html.is)
       | in-MathMl w ↦ ap (λ s. s.now) w.sets-is ∙ ap masks_of (sym w.in-MathMl.is)
       | in-Svg w ↦ ap (λ s. s.now) w.sets-is ∙ ap masks_of (sym w.in-Svg.is)
     ] in
