@@ -24,6 +24,10 @@ pub put_in : {T R E : Type 0} (r : Result R E) (now items : List T) (at : ℕ) (
     → OnOk r (now ≡ insert items at item) × OnErr r (now ≡ items)
 put_in r now items at first item ok err e = rw e (ok, err)
 
+-- a place in a list of one
+pub at_most_one : {T : Type 0} {items array : List T} (at : ℕ) → items ≡ array → length array ≡ 1 → at ≤ length items → at ≤ 1
+at_most_one at here one within = omega (arith, ap length here)
+
 -- an item that is put at the end
 pub at_end : {T : Type 0} (now items back : List T) (end : ℕ) (last : T) → now ≡ insert items end last → end ≡ length items → back ≡ last ∷ [] → now ≡ items ++ back
 at_end {T} now items back end last is e b =

@@ -1,7 +1,10 @@
 use Rattle.std.proofs.Common.{ap, rules}
 use Rattle.hp_elements.specs.Lists.{listed}
-use Rattle.hp_elements.proofs.ListLemmas.{kept, only, put_in}
+use Rattle.hp_elements.proofs.ListLemmas.{at_most_one, kept, only, put_in}
 use Rattle.hp_elements.proofs.list.inserted.Goals as goal
+
+pub two-requires : goal.two-requires
+two-requires g c = (search rules, at_most_one c.args.at (ap listed c.in-One.is) (search rules) c.requires)
 
 pub returns-in-One : goal.returns-in-One
 returns-in-One g c =
