@@ -6,6 +6,7 @@ pub mod EndLemmas
 pub mod StandingLemmas
 pub mod NothingLemmas
 pub mod TextTests
+pub mod TagTests
 pub mod StartLemmas
 pub mod OlderLemmas
 mod Setting

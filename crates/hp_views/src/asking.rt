@@ -1,5 +1,5 @@
 //! One call for each kind of question: it asks, and reads the answer.
-ghost use Rattle.std.specs.Prelude.{◌≡◌, ◌+◌, ◌<◌, ◌^◌, [], IfOk, IfSome};
+ghost use Rattle.std.specs.Prelude.{◌≡◌, ◌+◌, ◌<◌, ◌^◌, IfOk, IfSome};
 ghost use Rattle.hp_views.specs.Asking.{ask_seen, ask_reach, ask_run, ask_template, ask_reset, ask_quiet, ask_listed, ask_same, ask_pointer, ask_quirks, ask_last_tag, ask_body, ask_frameset};
 ghost use Rattle.hp_views.specs.Asking.{IsShort, ask_foreign, ask_there};
 ghost use Rattle.hp_views.specs.View.{Learns};

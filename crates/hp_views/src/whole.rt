@@ -1,5 +1,5 @@
 //! A view that is a whole state: how it begins and ends.
-ghost use Rattle.std.specs.Prelude.{◌≡◌, Option};
+ghost use Rattle.std.specs.Prelude.{◌≡◌};
 ghost use Rattle.hp_control.specs.States.{IsValid};
 ghost use Rattle.hp_control.specs.Faithful.{StandsOn, state_over};
 ghost use Rattle.hp_control.specs.Nothing.{nothing};

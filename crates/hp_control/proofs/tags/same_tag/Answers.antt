@@ -1,25 +1,20 @@
-use Rattle.std.proofs.Common.{◌≡◌, Bool, true, false, refl, sym, ap, ◌∙◌}
+use Rattle.std.proofs.Common.{◌≡◌, refl, sym, ◌∙◌}
 use Rattle.std.specs.Prelude.{◌&&◌}
 use Rattle.std.specs.Str.{bytes_eq}
 use Rattle.hp_elements.specs.Sets.{same_namespace}
 use Rattle.hp_control.specs.Walks.{among}
-use Rattle.hp_control.proofs.tags.same_tag.Goals.{then-same_namespace, else-same_namespace, then-same_name, else-same_name}
+use Rattle.hp_control.proofs.TagTests.{both, neither, namespaces_alike}
+use Rattle.hp_control.proofs.tags.same_tag.Goals.{then-eq, else-eq, then-same_name, else-same_name}
 use Rattle.hp_control.proofs.tags.same_tag.Goals as goal
-
-both : {a b v r : Bool} → a ≡ true → v ≡ r → r ≡ b → v ≡ (a && b)
-both {a} {b} {v} {r} h e f = e ∙ (f ∙ ap (λ x. x && b) (sym h))
-
-neither : {a v : Bool} (b : Bool) → a ≡ false → v ≡ false → v ≡ (a && b)
-neither {a} {v} b h e = e ∙ ap (λ x. x && b) (sym h)
 
 pub returns-then-are_among : goal.returns-then-are_among
 returns-then-are_among c =
     let s = c.args.tag.now in
     let t = c.args.other.now in
-    let two : c.if-same_namespace.value ≡ (same_namespace s.namespace t.namespace && bytes_eq s.name t.name) =
-    elim c.if-same_namespace.branch [
-      | then-same_namespace w ↦ both (sym c.same_namespace.ensures ∙ w.if-same_namespace.true) w.value-is w.same_name.ensures
-      | else-same_namespace w ↦ neither _ (sym c.same_namespace.ensures ∙ w.if-same_namespace.false) (cc)
+    let two : c.if-eq.value ≡ (same_namespace s.namespace t.namespace && bytes_eq s.name t.name) =
+    elim c.if-eq.branch [
+      | then-eq w ↦ both (sym (c.eq.ensures ∙ namespaces_alike s.namespace t.namespace) ∙ w.if-eq.true) w.value-is w.same_name.ensures
+      | else-eq w ↦ neither _ (sym (c.eq.ensures ∙ namespaces_alike s.namespace t.namespace) ∙ w.if-eq.false) (cc)
     ] in
     let three : c.if-same_name.value ≡ (same_namespace s.namespace t.namespace && bytes_eq s.name t.name && among s.attributes t.attributes) =
     elim c.if-same_name.branch [
@@ -32,10 +27,10 @@ pub returns-else-are_among : goal.returns-else-are_among
 returns-else-are_among c =
     let s = c.args.tag.now in
     let t = c.args.other.now in
-    let two : c.if-same_namespace.value ≡ (same_namespace s.namespace t.namespace && bytes_eq s.name t.name) =
-    elim c.if-same_namespace.branch [
-      | then-same_namespace w ↦ both (sym c.same_namespace.ensures ∙ w.if-same_namespace.true) w.value-is w.same_name.ensures
-      | else-same_namespace w ↦ neither _ (sym c.same_namespace.ensures ∙ w.if-same_namespace.false) (cc)
+    let two : c.if-eq.value ≡ (same_namespace s.namespace t.namespace && bytes_eq s.name t.name) =
+    elim c.if-eq.branch [
+      | then-eq w ↦ both (sym (c.eq.ensures ∙ namespaces_alike s.namespace t.namespace) ∙ w.if-eq.true) w.value-is w.same_name.ensures
+      | else-eq w ↦ neither _ (sym (c.eq.ensures ∙ namespaces_alike s.namespace t.namespace) ∙ w.if-eq.false) (cc)
     ] in
     let three : c.if-same_name.value ≡ (same_namespace s.namespace t.namespace && bytes_eq s.name t.name && among s.attributes t.attributes) =
     elim c.if-same_name.branch [
