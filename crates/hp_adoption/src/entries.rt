@@ -20,7 +20,6 @@ pub fn strike(list: &mut Stack<FormattingEntry>, id: u64)
 }
 
 /// Puts an entry in the place of the one of this id, where that stands there.
-#[tactic(auto, using(crate::proofs::Spots::left_stopped, crate::proofs::Spots::left_past))]
 pub fn supplant(list: &mut Stack<FormattingEntry>, id: u64, entry: FormattingEntry)
     ensures { list.new ≡ edit_at id 1 (entry ∷ []) list.old }
 {
