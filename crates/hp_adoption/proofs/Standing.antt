@@ -1,5 +1,5 @@
 -- A reconstruction that makes nothing anew.
-use Rattle.std.proofs.Common.{◌≡◌, ℕ, suc, ◌==◌, Bool, true, false, List, [], ◌∷◌, Ok, length, ap, refl, sym, subst, arith}
+use Rattle.std.proofs.Common.{◌≡◌, ℕ, suc, ◌==◌, Bool, true, false, List, [], ◌∷◌, Ok, length, slice_index_or, ap, refl, sym, subst, arith}
 use Rattle.std.specs.Prelude.{if◌then◌else◌}
 use Rattle.std.proofs.lemmas.Bool.Decides.{nat_tests}
 use Rattle.hp_control.specs.declared.element.OpenElement.{OpenElement}
@@ -36,6 +36,11 @@ still_settled stack (Element id tag) h = top_found id stack h
 still_walked : (stack : List OpenElement) (fs : List FormattingEntry) → is_still stack fs ≡ true → stale_walk stack fs ≡ Found 0
 still_walked stack [] h = absurd (cc)
 still_walked stack (f ∷ fs) h = ap (λ (b : Bool). if b then Found 0 else deeper 1 (stale_walk stack fs)) (still_settled stack f h)
+
+-- the last entry is the first of the list
+pub still_first : (stack : List OpenElement) (fs : List FormattingEntry) (f : FormattingEntry) → (length fs == 0) ≡ false → f ≡ slice_index_or fs 0 f → is_still stack fs ≡ is_still_at stack f
+still_first stack [] f some is = absurd (cc)
+still_first stack (x ∷ fs) f some is = ap (is_still_at stack) (sym is)
 
 pub still_runs : (h : Heard) (fostering : Bool) (v : Split) → is_still v.change.stack v.change.formatting ≡ true → Runs h h (reconstruct_plan fostering v) (Ok v)
 still_runs h fostering v s =

@@ -1,5 +1,5 @@
 -- A turn with a furthest block, from its parts.
-use Rattle.std.proofs.Common.{◌≡◌, ℕ, ◌+◌, Bool, true, false, if◌then◌else◌, List, ◌++◌, Option, Some, None, Ok, Err, take, drop, slice_get, ap, sym, subst, ◌∙◌}
+use Rattle.std.proofs.Common.{◌≡◌, ℕ, ◌+◌, Bool, true, false, if◌then◌else◌, List, [], ◌++◌, Option, Some, None, Ok, Err, take, drop, slice_get, ap, refl, sym, subst, ◌∙◌}
 use Rattle.std.specs.Option.{is_some, option_map}
 use Rattle.hp_elements.specs.declared.tag.Tag.{Tag}
 use Rattle.hp_control.specs.declared.change.Change.{Change}
@@ -9,15 +9,19 @@ use Rattle.hp_control.specs.declared.edit.Edit.{Edit}
 use Rattle.hp_control.specs.declared.edit.Place.{Place}
 use Rattle.hp_control.specs.declared.element.OpenElement.{OpenElement}
 use Rattle.hp_control.specs.declared.question.Crossing.{Crossing}
-use Rattle.hp_control.specs.Adoption.{Seat, furthest, hides}
+use Rattle.hp_control.specs.declared.element.FormattingEntry.{FormattingEntry}
+use Rattle.hp_control.specs.Adoption.{Seat, edit_at, furthest, hides}
 use Rattle.hp_control.specs.Faithful.{Split}
 use Rattle.hp_control.specs.Plan.{Plan, gives, Heard, Runs}
 use Rattle.hp_control.specs.Running.{runs_gives, runs_then, runs_crosses}
+use Rattle.hp_views.specs.FieldPlans.{with_change}
+use Rattle.hp_views.specs.ListPlans.{with_entries}
 use Rattle.hp_views.specs.PlacePlans.{place_plan}
+use Rattle.hp_views.specs.StackPlans.{own_popped}
 use Rattle.hp_views.specs.View.{Sight, Carries, Finds}
 use Rattle.hp_views.specs.declared.walks.Walk.TheVariants.{Found}
 use Rattle.hp_adoption.specs.Entries.{ref_of}
-use Rattle.hp_adoption.specs.AdoptPlans.{Turned, below_depth, with_adopted, untangled, untangle_in, untangle_at, block_turn, own_turn, stays}
+use Rattle.hp_adoption.specs.AdoptPlans.{Turned, below_depth, with_adopted, untangled, untangle_in, untangle_at, block_turn, own_turn, stays, struck}
 use Rattle.hp_adoption.specs.Turning.{Turns, adopted_parts, seat_depth, with_parts}
 use Rattle.hp_adoption.proofs.Nearest.{furthest_at}
 
@@ -60,6 +64,31 @@ block_refused fostering id tag depth k v start new crossing (Some seat) h run = 
 -- the element is open at that depth, and this is what stands above it
 abbrev open_by : Bool → ℕ → Tag → ℕ → Split → Bool → Option Seat → Plan Turned
 open_by fostering id tag depth v hidden o = if hidden then stays v else block_turn fostering id tag depth v o
+
+-- the end of a scope stands above it
+pub turn_hidden : (now : Heard) (fostering : Bool) (id : ℕ) (tag : Tag) (depth : ℕ) (v : Split) → hides (take depth v.change.stack) ≡ true → Runs now now (own_turn fostering id tag v (Found depth)) (Ok (record { split = v; goes_on = false }))
+turn_hidden now fostering id tag depth v h =
+    let P : Bool → Type 0 = λ b. Runs now now (open_by fostering id tag depth v b (furthest (take depth v.change.stack))) (Ok (record { split = v; goes_on = false })) in
+    subst P (sym h) (runs_gives now (record { split = v; goes_on = false }))
+
+no_seat : (o : Option Seat) → seat_depth o ≡ None → o ≡ None
+no_seat None e = refl
+no_seat (Some seat) e = absurd (cc)
+
+-- no special element stands above it: it is popped, and its entry taken off
+pub turn_popped : (old now : Heard) (fostering : Bool) (id : ℕ) (tag : Tag) (depth : ℕ) (v popped : Split) (list : List FormattingEntry) → hides (take depth v.change.stack) ≡ false → seat_depth (furthest (take depth v.change.stack)) ≡ None
+    → now ≡ old → popped ≡ own_popped (depth + 1) v → list ≡ edit_at id 1 [] popped.change.formatting
+    → Runs old now (own_turn fostering id tag v (Found depth)) (Ok (record { split = with_change (with_entries list popped.change) popped; goes_on = false }))
+turn_popped old now fostering id tag depth v popped list h s same p gone =
+    let left : Split = struck id (own_popped (depth + 1) v) in
+    let seats : Option Seat = furthest (take depth v.change.stack) in
+    let plan : open_by fostering id tag depth v (hides (take depth v.change.stack)) seats ≡ gives (record { split = left; goes_on = false }) =
+    ap (λ (b : Bool). open_by fostering id tag depth v b seats) h ∙ ap (open_by fostering id tag depth v false) (no_seat seats s) in
+    let is : with_change (with_entries list popped.change) popped ≡ left = ap (λ (l : List FormattingEntry). with_change (with_entries l popped.change) popped) gone ∙ ap (struck id) p in
+    let P : Plan Turned → Type 0 = λ q. Runs old old q (Ok (record { split = left; goes_on = false })) in
+    let Q : Heard → Type 0 = λ k. Runs old k (own_turn fostering id tag v (Found depth)) (Ok (record { split = left; goes_on = false })) in
+    let R : Split → Type 0 = λ w. Runs old now (own_turn fostering id tag v (Found depth)) (Ok (record { split = w; goes_on = false })) in
+    subst R (sym is) (subst Q (sym same) (subst P (sym plan) (runs_gives old (record { split = left; goes_on = false }))))
 
 pub turn_tangled : (fostering : Bool) (id : ℕ) (tag : Tag) (depth k : ℕ) (old new : Sight) → hides (take depth old.split.change.stack) ≡ false → seat_depth (furthest (take depth old.split.change.stack)) ≡ Some k
     → Carries (Ok tt) old new (untangle_at fostering id tag depth k) → Turns (Ok true) old new (λ v. own_turn fostering id tag v (Found depth))

@@ -87,13 +87,7 @@ entry_turn fostering v _ = stays v
 abbrev pub walk_turn : List ℕ → Split → Plan Turned
 walk_turn name v = followed_by (walk_plan name v) (λ w. gives (record { split = w; goes_on = false }))
 
--- has a turn whose older entry stands so to change older elements
-abbrev pub changes_older : List OpenElement → EntryKind → Bool
-changes_older stack Absent = false
-changes_older stack Closed = true
-changes_older stack Hidden = false
-changes_older stack InScope = not (hides stack)
-
+-- by how the older entry stands: a turn that has to change older elements crosses
 abbrev pub kind_turn : List ℕ → Split → EntryKind → Plan Turned
 kind_turn name v Absent = walk_turn name v
 kind_turn name v Closed = crosses X1

@@ -1,7 +1,7 @@
 //! A turn of the adoption agency algorithm that finds a furthest block (13.2.6.4.7).
 ghost use Rattle.std.specs.Prelude.{◌≡◌, ◌+◌, ◌<◌, ◌++◌, ◌∷◌, IfOk, Some, length, take, drop, slice_get};
 ghost use Rattle.hp_control.specs.Acts.{element_for as spec_element_for};
-ghost use Rattle.hp_control.specs.Adoption.{settled};
+ghost use Rattle.hp_control.specs.Adoption.{pass_all, settled};
 ghost use Rattle.hp_views.specs.View.{sight, Carries};
 ghost use Rattle.hp_adoption.specs.Entries.{ref_of};
 ghost use Rattle.hp_adoption.specs.AdoptPlans.{untangle_at};
@@ -144,19 +144,22 @@ struct Formatted {
     is_page: bool,
 }
 
-/// The last steps of a turn, from what the climb has made: the stack without its part above the formatting element gets that part
-/// anew, of which `above` is what stood above the block. The last edits follow the climb's own.
+/// The climb past `between`, which stands between the block and the formatting element, and then the last steps of a turn: the
+/// stack without its part above the formatting element gets that part anew, of which `above` is what stood above the block. The last
+/// edits follow the climb's own.
 fn put_together(
     alloc: Global,
     change: &mut Change,
     climb: &mut Climb<'_>,
     element: Formatted,
     block: u64,
+    between: &[OpenElement],
     above: List<OpenElement>,
 ) -> Result<(), NoMemory>
-    ensures change { IfOk result (λ _. change.new ≡ with_parts (closed_parts (ref_of element.is_page) element.place element.id element.tag above block climb.old) change.old) }
-    ensures edits { IfOk result (λ _. climb.new.edits ≡ (closed_parts (ref_of element.is_page) element.place element.id element.tag above block climb.old).edits) }
+    ensures change { IfOk result (λ _. change.new ≡ with_parts (closed_parts (ref_of element.is_page) element.place element.id element.tag above block (pass_all (ref_of element.is_page) block 0 between.now climb.old)) change.old) }
+    ensures edits { IfOk result (λ _. climb.new.edits ≡ (closed_parts (ref_of element.is_page) element.place element.id element.tag above block (pass_all (ref_of element.is_page) block 0 between.now climb.old)).edits) }
 {
+    climb.pass_all(alloc, element.is_page, block, between)?;
     let id = climb.next;
     let kept = mem::replace(&mut climb.kept, List::new());
     restack(alloc, &mut change.stack, kept, id, &element.tag, above)?;
@@ -189,7 +192,7 @@ fn put_together(
     Ok(())
 }
 
-/// The same from the parts of the stack: the climb, and then the last steps.
+/// The same from the parts of the stack.
 fn rebuild<'p>(
     alloc: Global,
     change: &mut Change,
@@ -200,13 +203,17 @@ fn rebuild<'p>(
     ensures change { IfOk result (λ _. change.new ≡ with_parts (adopted_parts (ref_of element.is_page) element.place element.id element.tag over.above over.block over.between change.old.formatting change.old.made) change.old) }
     ensures edits { IfOk result (λ _. edits.new ≡ edits.old ++ (adopted_parts (ref_of element.is_page) element.place element.id element.tag over.above over.block over.between change.old.formatting change.old.made).edits) }
 {
-    let block = over.block.id;
-    let is_page = element.is_page;
+    let Over {
+        above,
+        block,
+        between,
+    } = over;
+    let id = block.id;
     let list = mem::replace(&mut change.formatting, Stack::new());
     let before = mem::replace(edits, Edits::new());
-    let mut climb = Climb::at_block(over.block, list, change.made, before);
-    climb.pass_all(alloc, is_page, block, over.between.as_slice())?;
-    let done = put_together(alloc, change, &mut climb, element, block, over.above);
+    let mut climb = Climb::at_block(block, list, change.made, before);
+    let between = between.as_slice();
+    let done = put_together(alloc, change, &mut climb, element, id, between, above);
     mem::swap(edits, &mut climb.edits);
     done
 }

@@ -8,7 +8,6 @@ use hp_views::{Walk, listed_walk};
 use std::alloc::Global;
 
 /// Takes the entry of this id off the list, where it stands there.
-#[tactic(auto, using(crate::proofs::Spots::left_stopped, crate::proofs::Spots::left_past))]
 pub fn strike(list: &mut Stack<FormattingEntry>, id: u64)
     ensures { list.new ≡ edit_at id 1 [] list.old }
 {
@@ -20,7 +19,6 @@ pub fn strike(list: &mut Stack<FormattingEntry>, id: u64)
 }
 
 /// Puts an entry in the place of the one of this id, where that stands there.
-#[tactic(auto, using(crate::proofs::Spots::left_stopped, crate::proofs::Spots::left_past))]
 pub fn supplant(list: &mut Stack<FormattingEntry>, id: u64, entry: FormattingEntry)
     ensures { list.new ≡ edit_at id 1 (entry ∷ []) list.old }
 {
@@ -34,7 +32,6 @@ pub fn supplant(list: &mut Stack<FormattingEntry>, id: u64, entry: FormattingEnt
 }
 
 /// Puts an entry just after the one of this id, where that stands there.
-#[tactic(auto, using(crate::proofs::Spots::left_stopped, crate::proofs::Spots::left_past))]
 pub fn follow(
     alloc: Global,
     list: &mut Stack<FormattingEntry>,

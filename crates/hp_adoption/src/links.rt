@@ -1,30 +1,13 @@
 //! The start of a link closes one that is open (13.2.6.4.7).
 ghost use Rattle.std.specs.Prelude.{◌≡◌, ◌<◌, length, slice_get};
-ghost use Rattle.hp_control.specs.Plan.{followed_by};
 ghost use Rattle.hp_views.specs.View.{sight, Carries};
-ghost use Rattle.hp_adoption.specs.AdoptPlans.{adopt_plan};
-ghost use Rattle.hp_adoption.specs.LinkPlans.{gone_plan, close_own_plan, close_older_plan, close_link_plan};
+ghost use Rattle.hp_adoption.specs.LinkPlans.{close_own_plan, close_older_plan, close_link_plan};
 
 use crate::plain::adopt;
 use hp_control::{Below, Crossing, EntryKind, FormattingEntry, Refusal};
 use hp_elements::{Known, Name};
 use hp_views::{View, Walk, name_walk, older_listed};
 use std::alloc::Global;
-
-/// Adopts the last entry of the name, and then takes the element of this id off list and stack.
-fn adopt_and_leave<'p, B: Below>(
-    alloc: Global,
-    view: &mut View<'p, B>,
-    fostering: bool,
-    name: Name,
-    id: u64,
-) -> Result<(), Refusal>
-    ensures { Carries result (sight B.heard view.old) (sight B.heard view.new) (λ v. followed_by (adopt_plan fostering name v) (gone_plan id)) }
-{
-    adopt(alloc, view, fostering, name)?;
-    view.remove_entry(alloc, id)?;
-    view.take_off(alloc, id)
-}
 
 /// Adopts the link of the own entry at that depth, and then takes its element off list and stack.
 fn close_own<'p, B: Below>(
@@ -36,13 +19,13 @@ fn close_own<'p, B: Below>(
     requires { at < length view.old.change.formatting }
     ensures { Carries result (sight B.heard view.old) (sight B.heard view.new) (λ v. close_own_plan fostering v (slice_get v.change.formatting at)) }
 {
-    match view.change.formatting.at(at) {
-        FormattingEntry::Marker => Ok(()),
-        FormattingEntry::Element { id, .. } => {
-            let id = *id;
-            adopt_and_leave(alloc, view, fostering, Name::of_known(Known::A), id)
-        }
-    }
+    let FormattingEntry::Element { id, .. } = view.change.formatting.at(at) else {
+        return Ok(());
+    };
+    let id = *id;
+    adopt(alloc, view, fostering, Name::of_known(Known::A))?;
+    view.remove_entry(alloc, id)?;
+    view.take_off(alloc, id)
 }
 
 /// Where the older list has a link, it would go.

@@ -3,7 +3,7 @@ ghost use Rattle.std.specs.Prelude.{◌≡◌};
 ghost use Rattle.std.specs.List.{list_all};
 ghost use Rattle.hp_control.specs.Composed.{is_white as spec_is_white};
 ghost use Rattle.hp_views.specs.View.{sight, Carries};
-ghost use Rattle.hp_adoption.specs.FlushPlans.{foster_text, flush_text, flush_plan};
+ghost use Rattle.hp_adoption.specs.FlushPlans.{foster_text, flush_plan};
 
 use crate::reconstruction::reconstruct;
 use hp_control::{Below, Child, Crossing, Refusal};
@@ -48,23 +48,6 @@ fn foster<'p, B: Below>(
     view.frameset_not_ok(alloc)
 }
 
-/// Puts characters into the tree.
-fn put_text<'p, B: Below>(
-    alloc: Global,
-    view: &mut View<'p, B>,
-    text: Text<'p>,
-) -> Result<(), Refusal>
-    ensures { Carries result (sight B.heard view.old) (sight B.heard view.new) (flush_text text.entry) }
-{
-    if text.is_empty() {
-        Ok(())
-    } else if are_white(&text) {
-        view.put(alloc, false, Child::Text(text))
-    } else {
-        foster(alloc, view, text)
-    }
-}
-
 /// Puts the pending table characters into the tree: at the current node where all are white, and else where content goes that may
 /// not stand in a table. They are one text. Where the chunk began among them, it crosses.
 pub fn flush<'p, B: Below>(alloc: Global, view: &mut View<'p, B>) -> Result<(), Refusal>
@@ -74,5 +57,11 @@ pub fn flush<'p, B: Below>(alloc: Global, view: &mut View<'p, B>) -> Result<(), 
         return Err(Refusal::Crossed(Crossing::X7));
     }
     let text = mem::replace(&mut view.change.pending, Text::new());
-    put_text(alloc, view, text)
+    if text.is_empty() {
+        Ok(())
+    } else if are_white(&text) {
+        view.put(alloc, false, Child::Text(text))
+    } else {
+        foster(alloc, view, text)
+    }
 }

@@ -2,7 +2,7 @@
 ghost use Rattle.std.specs.Prelude.{◌≡◌};
 ghost use Rattle.hp_views.specs.View.{sight, Carries};
 ghost use Rattle.hp_views.specs.Walks.{IsWithin};
-ghost use Rattle.hp_adoption.specs.Still.{is_still, is_still_at};
+ghost use Rattle.hp_adoption.specs.Still.{is_still_at};
 ghost use Rattle.hp_adoption.specs.ReconPlans.{is_settled as spec_is_settled, stale_walk as spec_stale_walk, renew_plan, renew_down_plan, reconstruct_plan};
 
 use hp_control::{Below, Change, Crossing, FormattingEntry, OpenElements, Refusal};
@@ -95,14 +95,6 @@ fn is_still_at(stack: &OpenElements, entry: &FormattingEntry) -> bool
     }
 }
 
-/// Whether the last entry is.
-#[inline(always)]
-fn is_still(change: &Change) -> bool
-    ensures { result ≡ is_still change.now.stack change.now.formatting }
-{
-    !change.formatting.is_empty() && is_still_at(&change.stack, change.formatting.at(0))
-}
-
 /// Makes the elements anew of the entries after the last one that is a marker or open; `fostering` says that they may not stand
 /// in a table. Where an older entry would be made anew, it crosses.
 #[inline(always)]
@@ -116,7 +108,8 @@ pub fn reconstruct<'p, B: Below>(
     if view.change.formatting.is_empty() {
         return reconstruct_below(alloc, view, fostering);
     }
-    if is_still(&view.change) {
+    let change = &view.change;
+    if is_still_at(&change.stack, change.formatting.at(0)) {
         return Ok(());
     }
     reconstruct_any(alloc, view, fostering)

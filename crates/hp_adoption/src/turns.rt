@@ -1,19 +1,16 @@
 //! The turns of the adoption agency algorithm (13.2.6.4.7).
-ghost use Rattle.std.specs.Prelude.{◌≡◌, ◌+◌, ◌^◌, ◌<◌, ◌≤◌, length, slice_get, take, true, IfOk, IfSome};
+ghost use Rattle.std.specs.Prelude.{◌≡◌, ◌+◌, ◌^◌, ◌<◌, ◌≤◌, length, slice_get, take, true, IfSome};
 ghost use Rattle.hp_control.specs.Adoption.{hides as spec_hides, furthest as spec_furthest};
 ghost use Rattle.hp_views.specs.View.{sight, Carries};
-ghost use Rattle.hp_views.specs.Walks.{id_walk};
 ghost use Rattle.hp_views.specs.declared.walks.Walk.TheVariants.{Found};
-ghost use Rattle.hp_adoption.specs.AdoptPlans.{changes_older, own_turn, entry_turn, walk_turn, older_turn, turn_plan, turns_plan};
+ghost use Rattle.hp_adoption.specs.AdoptPlans.{own_turn, entry_turn, walk_turn, older_turn, turn_plan, turns_plan};
 ghost use Rattle.hp_adoption.specs.Entries.{is_element, tag_in};
 ghost use Rattle.hp_adoption.specs.Turning.{Turns, seat_depth};
 
 use crate::adopting::{Tangle, untangle};
 use crate::entries::strike;
-use hp_control::{
-    Below, Crossing, EntryKind, FormattingEntry, OpenElements, Refusal, Stack, is_within,
-};
-use hp_elements::{Kinds, Name, NoMemory, SetName, Tag};
+use hp_control::{Below, Crossing, EntryKind, FormattingEntry, OpenElements, Refusal, is_within};
+use hp_elements::{Kinds, Name, SetName};
 use hp_views::{View, Walk, name_walk, older_listed, open_walk};
 use std::alloc::Global;
 
@@ -45,44 +42,7 @@ fn furthest(stack: &OpenElements, depth: usize) -> Option<usize>
     None
 }
 
-/// The tag of the entry at that depth of the list, which is an element's.
-fn tag_at(alloc: Global, list: &Stack<FormattingEntry>, at: usize) -> Result<Tag, NoMemory>
-    requires inside { at < length list.now }
-    requires listed { is_element (slice_get list.now at) ≡ true }
-    ensures { IfOk result (λ tag. tag ≡ tag_in (slice_get list.now at)) }
-{
-    match list.at(at) {
-        FormattingEntry::Element { tag, .. } => tag.copy(alloc),
-        FormattingEntry::Marker => unreachable!(),
-    }
-}
-
-/// A turn whose formatting element is an own one, with its entry at that depth of the own list.
-fn turn_own<'p, B: Below>(
-    alloc: Global,
-    view: &mut View<'p, B>,
-    fostering: bool,
-    id: u64,
-    at: usize,
-) -> Result<bool, Refusal>
-    requires inside { at < length view.old.change.formatting }
-    requires listed { is_element (slice_get view.old.change.formatting at) ≡ true }
-    ensures { Turns result (sight B.heard view.old) (sight B.heard view.new) (λ v. own_turn fostering id (tag_in (slice_get v.change.formatting at)) v (id_walk id v.change.stack)) }
-{
-    match open_walk(&view.change.stack, id) {
-        Walk::Found(depth) => turn_open(alloc, view, fostering, id, at, depth),
-        Walk::Stopped => {
-            strike(&mut view.change.formatting, id);
-            Ok(false)
-        }
-        Walk::PastAll => {
-            strike(&mut view.change.formatting, id);
-            Ok(false)
-        }
-    }
-}
-
-/// The same where that element is open, at that depth.
+/// A turn whose formatting element is an open own one, at that depth of the stack, with its entry at that depth of the own list.
 fn turn_open<'p, B: Below>(
     alloc: Global,
     view: &mut View<'p, B>,
@@ -107,7 +67,10 @@ fn turn_open<'p, B: Below>(
             Ok(false)
         }
         Some(block) => {
-            let tag = tag_at(alloc, &view.change.formatting, at)?;
+            let FormattingEntry::Element { tag, .. } = view.change.formatting.at(at) else {
+                unreachable!()
+            };
+            let tag = tag.copy(alloc)?;
             untangle(alloc, view, fostering, Tangle { id, depth, block }, tag)?;
             Ok(true)
         }
@@ -124,28 +87,20 @@ fn turn_entry<'p, B: Below>(
     requires { at < length view.old.change.formatting }
     ensures { Turns result (sight B.heard view.old) (sight B.heard view.new) (λ v. entry_turn fostering v (slice_get v.change.formatting at)) }
 {
-    match view.change.formatting.at(at) {
-        FormattingEntry::Marker => Ok(false),
-        FormattingEntry::Element { id, .. } => {
-            let id = *id;
-            turn_own(alloc, view, fostering, id, at)
+    let FormattingEntry::Element { id, .. } = view.change.formatting.at(at) else {
+        return Ok(false);
+    };
+    let id = *id;
+    match open_walk(&view.change.stack, id) {
+        Walk::Found(depth) => turn_open(alloc, view, fostering, id, at, depth),
+        Walk::Stopped | Walk::PastAll => {
+            strike(&mut view.change.formatting, id);
+            Ok(false)
         }
     }
 }
 
-/// Whether a turn whose older entry stands so has to change older elements. One without such an entry never does.
-fn crosses(kind: EntryKind, stack: &OpenElements) -> bool
-    ensures { result ≡ changes_older stack.now kind }
-{
-    match kind {
-        EntryKind::Absent => false,
-        EntryKind::Closed => true,
-        EntryKind::Hidden => false,
-        EntryKind::InScope => !hides(stack, stack.len()),
-    }
-}
-
-/// A turn whose entry, where there is one, is older.
+/// A turn whose entry, where there is one, is older. Where it has to change older elements, it crosses.
 fn turn_older<'p, B: Below>(
     alloc: Global,
     view: &mut View<'p, B>,
@@ -156,12 +111,18 @@ fn turn_older<'p, B: Below>(
     let depth = view.change.popped;
     let cuts = view.change.cuts;
     let standing = older_listed(&mut view.below, alloc, depth, cuts, name.copy(alloc)?)?;
-    if crosses(standing.kind, &view.change.stack) {
-        return Err(Refusal::Crossed(Crossing::X1));
-    }
     match standing.kind {
         EntryKind::Absent => walk(alloc, view, name),
-        _ => Ok(false),
+        EntryKind::Closed => Err(Refusal::Crossed(Crossing::X1)),
+        EntryKind::Hidden => Ok(false),
+        EntryKind::InScope => {
+            let stack = &view.change.stack;
+            if hides(stack, stack.len()) {
+                Ok(false)
+            } else {
+                Err(Refusal::Crossed(Crossing::X1))
+            }
+        }
     }
 }
 

@@ -1,6 +1,6 @@
 //! The attributes of an element, in the order in which they are printed.
 
-ghost use Rattle.std.specs.Prelude.{◌≡◌, ◌+◌, ◌^◌, ◌++◌, ◌<◌, ◌≤◌, IfOk, IfSome, IsTrue, length, vec_len, vec_capacity};
+ghost use Rattle.std.specs.Prelude.{◌≡◌, ◌^◌, ◌++◌, ◌<◌, ◌≤◌, IfOk, IfSome, IsTrue, length, vec_capacity};
 ghost use Rattle.std.specs.List.{insert};
 ghost use Rattle.std.specs.Str.{chars};
 ghost use Rattle.hp_print.specs.Order.{by_units, comes_before, in_order, placed, printed_name, space_word, weight, InOrder};
@@ -216,20 +216,6 @@ fn place_of(sorted: &[Shown<'_>], shown: Shown<'_>) -> usize
     at
 }
 
-/// Puts an attribute among others that stand in order. There is room for it.
-fn place<'t>(sorted: &mut Vec<Shown<'t>>, shown: Shown<'t>)
-    requires { vec_len sorted.old < vec_capacity sorted.old }
-    ensures items { attributes_of sorted.new.items ≡ placed comes_before (attributes_of sorted.old.items) (attribute_of shown.entry) }
-    ensures len { vec_len sorted.new ≡ vec_len sorted.old + 1 }
-    ensures capacity { vec_capacity sorted.old ≤ vec_capacity sorted.new }
-{
-    let at = place_of(sorted.as_slice(), shown);
-    match sorted.insert(at, shown) {
-        Ok(()) => {}
-        Err(_) => unreachable!(),
-    }
-}
-
 /// Puts attributes into order, one after the other. There is room for them.
 #[inline(never)]
 fn place_all<'t>(sorted: &mut Vec<Shown<'t>>, attributes: &'t Chain<Attribute>)
@@ -239,7 +225,11 @@ fn place_all<'t>(sorted: &mut Vec<Shown<'t>>, attributes: &'t Chain<Attribute>)
 {
     sorted.clear();
     for attribute in attributes.iter() {
-        place(sorted, Shown::of(attribute));
+        let shown = Shown::of(attribute);
+        let at = place_of(sorted.as_slice(), shown);
+        let Ok(()) = sorted.insert(at, shown) else {
+            unreachable!()
+        };
     }
 }
 

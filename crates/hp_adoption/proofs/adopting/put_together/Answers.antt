@@ -16,7 +16,7 @@ returns-clause-change c =
     (c.in_ok-restack.ensures ∙ ap (λ (l : List OpenElement). (c.args.above ++ element_for c.climb.inside.next c.args.element.tag ∷ l) ++ c.args.change.now.stack) c.replace-kept.ensures.value)
     (c.swap.ensures.x_after ∙ c.in_ok-settle.ensures)
     c.in-Some.ensures.1
-    ∙ ap (λ (x : Climbed). with_parts (closed_parts (ref_of c.args.element.is_page) c.args.element.place c.args.element.id c.args.element.tag c.args.above c.args.block x) c.args.change.now) c.climb.view_is
+    ∙ ap (λ (x : Climbed). with_parts (closed_parts (ref_of c.args.element.is_page) c.args.element.place c.args.element.id c.args.element.tag c.args.above c.args.block x) c.args.change.now) (c.climb.view_is ∙ c.in_ok-pass_all.ensures)
 
 pub returns-clause-edits : goal.returns-clause-edits
 returns-clause-edits c =
@@ -26,4 +26,4 @@ returns-clause-edits c =
     ∙ (ap (λ (r : Ref). made r c.own_ref-block.result c.own_ref-made.result c.climb.inside.edits) c.own_ref-last.ensures
     ∙ (ap (λ (r : Ref). made (ref c.climb.inside.last) r c.own_ref-made.result c.climb.inside.edits) c.own_ref-block.ensures
     ∙ (ap (λ (r : Ref). made (ref c.climb.inside.last) (ref c.args.block) r c.climb.inside.edits) c.own_ref-made.ensures
-    ∙ ap (λ (x : Climbed). made (ref x.last) (ref c.args.block) (ref x.next) x.edits) c.climb.view_is)))
+    ∙ ap (λ (x : Climbed). made (ref x.last) (ref c.args.block) (ref x.next) x.edits) (c.climb.view_is ∙ c.in_ok-pass_all.ensures))))

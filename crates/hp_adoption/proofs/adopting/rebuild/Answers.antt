@@ -20,11 +20,12 @@ returns-clause-change c =
     c.at_block-climb.ensures
     ∙ (ap (λ (es : List Edit). block_after es block c.replace-list.result next) c.replace-before.ensures.value
     ∙ ap (λ (l : List FormattingEntry). block_after c.args.edits.now block l next) c.replace-list.ensures.value) in
-    let top : c.pass_all.new.self ≡ pass_all ref block.id 0 c.args.over.between c.at_block-climb.result =
-    c.in_ok-pass_all.ensures ∙ ap (λ (ns : List OpenElement). pass_all ref block.id 0 ns c.at_block-climb.result) c.as_slice.ensures in
+    let climbed : Climbed = pass_all ref block.id 0 c.as_slice-between.result.now c.at_block-climb.result in
+    let top : climbed ≡ pass_all ref block.id 0 c.args.over.between c.at_block-climb.result =
+    ap (λ (ns : List OpenElement). pass_all ref block.id 0 ns c.at_block-climb.result) c.as_slice-between.ensures in
     ok_as _ _ _ c.put_together-done.result c.put_together-done.ensures.change
-    (rebuilt_change ref c.args.element.place c.args.element.id c.args.element.tag c.args.over.above block c.args.over.between c.args.change.now.formatting next c.args.edits.now c.at_block-climb.result c.pass_all.new.self c.args.change.now
-    (with_parts (closed_parts ref c.args.element.place c.args.element.id c.args.element.tag c.args.over.above block.id c.pass_all.new.self) c.args.change.now)
+    (rebuilt_change ref c.args.element.place c.args.element.id c.args.element.tag c.args.over.above block c.args.over.between c.args.change.now.formatting next c.args.edits.now c.at_block-climb.result climbed c.args.change.now
+    (with_parts (closed_parts ref c.args.element.place c.args.element.id c.args.element.tag c.args.over.above block.id climbed) c.args.change.now)
     start top refl)
 
 pub returns-clause-edits : goal.returns-clause-edits
@@ -36,11 +37,12 @@ returns-clause-edits c =
     c.at_block-climb.ensures
     ∙ (ap (λ (es : List Edit). block_after es block c.replace-list.result next) c.replace-before.ensures.value
     ∙ ap (λ (l : List FormattingEntry). block_after c.args.edits.now block l next) c.replace-list.ensures.value) in
-    let top : c.pass_all.new.self ≡ pass_all ref block.id 0 c.args.over.between c.at_block-climb.result =
-    c.in_ok-pass_all.ensures ∙ ap (λ (ns : List OpenElement). pass_all ref block.id 0 ns c.at_block-climb.result) c.as_slice.ensures in
+    let climbed : Climbed = pass_all ref block.id 0 c.as_slice-between.result.now c.at_block-climb.result in
+    let top : climbed ≡ pass_all ref block.id 0 c.args.over.between c.at_block-climb.result =
+    ap (λ (ns : List OpenElement). pass_all ref block.id 0 ns c.at_block-climb.result) c.as_slice-between.ensures in
     ok_between c.swap.new.x c.put_together-done.new.climb.edits _ _ c.put_together-done.result
-    (c.swap.ensures.x_after ∙ ap (λ (x : Climbed). x.edits) c.climb-2.view_is)
+    (c.swap.ensures.x_after ∙ ap (λ (x : Climbed). x.edits) c.climb.view_is)
     c.put_together-done.ensures.edits
-    (rebuilt_edits ref c.args.element.place c.args.element.id c.args.element.tag c.args.over.above block c.args.over.between c.args.change.now.formatting next c.args.edits.now c.at_block-climb.result c.pass_all.new.self
-    (closed_parts ref c.args.element.place c.args.element.id c.args.element.tag c.args.over.above block.id c.pass_all.new.self).edits
+    (rebuilt_edits ref c.args.element.place c.args.element.id c.args.element.tag c.args.over.above block c.args.over.between c.args.change.now.formatting next c.args.edits.now c.at_block-climb.result climbed
+    (closed_parts ref c.args.element.place c.args.element.id c.args.element.tag c.args.over.above block.id climbed).edits
     start top refl)
