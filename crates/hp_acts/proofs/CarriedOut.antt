@@ -5,10 +5,8 @@ use Rattle.std.proofs.lemmas.Bool.{true≢false}
 use Rattle.hp_elements.specs.declared.act.Act.{Act}
 use Rattle.hp_elements.specs.declared.act.Act.TheVariants as act
 use Rattle.hp_elements.specs.declared.act.Test.{Test}
-use Rattle.hp_elements.specs.declared.act.Which.{Which}
 use Rattle.hp_elements.specs.declared.known.Known.{Known}
 use Rattle.hp_elements.specs.declared.token.Token.{Token}
-use Rattle.hp_elements.specs.declared.sets.SetName.{SetName}
 use Rattle.hp_elements.specs.declared.token.Mode.{Mode}
 use Rattle.hp_control.specs.Faithful.{Split}
 use Rattle.hp_control.specs.Plan.{Plan}
@@ -83,28 +81,6 @@ not_answered result refused old new plan other e h = let Q : Result Bool Refusal
     by_refusal : (x : Refusal) → Answers {X = Bool} (Err x) old new plan → Answers {X = Bool} (Err x) old new other
     by_refusal NoMemory h = tt
     by_refusal (Crossed crossing) h = absurd h
-
--- where the act closes nothing, by the plan of those on the fields of the state
-pub by_field : (fostering : Bool) (t : Token) (result : Result (Unit {0}) Refusal) (old new : Sight) (a : Act) → (a ≡ act.Pop → ⊥) → ((names : SetName) → a ≡ act.PopTo names → ⊥) → (a ≡ act.PopToFirst → ⊥) → (a ≡ act.PopToPoint → ⊥) → ((which : Which) → a ≡ act.Through which → ⊥) → ((names : SetName) → a ≡ act.ThroughFirstOf names → ⊥) → (a ≡ act.ThroughForeign → ⊥) → (a ≡ act.Implied → ⊥) → ((which : Which) → a ≡ act.ImpliedExcept which → ⊥) → (a ≡ act.ImpliedThoroughly → ⊥) → (a ≡ act.CloseParagraph → ⊥) → (a ≡ act.CloseItem → ⊥) → (a ≡ act.CloseDescription → ⊥) → (a ≡ act.Walk → ⊥) → ((which : Which) → a ≡ act.Adopt which → ⊥) → (a ≡ act.CloseLink → ⊥) → (a ≡ act.EndForm → ⊥) → (a ≡ act.DetachBody → ⊥) → CarriesBy result old new (field_plan a) → CarriesBy result old new (close_plan fostering t a)
-by_field f t r o n act.Pop h1 h2 h3 h4 h5 h6 h7 h8 h9 h10 h11 h12 h13 h14 h15 h16 h17 h18 h = absurd (h1 refl)
-by_field f t r o n (act.PopTo names) h1 h2 h3 h4 h5 h6 h7 h8 h9 h10 h11 h12 h13 h14 h15 h16 h17 h18 h = absurd (h2 names refl)
-by_field f t r o n act.PopToFirst h1 h2 h3 h4 h5 h6 h7 h8 h9 h10 h11 h12 h13 h14 h15 h16 h17 h18 h = absurd (h3 refl)
-by_field f t r o n act.PopToPoint h1 h2 h3 h4 h5 h6 h7 h8 h9 h10 h11 h12 h13 h14 h15 h16 h17 h18 h = absurd (h4 refl)
-by_field f t r o n (act.Through which) h1 h2 h3 h4 h5 h6 h7 h8 h9 h10 h11 h12 h13 h14 h15 h16 h17 h18 h = absurd (h5 which refl)
-by_field f t r o n (act.ThroughFirstOf names) h1 h2 h3 h4 h5 h6 h7 h8 h9 h10 h11 h12 h13 h14 h15 h16 h17 h18 h = absurd (h6 names refl)
-by_field f t r o n act.ThroughForeign h1 h2 h3 h4 h5 h6 h7 h8 h9 h10 h11 h12 h13 h14 h15 h16 h17 h18 h = absurd (h7 refl)
-by_field f t r o n act.Implied h1 h2 h3 h4 h5 h6 h7 h8 h9 h10 h11 h12 h13 h14 h15 h16 h17 h18 h = absurd (h8 refl)
-by_field f t r o n (act.ImpliedExcept which) h1 h2 h3 h4 h5 h6 h7 h8 h9 h10 h11 h12 h13 h14 h15 h16 h17 h18 h = absurd (h9 which refl)
-by_field f t r o n act.ImpliedThoroughly h1 h2 h3 h4 h5 h6 h7 h8 h9 h10 h11 h12 h13 h14 h15 h16 h17 h18 h = absurd (h10 refl)
-by_field f t r o n act.CloseParagraph h1 h2 h3 h4 h5 h6 h7 h8 h9 h10 h11 h12 h13 h14 h15 h16 h17 h18 h = absurd (h11 refl)
-by_field f t r o n act.CloseItem h1 h2 h3 h4 h5 h6 h7 h8 h9 h10 h11 h12 h13 h14 h15 h16 h17 h18 h = absurd (h12 refl)
-by_field f t r o n act.CloseDescription h1 h2 h3 h4 h5 h6 h7 h8 h9 h10 h11 h12 h13 h14 h15 h16 h17 h18 h = absurd (h13 refl)
-by_field f t r o n act.Walk h1 h2 h3 h4 h5 h6 h7 h8 h9 h10 h11 h12 h13 h14 h15 h16 h17 h18 h = absurd (h14 refl)
-by_field f t r o n (act.Adopt which) h1 h2 h3 h4 h5 h6 h7 h8 h9 h10 h11 h12 h13 h14 h15 h16 h17 h18 h = absurd (h15 which refl)
-by_field f t r o n act.CloseLink h1 h2 h3 h4 h5 h6 h7 h8 h9 h10 h11 h12 h13 h14 h15 h16 h17 h18 h = absurd (h16 refl)
-by_field f t r o n act.EndForm h1 h2 h3 h4 h5 h6 h7 h8 h9 h10 h11 h12 h13 h14 h15 h16 h17 h18 h = absurd (h17 refl)
-by_field f t r o n act.DetachBody h1 h2 h3 h4 h5 h6 h7 h8 h9 h10 h11 h12 h13 h14 h15 h16 h17 h18 h = absurd (h18 refl)
-by_field f t r o n _ h1 h2 h3 h4 h5 h6 h7 h8 h9 h10 h11 h12 h13 h14 h15 h16 h17 h18 h = h
 
 -- an act that none of the fields stands for changes nothing
 pub by_nothing : (s : Sight) (a : Act) → ((m : Mode) → a ≡ act.Switch m → ⊥) → (a ≡ act.KeepOriginal → ⊥) → (a ≡ act.ToOriginal → ⊥) → (a ≡ act.Reset → ⊥) → (a ≡ act.Marker → ⊥) → (a ≡ act.ClearToMarker → ⊥) → ((m : Mode) → a ≡ act.PushTemplateMode m → ⊥) → ((m : Mode) → a ≡ act.ReplaceTemplateMode m → ⊥) → (a ≡ act.PopTemplateMode → ⊥) → (a ≡ act.SkipLineFeed → ⊥) → (a ≡ act.FormPointer → ⊥) → (a ≡ act.HeadPointer → ⊥) → (a ≡ act.PushHead → ⊥) → (a ≡ act.TakeHeadOff → ⊥) → (a ≡ act.Quirks → ⊥) → (a ≡ act.EmptyPending → ⊥) → (a ≡ act.Flush → ⊥) → CarriesBy (Ok tt) s s (field_plan a)

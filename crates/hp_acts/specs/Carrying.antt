@@ -43,11 +43,6 @@ abbrev pub present_plan : (Bool → Mode → Reached → Plan Came) → Option M
 present_plan follow None = nothing_more
 present_plan follow (Some m) = follow false m
 
--- how a row goes on where it may use them
-abbrev pub next_present : Option Mode → ℕ → Next
-next_present None at = At (at + 1)
-next_present (Some m) at = Rules m false
-
 -- what is left of a row behind an act, where go tells its rest from a place on
 abbrev pub going : (Bool → Mode → Reached → Plan Came) → (ℕ → Reached → Plan Came) → ℕ → Reached → Token → Next → Plan Came
 going follow go at r t (At place) = go place r

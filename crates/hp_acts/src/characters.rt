@@ -126,28 +126,24 @@ fn own_part<'p>(alloc: Global, part: &Option<Text<'_>>) -> Result<Option<Text<'p
     }
 }
 
-fn own_doctype<'p>(alloc: Global, doctype: &Doctype<'_>) -> Result<Doctype<'p>, NoMemory>
-    ensures { IfOk result (λ own. own ≡ doctype.now) }
-{
-    let parts = doctype.parts();
-    let name = own_part(alloc, &parts.name)?;
-    let public = own_part(alloc, &parts.public)?;
-    let system = own_part(alloc, &parts.system)?;
-    let own = DoctypeParts {
-        name,
-        public,
-        system,
-        force_quirks: parts.force_quirks,
-    };
-    Doctype::new(alloc, own)
-}
-
-/// The doctype that the token is; one without parts for another token.
+/// The doctype that the token is, with text of its own; one without parts for another token.
 fn doctype_for<'p>(alloc: Global, token: &Token<'p>) -> Result<Doctype<'p>, NoMemory>
     ensures { IfOk result (λ doctype. doctype ≡ parts_of token.now) }
 {
     match token {
-        Token::Doctype { doctype } => own_doctype(alloc, doctype),
+        Token::Doctype { doctype } => {
+            let parts = doctype.parts();
+            let name = own_part(alloc, &parts.name)?;
+            let public = own_part(alloc, &parts.public)?;
+            let system = own_part(alloc, &parts.system)?;
+            let own = DoctypeParts {
+                name,
+                public,
+                system,
+                force_quirks: parts.force_quirks,
+            };
+            Doctype::new(alloc, own)
+        }
         _ => {
             let none = DoctypeParts {
                 name: None,

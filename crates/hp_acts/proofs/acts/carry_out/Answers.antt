@@ -1,7 +1,9 @@
-use Rattle.std.proofs.Common.{ap, refl}
+use Rattle.std.proofs.Common.{ap, refl, sym}
 use Rattle.hp_elements.specs.KnownNames as known
 use Rattle.hp_elements.specs.Names.{text_of}
 use Rattle.hp_elements.specs.declared.act.Act.TheVariants as act
+use Rattle.hp_elements.specs.declared.tag.Tag.{Tag}
+use Rattle.hp_control.specs.Acts.{point_in}
 use Rattle.hp_model.specs.Tokens.{bare}
 use Rattle.hp_views.specs.PlacePlans.{insert_document_plan, insert_plan}
 use Rattle.hp_views.specs.View.{sight}
@@ -9,6 +11,12 @@ use Rattle.hp_acts.specs.Plans.{act_plan}
 use Rattle.hp_acts.proofs.CarriedOut.{by_act, by_close, given, left_alone}
 use Rattle.hp_acts.proofs.UsualRuns.{carries_as}
 use Rattle.hp_acts.proofs.acts.carry_out.Goals as goal
+
+pub insert-requires-in-InsertBare : goal.insert-requires-in-InsertBare
+insert-requires-in-InsertBare g c = record { point = sym (ap (λ (t : Tag). point_in t.namespace t) c.bare.ensures) }
+
+pub insert_into_document-requires : goal.insert_into_document-requires
+insert_into_document-requires g c = record { html = ap (λ (t : Tag). t.namespace) c.bare-in-InsertBareHtml.ensures }
 
 pub returns-in-Characters : goal.returns-in-Characters
 returns-in-Characters g c =

@@ -1,3 +1,4 @@
+use Rattle.std.proofs.Common.{rules}
 use Rattle.hp_elements.specs.declared.act.Act.TheVariants as act
 use Rattle.hp_views.specs.View.{sight}
 use Rattle.hp_acts.specs.Plans.{field_plan}
@@ -20,7 +21,7 @@ pub returns-in-Marker : goal.returns-in-Marker
 returns-in-Marker g c = record { plan = by_act field_plan c.add_marker.result (sight g.B.Below.heard c.args.view.now) (sight g.B.Below.heard c.add_marker.new.self) c.args.act act.Marker c.in-Marker.is c.add_marker.ensures }
 
 pub returns-in-ClearToMarker : goal.returns-in-ClearToMarker
-returns-in-ClearToMarker g c = record { plan = by_act field_plan c.clear_to_marker.result (sight g.B.Below.heard c.args.view.now) (sight g.B.Below.heard c.clear_to_marker.new.self) c.args.act act.ClearToMarker c.in-ClearToMarker.is c.clear_to_marker.ensures }
+returns-in-ClearToMarker g c = search rules
 
 pub returns-in-PushTemplateMode : goal.returns-in-PushTemplateMode
 returns-in-PushTemplateMode g c = record { plan = by_act field_plan c.push_template_mode.result (sight g.B.Below.heard c.args.view.now) (sight g.B.Below.heard c.push_template_mode.new.self) c.args.act (act.PushTemplateMode c.in-PushTemplateMode.mode) c.in-PushTemplateMode.is c.push_template_mode.ensures }

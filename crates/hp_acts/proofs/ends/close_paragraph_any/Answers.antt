@@ -1,5 +1,6 @@
-use Rattle.std.proofs.Common.{◌≡◌, ℕ, Bool, true, false, List, Result, ap, subst}
+use Rattle.std.proofs.Common.{◌≡◌, ℕ, Bool, true, false, List, Result, ap, subst, sym}
 use Rattle.hp_control.specs.Faithful.{Split}
+use Rattle.hp_control.specs.Acts.{point_in}
 use Rattle.hp_control.specs.Plan.{Plan, followed_by}
 use Rattle.hp_control.specs.declared.change.Refusal.{Refusal}
 use Rattle.hp_elements.specs.KnownNames as known
@@ -27,6 +28,9 @@ where_found result old mid new name is_open found named is f k =
 -- an empty one is made, and closed
 abbrev made : Tag → Split → Plan Split
 made tag v = followed_by (insert_plan false tag v) close_paragraph_plan
+
+pub insert-requires : goal.insert-requires
+insert-requires g c = record { point = sym (ap (λ (t : Tag). point_in t.namespace t) c.bare.ensures) }
 
 pub returns-then-is_open : goal.returns-then-is_open
 returns-then-is_open g c =

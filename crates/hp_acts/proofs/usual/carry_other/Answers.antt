@@ -5,6 +5,12 @@ use Rattle.hp_acts.specs.Usual.{begin_plan, closing_plan, end_plan, opening_plan
 use Rattle.hp_acts.proofs.UsualRuns.{carries_as}
 use Rattle.hp_acts.proofs.usual.carry_other.Goals as goal
 
+pub open-requires : goal.open-requires
+open-requires g c = record { html = ap (λ (t : Tag). t.namespace) c.in_ok-tag.ensures.value }
+
+pub begin-requires : goal.begin-requires
+begin-requires g c = record { html = ap (λ (t : Tag). t.namespace) c.in_ok-tag.ensures.value }
+
 pub returns-in-Opens : goal.returns-in-Opens
 returns-in-Opens g c =
     carries_as c.open.result (sight g.B.Below.heard c.args.view.now) (sight g.B.Below.heard c.open.new.view) (opening_plan c.in-Opens.opening c.in_ok-tag.tag) (usual_plan c.args.row c.args.token.now)
