@@ -1,5 +1,5 @@
 // A run of the sequential parser over a page.
-ghost use Rattle.std.specs.Prelude.{◌≡◌, ◌≢◌, ◌^◌, ◌<◌, ◌≤◌, ℕ, List, [], ◌∷◌, length, map, true, false, IfOk, IfSome, IsUtf8, OnOk};
+ghost use Rattle.std.specs.Prelude.{◌≡◌, ◌≢◌, ◌^◌, ◌<◌, ◌≤◌, ℕ, List, [], ◌∷◌, length, map, true, false, IfOk, IsUtf8, OnOk};
 ghost use Rattle.std.specs.List.{list_all};
 ghost use Rattle.std.specs.Str.{chars};
 ghost use Rattle.hp_names.specs.BuiltIn.{built_in};
@@ -162,20 +162,12 @@ impl<'p> Parsing<'p> {
         ensures reads { (page : List ℕ) → HasEnded page self.old → ReadsPiece page self.new result }
     {
         rests_ahead();
-        if self.is_last() {
+        if self.later.is_empty() {
             return false;
         }
         self.input = Cursor::of_str(self.later);
         self.later = "";
         true
-    }
-
-    /// Whether nothing follows the piece.
-    fn is_last(&self) -> bool
-        ensures last { result ≡ true → self.now.later.now ≡ [] }
-        ensures more { result ≡ false → self.now.later.now ≢ [] }
-    {
-        self.later.is_empty()
     }
 
     /// Takes a text at the front whole, where it goes into the current node as it comes. Answers whether there was one.
@@ -208,7 +200,7 @@ impl<'p> Parsing<'p> {
     {
         hp_model::at_once();
         hp_lexer::steps_fall();
-        match self.next_white() {
+        match next_blanks(&mut self.lexer, &mut self.input) {
             Some(text) => {
                 self.put_blanks(alloc, text)?;
                 Ok(true)
@@ -226,15 +218,6 @@ impl<'p> Parsing<'p> {
             Some(text) => Some(text),
             None => self.lexer.next_reference(&mut self.input),
         }
-    }
-
-    /// The white space at the front, in the data state.
-    fn next_white(&mut self) -> Option<Text<'p>>
-        requires held { held self.old.lexer.lex ≤ self.old.input.place }
-        ensures taken { TookText self.old self.new result }
-        ensures blank { IfSome result (λ text. list_all is_blank text ≡ true) }
-    {
-        next_blanks(&mut self.lexer, &mut self.input)
     }
 
     /// Takes a usual tag at the front straight. Answers whether there was one; otherwise the lexer may have gone on a little.

@@ -1,4 +1,6 @@
-use Rattle.std.proofs.Common.{[], ◌++◌, ap, refl, ◌∙◌, sym, append-nil}
+use Rattle.std.proofs.Common.{◌≡◌, ℕ, List, [], ◌∷◌, ◌++◌, length, ◌==◌, true, false, ap, refl, ◌∙◌, sym, append-nil, arith}
+use Rattle.std.specs.Prelude.{◌≢◌}
+use Rattle.std.proofs.lemmas.Bool.{eqb-true, true≢false}
 use Rattle.std.specs.Str.{chars}
 use Rattle.std.proofs.lemmas.Str.{chars-nil}
 use Rattle.hp_lexer.specs.Standing.{is_answered}
@@ -6,10 +8,19 @@ use Rattle.hp_tokens.specs.Reading.{Unread}
 use Rattle.hp_sequential.proofs.Pieces.{behind-piece, page-moved, placed-ready}
 use Rattle.hp_sequential.proofs.parsing.Parsing.join_later.Goals as goal
 
-pub returns-then-is_last-clause-reads : goal.returns-then-is_last-clause-reads
-returns-then-is_last-clause-reads c = λ page ended. record {
+-- nothing follows, or something does
+nothing_left : (text : List ℕ) → (length text == 0) ≡ true → text ≡ []
+nothing_left [] h = refl
+nothing_left (x ∷ xs) h = let none : length (x ∷ xs) ≡ 0 = eqb-true (length (x ∷ xs)) 0 h in absurd (omega (arith, none))
+
+something_left : (text : List ℕ) → (length text == 0) ≡ false → text ≢ []
+something_left [] h = λ e. true≢false h
+something_left (x ∷ xs) h = λ e. absurd (cc)
+
+pub returns-then-is_empty-clause-reads : goal.returns-then-is_empty-clause-reads
+returns-then-is_empty-clause-reads c = λ page ended. record {
   ended = ended;
-  later = ap chars (c.is_last.ensures.last c.if-is_last.true) ∙ chars-nil;
+  later = ap chars (nothing_left c.args.self.now.later.now (sym c.is_empty.ensures ∙ c.if-is_empty.true)) ∙ chars-nil;
   used = c.requires.at_end.used;
 }
 
@@ -17,7 +28,7 @@ pub returns-clause-joined : goal.returns-clause-joined
 returns-clause-joined c = (
   placed-ready c.args.self.now _ (ap is_answered c.requires.at_end.asked) c.requires.at_end.held c.requires.at_end.builder refl (ap (λ (u : Unread). u.place) c.of_str-self.ensures) refl,
   ap (λ (u : Unread). u.text) c.of_str-self.ensures,
-  c.is_last.ensures.more c.if-is_last.false,
+  something_left c.args.self.now.later.now (sym c.is_empty.ensures ∙ c.if-is_empty.false),
 )
 
 pub returns-clause-on_page : goal.returns-clause-on_page
