@@ -1,4 +1,4 @@
-use Rattle.std.proofs.Common.{◌≡◌, false, map, None, Some, ap, refl, subst, sym, ◌∙◌, arith}
+use Rattle.std.proofs.Common.{◌≡◌, false, map, None, Some, refl, subst, sym, ◌∙◌, arith}
 use Rattle.std.specs.Prelude.{◌-◌, ◌^◌}
 use Rattle.hp_tokens.specs.Rows.{character}
 use Rattle.hp_sequential.proofs.Closed.{took-ahead}
@@ -14,8 +14,8 @@ pub returns-in_ok-put_blanks-in-Some-clause-tried : goal.returns-in_ok-put_blank
 returns-in_ok-put_blanks-in-Some-clause-tried c =
     let took : Parsing = record c.args.self.now { lexer = c.next_blanks.new.lexer; input = c.next_blanks.new.input } in
     let taken : TextTaken c.args.self.now took c.in-Some.text =
-        text-taken c.args.self.now c.args.self.now.lexer c.args.self.now.input c.next_blanks.new.lexer c.next_blanks.new.input (Some c.in-Some.text) refl refl c.in-Some.ensures.text tt
-        c.next_blanks.ensures.held c.next_blanks.ensures.names c.next_blanks.ensures.ahead in
+    text-taken c.args.self.now c.args.self.now.lexer c.args.self.now.input c.next_blanks.new.lexer c.next_blanks.new.input (Some c.in-Some.text) refl refl c.in-Some.ensures.text tt
+    c.next_blanks.ensures.held c.next_blanks.ensures.names c.next_blanks.ensures.ahead in
     steps-took c.steps_fall.ensures.steps c.steps_fall.ensures.switches c.args.self.now took c.put_blanks.new.self (c.next_blanks.new.lexer.rested - 2 ^ 32) (map character c.in-Some.text)
     taken.stepped.stepped taken.held taken.later c.in_ok-put_blanks-in-Some.ensures
 
@@ -33,8 +33,8 @@ pub returns-in-None-clause-tried : goal.returns-in-None-clause-tried
 returns-in-None-clause-tried c =
     let took : Parsing = record c.args.self.now { lexer = c.next_blanks.new.lexer; input = c.next_blanks.new.input } in
     let same : took ≡ c.args.self.now =
-        text-taken c.args.self.now c.args.self.now.lexer c.args.self.now.input c.next_blanks.new.lexer c.next_blanks.new.input None refl refl tt c.in-None.ensures.none
-        c.next_blanks.ensures.held c.next_blanks.ensures.names c.next_blanks.ensures.ahead in
+    text-taken c.args.self.now c.args.self.now.lexer c.args.self.now.input c.next_blanks.new.lexer c.next_blanks.new.input None refl refl tt c.in-None.ensures.none
+    c.next_blanks.ensures.held c.next_blanks.ensures.names c.next_blanks.ensures.ahead in
     let P : Parsing → Type 0 = λ p. Tried c.args.self.now p false in
     subst P (sym same) (c.requires.ready, omega arith, refl)
 
