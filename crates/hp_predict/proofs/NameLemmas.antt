@@ -1,6 +1,5 @@
 -- Names of tags that are no known names.
 use Rattle.std.proofs.Common.{◌≡◌, ◌==◌, ℕ, Bool, true, false, ◌||◌, List, [], ◌∷◌, refl, sym, ap, ◌∙◌, map}
-use Rattle.std.proofs.Math.Bool.{beq}
 use Rattle.std.specs.Prelude.{None, not}
 use Rattle.std.specs.Str.{bytes_eq}
 use Rattle.hp_elements.specs.Names.{text_of, index_of, known_of, words, is_among}
@@ -10,8 +9,9 @@ use Rattle.hp_elements.specs.KnownNames as k
 use Rattle.hp_elements.specs.declared.sets.Namespace.TheVariants.{Html}
 use Rattle.hp_elements.specs.declared.sets.SetName.TheVariants.{Void}
 use Rattle.hp_elements.proofs.NameLemmas.{known_of_text, some_none}
-use Rattle.hp_elements.proofs.EveryName.{at_every, each_passes}
-use Rattle.hp_elements.proofs.SetLemmas.{beq-true, differs, other_in}
+use Rattle.hp_elements.proofs.EveryName.{alike_at_every}
+use Rattle.hp_elements.proofs.ListedNames.{differs}
+use Rattle.hp_elements.proofs.SetLemmas.{other_in}
 use Rattle.std.proofs.lemmas.Slice.Eq.{bytes_eq-Decides}
 use Rattle.hp_control.proofs.TextTests.{text_test}
 use Rattle.hp_predict.specs.Tags.{counts}
@@ -31,11 +31,8 @@ none_of (known ∷ knowns) text n = ap (λ (b : Bool). b || is_among (map text_o
 abbrev pub is_outer : Known → Bool
 is_outer name = (index_of name == index_of k.Html || index_of name == index_of k.Head) || index_of name == index_of k.Body
 
-each_outer : each_passes (λ name. beq (is_outer name) (is_among (words "html head body") (text_of name))) ≡ true
-each_outer = refl
-
 pub outer_is : (name : Known) → is_outer name ≡ is_among (words "html head body") (text_of name)
-outer_is name = beq-true _ _ (at_every (λ n. beq (is_outer n) (is_among (words "html head body") (text_of n))) each_outer name)
+outer_is name = alike_at_every is_outer (λ n. is_among (words "html head body") (text_of n)) refl name
 
 -- what `||` gives where its left side holds, and where it doesn't
 pub or_left : (v r a b : Bool) → v ≡ r → r ≡ true → r ≡ a → v ≡ (a || b)
