@@ -4,6 +4,7 @@ use Rattle.std.proofs.lemmas.Bool.{and_parts}
 use Rattle.std.proofs.lemmas.Option.{IfSome_then}
 use Rattle.hp_elements.specs.Rules.{go_later, goes_later}
 use Rattle.hp_elements.specs.declared.act.Act.{Act}
+use Rattle.hp_acts.specs.Rows.{most_acts}
 
 later_get : (acts : List Act) (start at : ℕ) → go_later start acts ≡ true → IfSome (slice_get acts at) (λ a. goes_later (start + at) a ≡ true)
 later_get [] start at h = tt
@@ -28,7 +29,7 @@ module _ (acts : List Act) (at : ℕ) (result : Option Act) (is : result ≡ sli
       let Q : ℕ → Type 0 = λ n. IfSome (slice_get acts at) (λ a. goes_later n a ≡ true) in
       subst P (sym is) (subst Q (zero-add at) (later_get acts 0 at h))
 
-  pub short_at : length acts ≤ 8 → IfSome result (λ a. at < 8)
+  pub short_at : length acts ≤ most_acts → IfSome result (λ a. at < most_acts)
   short_at h =
-      let P : Option Act → Type 0 = λ o. IfSome o (λ a. at < 8) in
+      let P : Option Act → Type 0 = λ o. IfSome o (λ a. at < most_acts) in
       subst P (sym is) (IfSome_then (slice_get acts at) (short_get acts at) (λ x below. lt_of_lt_of_le below h))

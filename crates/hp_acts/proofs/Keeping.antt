@@ -6,7 +6,7 @@ use Rattle.hp_elements.specs.Rules.{acts_numbered, acts_of, go_later, rows_end}
 use Rattle.hp_elements.specs.declared.act.Act.{Act}
 use Rattle.hp_acts.specs.declared.rows.Part.{Part}
 use Rattle.hp_acts.specs.declared.rows.Part.TheVariants as part
-use Rattle.hp_acts.specs.Rows.{rows_in}
+use Rattle.hp_acts.specs.Rows.{most_acts, rows_in}
 use Rattle.hp_acts.specs.Spending.{row_keeps, rows_keep}
 
 part_keeps : (p : Part) → rows_keep (rows_in p) ≡ true
@@ -31,11 +31,11 @@ module _ (p : Part) (number : ℕ) (acts : List Act) (is : acts ≡ acts_numbere
   pub numbered_keeps : row_keeps true 0 0 acts ≡ true
   numbered_keeps = ap (row_keeps true 0 0) is ∙ passes_at (row_keeps true 0 0) (map acts_of (rows_in p)) number refl (part_keeps p)
 
-  ends : (go_later 0 acts && leb (length acts) 8) ≡ true
-  ends = ap (λ (found : List Act). go_later 0 found && leb (length found) 8) is ∙ passes_at (λ found. go_later 0 found && leb (length found) 8) (map acts_of (rows_in p)) number refl (part_ends p)
+  ends : (go_later 0 acts && leb (length acts) most_acts) ≡ true
+  ends = ap (λ (found : List Act). go_later 0 found && leb (length found) most_acts) is ∙ passes_at (λ found. go_later 0 found && leb (length found) most_acts) (map acts_of (rows_in p)) number refl (part_ends p)
 
   pub numbered_later : go_later 0 acts ≡ true
-  numbered_later = (and_parts (go_later 0 acts) (leb (length acts) 8) ends).0
+  numbered_later = (and_parts (go_later 0 acts) (leb (length acts) most_acts) ends).0
 
-  pub numbered_short : length acts ≤ 8
-  numbered_short = leb-true _ _ (and_parts (go_later 0 acts) (leb (length acts) 8) ends).1
+  pub numbered_short : length acts ≤ most_acts
+  numbered_short = leb-true _ _ (and_parts (go_later 0 acts) (leb (length acts) most_acts) ends).1

@@ -137,15 +137,10 @@ pub plain_refused : (refused : Refusal) (old new : Sight) (t : Token) → IsPlai
 plain_refused (Crossed crossing) old new t p run = plain_crosses old.heard new.heard t old.split crossing p run
 plain_refused NoMemory old new t p run = tt
 
--- one call, and then another
+-- the first of two calls was refused
 pub first_refused : (refused : Refusal) (old new : Sight) (plan next : Split → Plan Split) → Carries (Err refused) old new plan → Carries (Err refused) old new (λ v. followed_by (plan v) next)
 first_refused (Crossed crossing) old new plan next run = runs_crosses next run
 first_refused NoMemory old new plan next run = tt
-
-pub both_carried : (result : Result (Unit {0}) Refusal) (old mid new : Sight) (plan next : Split → Plan Split) → Runs old.heard mid.heard (plan old.split) (Ok mid.split) → Carries result mid new next → Carries result old new (λ v. followed_by (plan v) next)
-both_carried (Ok u) old mid new plan next run k = runs_then next run k
-both_carried (Err (Crossed crossing)) old mid new plan next run k = runs_then next run k
-both_carried (Err NoMemory) old mid new plan next run k = tt
 
 -- the text couldn't go there
 pub put_failed : (result : Result (Unit {0}) Refusal) (refused : Refusal) (old new : Sight) (class : CharClass) (text : List ℕ) → IsErrAnd result (λ e. e ≡ refused) → Carries (Err refused) old new (put_plan false (child.Text text)) → Carries result old new (put_text_plan class text)

@@ -1,6 +1,6 @@
 -- Each mode has its rows in the crate that has the mode.
-use Rattle.std.proofs.Common.{◌≡◌, ℕ, true, List, [], refl, ap, ◌∙◌}
-use Rattle.std.specs.Prelude.{is_some, unwrap_or}
+use Rattle.std.proofs.Common.{◌≡◌, ℕ, List, [], refl, ap, ◌∙◌}
+use Rattle.std.specs.Prelude.{unwrap_or}
 use Rattle.hp_elements.specs.declared.token.Kind.{Kind}
 use Rattle.hp_elements.specs.declared.token.Mode.{Mode}
 use Rattle.hp_elements.specs.declared.token.Mode.TheVariants as mode
@@ -8,31 +8,6 @@ use Rattle.hp_rules_rest.specs.Whole.{every_mode_rows}
 use Rattle.hp_elements.specs.Rules.{Row, acts_for, acts_numbered}
 use Rattle.hp_acts.specs.declared.rows.Part.{Part}
 use Rattle.hp_acts.specs.Rows.{part_in, rows_in, mode_rows_in}
-
-pub rows_are_there : (m : Mode) → is_some (mode_rows_in (part_in m) m) ≡ true
-rows_are_there mode.Initial = refl
-rows_are_there mode.BeforeHtml = refl
-rows_are_there mode.BeforeHead = refl
-rows_are_there mode.InHead = refl
-rows_are_there mode.InHeadNoscript = refl
-rows_are_there mode.AfterHead = refl
-rows_are_there mode.InBody = refl
-rows_are_there mode.Text = refl
-rows_are_there mode.InTable = refl
-rows_are_there mode.InTableText = refl
-rows_are_there mode.InCaption = refl
-rows_are_there mode.InColumnGroup = refl
-rows_are_there mode.InTableBody = refl
-rows_are_there mode.InRow = refl
-rows_are_there mode.InCell = refl
-rows_are_there mode.InSelect = refl
-rows_are_there mode.InSelectInTable = refl
-rows_are_there mode.InTemplate = refl
-rows_are_there mode.AfterBody = refl
-rows_are_there mode.InFrameset = refl
-rows_are_there mode.AfterFrameset = refl
-rows_are_there mode.AfterAfterBody = refl
-rows_are_there mode.AfterAfterFrameset = refl
 
 pub rows_of_mode : (m : Mode) → unwrap_or (mode_rows_in (part_in m) m) [] ≡ every_mode_rows m
 unfolding every_mode_rows

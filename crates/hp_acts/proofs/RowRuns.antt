@@ -134,9 +134,6 @@ fits_on true true t old new e l same = same refl ∙ e
 fits_on true false t old new e l same = let P : Token → Type 0 = λ token. IsLeftOf token new in subst P e l
 fits_on false leaves t old new e l same = left_twice t old new e l
 
-same_on : (whole : Bool) (t old new : Token) → StillFits whole t old → new ≡ old → StillFits whole t new
-same_on whole t old new fits e = let P : Token → Type 0 = λ token. StillFits whole t token in subst P (sym e) fits
-
 is_whole : (whole wants : Bool) (t old : Token) → StillFits whole t old → (whole || not wants) ≡ true → wants ≡ true → old ≡ t
 is_whole true wants t old fits h w = fits
 is_whole false true t old fits h w = absurd (cc)

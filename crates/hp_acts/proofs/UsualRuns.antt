@@ -52,7 +52,7 @@ use Rattle.hp_acts.specs.declared.usual.Opening.TheVariants as opening
 use Rattle.hp_acts.specs.declared.usual.TablePart.TheVariants as part
 use Rattle.hp_acts.specs.declared.usual.UsualRow.{UsualRow}
 use Rattle.hp_acts.specs.declared.usual.UsualRow.TheVariants.{Begins, Closes, Ends, Opens}
-use Rattle.hp_acts.proofs.PlainRuns.{follow_assoc}
+use Rattle.hp_acts.proofs.PlainRuns.{first_refused, follow_assoc}
 use Rattle.hp_acts.proofs.TurnRuns.{turn_on, turns_next}
 
 abbrev ended : Reached → Split → Plan Came
@@ -273,14 +273,10 @@ carries_next (Ok u) old mid new p q run k = runs_then q run k
 carries_next (Err (Crossed crossing)) old mid new p q run k = runs_then q run k
 carries_next (Err NoMemory) old mid new p q run k = tt
 
-carries_refused : (refusal : Refusal) (old new : Sight) (p q : Split → Plan Split) → Carries (Err refusal) old new p → Carries (Err refusal) old new (λ v. followed_by (p v) q)
-carries_refused (Crossed crossing) old new p q k = runs_crosses q k
-carries_refused NoMemory old new p q k = tt
-
 -- the first was refused
 pub carries_failed : (result : Result (Unit {0}) Refusal) (refusal : Refusal) (old new : Sight) (p q : Split → Plan Split) → IsErrAnd result (λ e. e ≡ refusal) → Carries (Err refusal) old new p → Carries result old new (λ v. followed_by (p v) q)
 carries_failed (Ok u) refusal old new p q is k = absurd is
-carries_failed (Err e) refusal old new p q is k = let P : Refusal → Type 0 = λ x. Carries (Err x) old new (λ v. followed_by (p v) q) in subst P (sym is) (carries_refused refusal old new p q k)
+carries_failed (Err e) refusal old new p q is k = let P : Refusal → Type 0 = λ x. Carries (Err x) old new (λ v. followed_by (p v) q) in subst P (sym is) (first_refused refusal old new p q k)
 
 -- the same plan, told otherwise
 pub carries_as : (result : Result (Unit {0}) Refusal) (old new : Sight) (p q : Split → Plan Split) → p ≡ q → Carries result old new p → Carries result old new q

@@ -1,5 +1,5 @@
 -- The row that a token has: the crate that has it, and its number there.
-use Rattle.std.specs.Prelude.{List, Option}
+use Rattle.std.specs.Prelude.{ℕ, List, Option}
 use Rattle.hp_elements.specs.declared.token.Mode.{Mode}
 use Rattle.hp_elements.specs.declared.token.Mode.TheVariants as mode
 use Rattle.hp_elements.specs.Rules.{Row}
@@ -32,6 +32,10 @@ rows_in part.Page = page.all_rows
 rows_in part.Body = body.all_rows
 rows_in part.Table = table.all_rows
 rows_in part.Rest = rest.all_rows
+
+-- no row has more acts
+abbrev pub most_acts : ℕ
+most_acts = 8
 
 -- the rows of a mode in a crate
 abbrev pub mode_rows_in : Part → Mode → Option (List Row)

@@ -26,7 +26,8 @@ use std::alloc::Global;
 
 /// Carries out one act of a row. The answer is false exactly where the act is a test that fails. What only steers the row, as
 /// the rules of another mode, changes nothing here: `handle` follows it. `spending` says whether the token gives its text or
-/// its attributes away, and `fostering` whether content that may not stand in a table goes before it.
+/// its attributes away, and `fostering` whether content that may not stand in a table goes before it. For callers that carry out
+/// single acts; `handle` doesn't use it. After a refusal the view is spent: what it shows is not promised.
 pub fn carry<'p, B: Below>(
     alloc: Global,
     view: &mut View<'p, B>,

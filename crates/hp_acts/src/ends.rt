@@ -171,8 +171,7 @@ pub(crate) fn close_paragraph<'p, B: Below>(
 fn close_paragraph_any<'p, B: Below>(alloc: Global, view: &mut View<'p, B>) -> Result<(), Refusal>
     ensures { Carries result (sight B.heard view.old) (sight B.heard view.new) paragraph_end_plan }
 {
-    let goals = Kinds::Html(Name::of_known(Known::P));
-    let is_open = view.in_scope(alloc, Scope::Button, goals)?;
+    let is_open = view.has_paragraph(alloc)?;
     if is_open {
         return view.close_paragraph(alloc);
     }

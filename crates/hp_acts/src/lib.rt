@@ -1,4 +1,5 @@
-//! The handling of one token: dispatch, and the rules carried out act by act (13.2.6).
+//! The handling of one token: dispatch, and the rules carried out act by act (13.2.6). After a refusal the view is spent: what it
+//! shows is not promised.
 #![tactic(auto)]
 
 mod acts;

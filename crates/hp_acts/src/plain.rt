@@ -130,7 +130,8 @@ fn class_of_text(text: &Text<'_>) -> CharClass
     }
 }
 
-/// Handles a text without U+0000 as one run, where it goes into the current node as it comes.
+/// Handles a text without U+0000 as one run, where it goes into the current node as it comes. After a refusal the view is spent:
+/// what it shows is not promised.
 pub fn handle_text<'p, B: Below>(
     alloc: Global,
     view: &mut View<'p, B>,

@@ -7,7 +7,7 @@ ghost use Rattle.hp_acts.specs.Plans.{test_plan};
 
 use crate::token_parts::name_of;
 use hp_control::{Below, Refusal};
-use hp_elements::{Attribute, Kinds, Known, Name, Test, Token, Which};
+use hp_elements::{Attribute, ElementName, Kinds, Known, Name, Scope, Test, Token, Which};
 use hp_foreign::{has_font_attribute, names_foreign};
 use hp_views::View;
 use std::alloc::Global;
@@ -49,6 +49,10 @@ pub(crate) fn holds<'p, B: Below>(
     ensures plan { Answers result (sight B.heard view.old) (sight B.heard view.new) (λ v. test_plan token.now test v) }
 {
     match test {
+        // The stack knows it without a walk.
+        Test::InScope(Scope::Button, Which::Named(Known::Element(ElementName::P))) => {
+            view.has_paragraph(alloc)
+        }
         Test::InScope(scope, which) => {
             let name = name_of(alloc, token, which)?;
             view.in_scope(alloc, scope, Kinds::Html(name))

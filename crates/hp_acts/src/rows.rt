@@ -4,7 +4,7 @@ ghost use Rattle.hp_elements.specs.Rules.{acts_for, acts_numbered, go_later, goe
 ghost use Rattle.hp_elements.specs.Tokens.{kind_of};
 ghost use Rattle.hp_rules_rest.specs.Foreign.{foreign};
 ghost use Rattle.hp_rules_rest.specs.Whole.{every_mode_rows};
-ghost use Rattle.hp_acts.specs.Rows.{part_in, rows_in, mode_rows_in};
+ghost use Rattle.hp_acts.specs.Rows.{most_acts, part_in, rows_in, mode_rows_in};
 ghost use Rattle.hp_acts.specs.Spending.{row_keeps};
 
 use hp_elements::{Act, Mode, Token};
@@ -19,13 +19,13 @@ pub(crate) enum Part {
 }
 
 /// A row of the rules: its acts. Along each way through the row each of them finds the token as it wants it;
-/// a test goes on behind its own place, and there are no more than eight acts, so that each row ends.
+/// a test goes on behind its own place, and there are no more than `most_acts`, so that each row ends.
 #[derive(Clone, Copy)]
 pub(crate) struct Row {
     acts: &'static [Act],
     ghost keeps: { row_keeps true 0 0 acts.now ≡ true },
     ghost later: { go_later 0 acts.now ≡ true },
-    ghost short: { length acts.now ≤ 8 },
+    ghost short: { length acts.now ≤ most_acts },
 }
 
 /// The crate that has the rules of the mode.
@@ -98,7 +98,7 @@ impl Row {
     pub(crate) fn act(self, at: u32) -> Option<Act>
         ensures value { result ≡ slice_get self.acts.now at }
         ensures later { IfSome result (λ act. goes_later at act ≡ true) }
-        ensures short { IfSome result (λ act. at < 8) }
+        ensures short { IfSome result (λ act. at < most_acts) }
     {
         self.act_at(at)
     }

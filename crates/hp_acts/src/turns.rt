@@ -9,6 +9,7 @@ ghost use Rattle.hp_acts.specs.Carrying.{Comes, Goes, GoesBy, Stays, going, pres
 ghost use Rattle.hp_acts.specs.HandlePlans.{all_turns_plan, handle_plan, handle_rest, turns_plan, without_line_feed};
 ghost use Rattle.hp_acts.specs.Handling.{GoesLater, Handles, unskipped};
 ghost use Rattle.hp_acts.specs.RowPlans.{Reached, Came, act_then, is_early, turn_plan};
+ghost use Rattle.hp_acts.specs.Rows.{most_acts};
 ghost use Rattle.hp_acts.specs.TableText.{turns_from};
 ghost use Rattle.hp_acts.specs.Spending.{IsLeftOf, gives_away, leaves_whole, reads_attributes};
 ghost use Rattle.hp_acts.specs.declared.token_parts.Spending.TheVariants.{Copies};
@@ -80,7 +81,7 @@ fn reads_attributes(act: Act) -> bool
 
 /// What becomes of the token's attributes at an act of a row: they are moved unless a later act reads them.
 fn spending_at(row: Row, at: u32, act: Act) -> Spending
-    requires { at < 8 }
+    requires { at < most_acts }
     ensures { leaves_whole act (drop (at + 1) row.acts.now) ≡ true → gives_away act ≡ true → result ≡ Copies }
 {
     match act {
@@ -144,7 +145,7 @@ fn carry_row<'p, B: Below>(
 
 /// The place behind a test.
 fn behind(at: u32, otherwise: u8, goes_on: bool) -> Next
-    requires { at < 8 }
+    requires { at < most_acts }
     ensures { result ≡ At (if goes_on then at + 1 else otherwise) }
 {
     if goes_on {
@@ -166,7 +167,7 @@ fn step<'p, B: Below>(
     fostering: bool,
 ) -> Result<Next, Refusal>
     requires later { goes_later at act ≡ true }
-    requires short { at < 8 }
+    requires short { at < most_acts }
     ensures later { IfOk result (λ next. GoesLater at next) }
     ensures goes { IfOk result (λ next. GoesBy act at next) }
     ensures stays { IfOk result (λ next. Stays (leaves_whole act (drop (at + 1) row.acts.now)) turn.old.token turn.new.token next) }
@@ -309,7 +310,8 @@ pub(crate) fn take_all_turns<'p, B: Below>(
 }
 
 /// Handles one token whole: dispatch, the rows of the rules with their acts, usual ones straight and others by the table, and again
-/// where the rules say so. A line feed that is to be dropped isn't handled. After a refusal the view is spent.
+/// where the rules say so. A line feed that is to be dropped isn't handled. After a refusal the view is spent: what it shows is not
+/// promised.
 #[inline(always)]
 pub fn handle<'p, B: Below>(
     alloc: Global,

@@ -72,18 +72,18 @@ fn usual_numbered(number: u16) -> Option<UsualRow>
     ensures { IfSome result (λ row. acts_numbered all_rows number ≡ usual_acts row) }
 {
     match number {
-        12 => Some(UsualRow::Opens(Opening::Block)),
-        16 => Some(UsualRow::Opens(Opening::Item)),
-        17 => Some(UsualRow::Opens(Opening::Description)),
-        20 => Some(UsualRow::Closes(Closing::Block)),
-        22 => Some(UsualRow::Closes(Closing::Paragraph)),
-        23 => Some(UsualRow::Closes(Closing::Item)),
-        24 => Some(UsualRow::Closes(Closing::Description)),
-        26 => Some(UsualRow::Opens(Opening::Link)),
-        28 => Some(UsualRow::Opens(Opening::Formatting)),
-        29 => Some(UsualRow::Closes(Closing::Formatting)),
-        49 => Some(UsualRow::Opens(Opening::Ordinary)),
-        50 => Some(UsualRow::Closes(Closing::Ordinary)),
+        12 => Some(UsualRow::Opens(Opening::Block)), // start address .. ul
+        16 => Some(UsualRow::Opens(Opening::Item)), // start li
+        17 => Some(UsualRow::Opens(Opening::Description)), // start dd, dt
+        20 => Some(UsualRow::Closes(Closing::Block)), // end address .. ul
+        22 => Some(UsualRow::Closes(Closing::Paragraph)), // end p
+        23 => Some(UsualRow::Closes(Closing::Item)), // end li
+        24 => Some(UsualRow::Closes(Closing::Description)), // end dd, dt
+        26 => Some(UsualRow::Opens(Opening::Link)), // start a
+        28 => Some(UsualRow::Opens(Opening::Formatting)), // start b .. u
+        29 => Some(UsualRow::Closes(Closing::Formatting)), // end a .. u
+        49 => Some(UsualRow::Opens(Opening::Ordinary)), // any other start tag
+        50 => Some(UsualRow::Closes(Closing::Ordinary)), // any other end tag
         _ => None,
     }
 }
@@ -104,10 +104,10 @@ fn usual_in_tables(number: u16) -> Option<UsualRow>
     ensures { IfSome result (λ row. acts_numbered table_rows number ≡ usual_acts row) }
 {
     match number {
-        33 => Some(UsualRow::Begins(TablePart::Row)),
-        39 => Some(UsualRow::Begins(TablePart::Cell)),
-        40 => Some(UsualRow::Ends(TablePart::Row)),
-        45 => Some(UsualRow::Ends(TablePart::Cell)),
+        33 => Some(UsualRow::Begins(TablePart::Row)), // in a table body: start tr
+        39 => Some(UsualRow::Begins(TablePart::Cell)), // in a row: start td, th
+        40 => Some(UsualRow::Ends(TablePart::Row)), // in a row: end tr
+        45 => Some(UsualRow::Ends(TablePart::Cell)), // in a cell: end td, th
         _ => None,
     }
 }
@@ -128,7 +128,7 @@ fn usual_in_cell(token: &Token<'_>) -> Option<UsualRow>
     ensures { IfSome result (λ row. HasRow InCell token.now row) }
 {
     match hp_rules_table::row(Mode::InCell, token) {
-        Some(49) => usual_in_body(token),
+        Some(49) => usual_in_body(token), // any other token in a cell: the rules of the body
         Some(number) => usual_in_tables(number),
         None => None,
     }

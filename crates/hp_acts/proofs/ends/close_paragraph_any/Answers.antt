@@ -1,4 +1,4 @@
-use Rattle.std.proofs.Common.{◌≡◌, ℕ, Bool, true, false, List, Result, ap, subst, sym}
+use Rattle.std.proofs.Common.{◌≡◌, Bool, true, false, Result, ap, subst, sym}
 use Rattle.hp_control.specs.Faithful.{Split}
 use Rattle.hp_control.specs.Acts.{point_in}
 use Rattle.hp_control.specs.Plan.{Plan, followed_by}
@@ -18,12 +18,11 @@ use Rattle.hp_acts.proofs.UsualRuns.{carries_as, carries_failed, carries_next, c
 use Rattle.hp_acts.proofs.ends.close_paragraph_any.Goals as goal
 
 -- where it was found out whether a paragraph is in scope
-where_found : (result : Result (Unit {0}) Refusal) (old mid new : Sight) (name : List ℕ) (is_open found : Bool) → name ≡ text_of known.P → is_open ≡ found
-    → Finds old mid (in_scope_plan scope.Button (kinds.Html name)) is_open → Carries result mid new (λ v. paragraph_end_by v found) → Carries result old new paragraph_end_plan
-where_found result old mid new name is_open found named is f k =
-    let P : Bool → Type 0 = λ b. Finds old mid (in_scope_plan scope.Button (kinds.Html name)) b in
-    let Q : List ℕ → Type 0 = λ n. Carries result old new (λ v. followed_by (in_scope_plan scope.Button (kinds.Html n) v) (paragraph_end_by v)) in
-    subst Q named (carries_then result old mid new (in_scope_plan scope.Button (kinds.Html name)) paragraph_end_by found (subst P is f) k)
+where_found : (result : Result (Unit {0}) Refusal) (old mid new : Sight) (is_open found : Bool) → is_open ≡ found
+    → Finds old mid (in_scope_plan scope.Button (kinds.Html (text_of known.P))) is_open → Carries result mid new (λ v. paragraph_end_by v found) → Carries result old new paragraph_end_plan
+where_found result old mid new is_open found is f k =
+    let P : Bool → Type 0 = λ b. Finds old mid (in_scope_plan scope.Button (kinds.Html (text_of known.P))) b in
+    carries_then result old mid new (in_scope_plan scope.Button (kinds.Html (text_of known.P))) paragraph_end_by found (subst P is f) k
 
 -- an empty one is made, and closed
 abbrev made : Tag → Split → Plan Split
@@ -34,19 +33,19 @@ insert-requires g c = record { point = sym (ap (λ (t : Tag). point_in t.namespa
 
 pub returns-then-is_open : goal.returns-then-is_open
 returns-then-is_open g c =
-    where_found c.close_paragraph.result (sight g.B.Below.heard c.args.view.now) (sight g.B.Below.heard c.in_scope.new.self) (sight g.B.Below.heard c.close_paragraph.new.self) c.of_known.result c.in_ok-is_open.is_open true c.of_known.ensures c.if-is_open.true c.in_ok-is_open.ensures
+    where_found c.close_paragraph.result (sight g.B.Below.heard c.args.view.now) (sight g.B.Below.heard c.has_paragraph.new.self) (sight g.B.Below.heard c.close_paragraph.new.self) c.in_ok-is_open.is_open true c.if-is_open.true c.in_ok-is_open.ensures
     c.close_paragraph.ensures
 
 pub returns-in_err-insert : goal.returns-in_err-insert
 returns-in_err-insert g c =
-    where_found c.from_residual-in_err-insert.result (sight g.B.Below.heard c.args.view.now) (sight g.B.Below.heard c.in_scope.new.self) (sight g.B.Below.heard c.insert.new.self) c.of_known.result c.in_ok-is_open.is_open false c.of_known.ensures c.if-is_open.false c.in_ok-is_open.ensures
-    (carries_as c.from_residual-in_err-insert.result (sight g.B.Below.heard c.in_scope.new.self) (sight g.B.Below.heard c.insert.new.self) (made c.bare.result) (made (bare (text_of known.P))) (ap made c.bare.ensures)
-    (carries_failed c.from_residual-in_err-insert.result c.in_err-insert.field-0.0 (sight g.B.Below.heard c.in_scope.new.self) (sight g.B.Below.heard c.insert.new.self)
+    where_found c.from_residual-in_err-insert.result (sight g.B.Below.heard c.args.view.now) (sight g.B.Below.heard c.has_paragraph.new.self) (sight g.B.Below.heard c.insert.new.self) c.in_ok-is_open.is_open false c.if-is_open.false c.in_ok-is_open.ensures
+    (carries_as c.from_residual-in_err-insert.result (sight g.B.Below.heard c.has_paragraph.new.self) (sight g.B.Below.heard c.insert.new.self) (made c.bare.result) (made (bare (text_of known.P))) (ap made c.bare.ensures)
+    (carries_failed c.from_residual-in_err-insert.result c.in_err-insert.field-0.0 (sight g.B.Below.heard c.has_paragraph.new.self) (sight g.B.Below.heard c.insert.new.self)
     (insert_plan false c.bare.result) close_paragraph_plan c.from_residual-in_err-insert.ensures.1 c.in_err-insert.ensures))
 
 pub returns : goal.returns
 returns g c =
-    where_found c.close_paragraph-2.result (sight g.B.Below.heard c.args.view.now) (sight g.B.Below.heard c.in_scope.new.self) (sight g.B.Below.heard c.close_paragraph-2.new.self) c.of_known.result c.in_ok-is_open.is_open false c.of_known.ensures c.if-is_open.false c.in_ok-is_open.ensures
-    (carries_as c.close_paragraph-2.result (sight g.B.Below.heard c.in_scope.new.self) (sight g.B.Below.heard c.close_paragraph-2.new.self) (made c.bare.result) (made (bare (text_of known.P))) (ap made c.bare.ensures)
-    (carries_next c.close_paragraph-2.result (sight g.B.Below.heard c.in_scope.new.self) (sight g.B.Below.heard c.insert.new.self) (sight g.B.Below.heard c.close_paragraph-2.new.self)
+    where_found c.close_paragraph-2.result (sight g.B.Below.heard c.args.view.now) (sight g.B.Below.heard c.has_paragraph.new.self) (sight g.B.Below.heard c.close_paragraph-2.new.self) c.in_ok-is_open.is_open false c.if-is_open.false c.in_ok-is_open.ensures
+    (carries_as c.close_paragraph-2.result (sight g.B.Below.heard c.has_paragraph.new.self) (sight g.B.Below.heard c.close_paragraph-2.new.self) (made c.bare.result) (made (bare (text_of known.P))) (ap made c.bare.ensures)
+    (carries_next c.close_paragraph-2.result (sight g.B.Below.heard c.has_paragraph.new.self) (sight g.B.Below.heard c.insert.new.self) (sight g.B.Below.heard c.close_paragraph-2.new.self)
     (insert_plan false c.bare.result) close_paragraph_plan c.in_ok-insert.ensures c.close_paragraph-2.ensures))

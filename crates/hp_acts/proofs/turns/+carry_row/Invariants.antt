@@ -1,6 +1,7 @@
 use Rattle.std.proofs.Common.{◌-◌}
 use Rattle.hp_acts.specs.Carrying.{present_plan, reached}
 use Rattle.hp_acts.specs.RowPlans.{rules_plan}
+use Rattle.hp_acts.specs.Rows.{most_acts}
 use Rattle.hp_acts.proofs.RowRuns.{RowSo}
 use Rattle.hp_acts.proofs.turns.+carry_row.Given as goal
 
@@ -13,4 +14,4 @@ invariant-loop-act g l =
     (g.B.Below.heard l.fn.view.below) (reached l.fn.view l.fn.turn) l.at (g.B.Below.heard l.view.below) (reached l.view l.turn) l.turn.token
 
 abbrev pub decreases-loop-act : goal.decreases-loop-act
-decreases-loop-act g l = 8 - l.at
+decreases-loop-act g l = most_acts - l.at
