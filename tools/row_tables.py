@@ -6,7 +6,8 @@
 
 A row's number is its place in `all_rows` of specs/Table.antt. `numbers` writes for each list of rows that
 specs/Table.antt names the number of each kind of token (the order is that of `every_kind` in
-hp_elements/specs/Placing.antt), `acts` the acts of each row, flat, with the places where a failed test goes on.
+hp_elements/specs/Placing.antt), `acts` the acts of all rows, flat, with the places where a failed test goes on, and
+where each row begins.
 Nothing rests on this script: the check proves both tables equal to the rows.
 """
 import re
@@ -188,7 +189,7 @@ def main(crate, what):
     crate = Path(crate).resolve()
     names = known_names(crate.parent / 'hp_elements')
     rows, order = lists(crate)
-    every, first = kinds(names), 0
+    every, first, acts, starts = kinds(names), 0, [], [0]
     if what == 'numbers':
         print('//! The number of the row of each kind of token, by the place of the kind: the start tags of the known')
         print('//! names and of other names, the end tags alike, the three classes of characters, comment, doctype, end of')
@@ -198,11 +199,19 @@ def main(crate, what):
             numbers = [first + first_for(rows[name], kind) for kind in every]
             print()
             print('pub(crate) static %s: [u8; %d] = [%s];' % (name.upper(), len(every), ', '.join(map(str, numbers))))
-        else:
-            print('    // %s, from %d' % (name.replace('_', ' '), first))
-            for _, plan in rows[name]:
-                print('    &[%s],' % ', '.join(rust_act(act) for act in flat(plan)))
+        for number, (_, plan) in enumerate(rows[name], first):
+            acts.append('// %s, from %d' % (name.replace('_', ' '), first) if number == first else '// %d' % number)
+            acts += [rust_act(act) + ',' for act in flat(plan)]
+            starts.append(starts[-1] + len(flat(plan)))
         first += len(rows[name])
+    if what == 'acts':
+        print('/// The acts of the rows, one row after the other; each row stands behind its number.')
+        print('static ACTS: [Act; %d] = [' % starts[-1])
+        print('\n'.join('    ' + line for line in acts))
+        print('];')
+        print()
+        print('/// Where each row begins among the acts, and behind them where the last one ends.')
+        print('static STARTS: [u8; %d] = [%s];' % (len(starts), ', '.join(map(str, starts))))
 
 
 if __name__ == '__main__':

@@ -6,6 +6,7 @@ pub mod NameLemmas
 pub mod SetLemmas
 pub mod TextLemmas
 pub mod PlaceLemmas
+pub mod PieceLemmas
 pub mod RowLemmas
 pub mod FindLemmas
 pub mod QuirksLemmas

@@ -1,6 +1,6 @@
 -- How a table of rules is written: a row says for which tokens it is, and what is done (13.2.6).
 use Prim.Native.String.{String}
-use Rattle.std.specs.Prelude.{ℕ, zero, suc, ◌+◌, List, [], ◌∷◌, ◌++◌, length, map, slice_index_or, Bool, true, false, Option, None, Some, not, ◌||◌, ◌&&◌, ltb, leb, if◌then◌else◌}
+use Rattle.std.specs.Prelude.{ℕ, zero, suc, ◌+◌, List, [], ◌∷◌, ◌++◌, length, map, slice_index_or, slice_range, Bool, true, false, Option, None, Some, not, ◌||◌, ◌&&◌, ltb, leb, if◌then◌else◌}
 use Rattle.std.specs.List.{list_all}
 use Rattle.hp_elements.specs.declared.act.Act.{Act}
 use Rattle.hp_elements.specs.declared.act.Act.TheVariants.{As, AsFostered, If, Unless, Insert, Pop, Lexer, KeepOriginal, Switch}
@@ -105,6 +105,11 @@ acts_of row = acts_from 0 row.plan
 -- the acts that a token has by some rows
 abbrev pub acts_for : List Row → Kind → List Act
 acts_for rows token = acts_from 0 (plan_for rows token)
+
+-- a list cut at these places: each piece goes from one to the next, and is empty where the list ends before that
+abbrev pub pieces : {X : Type 0} → List X → List ℕ → List (List X)
+pieces xs (from ∷ to ∷ places) = (if leb to (length xs) then slice_range xs from to else []) ∷ pieces xs (to ∷ places)
+pieces xs _ = []
 
 -- the acts of the row of that number, and none past the last row
 abbrev pub acts_numbered : List Row → ℕ → List Act

@@ -1,6 +1,7 @@
 //! The acts of the rules, and what they test.
 
-ghost use Rattle.std.specs.Prelude.{◌≡◌, [], map, slice_index_or};
+ghost use Rattle.std.specs.Prelude.{◌≡◌, [], slice_index_or};
+ghost use Rattle.hp_elements.specs.Rules.{pieces};
 
 use crate::known::Known;
 use crate::sets::SetName;
@@ -156,12 +157,16 @@ pub enum Act {
     Flush,
 }
 
-/// The acts of the row of that number in a table of rows, and none past its end.
-pub fn acts_in(rows: &[&'static [Act]], row: u16) -> &'static [Act]
-    ensures { result.now ≡ slice_index_or (map (λ acts. acts.now) rows.now) row [] }
+/// The acts of the row of that number, where the acts of all rows stand one row after the other; none past the last row.
+/// The starts are where each row begins, and behind them where the last one ends.
+pub fn acts_in(acts: &'static [Act], starts: &[u8], row: u16) -> &'static [Act]
+    ensures { result.now ≡ slice_index_or (pieces acts.now starts.now) row [] }
 {
-    match rows.get(usize::from(row)) {
-        Some(acts) => acts,
+    let at = usize::from(row);
+    match starts.get(at + 1) {
+        Some(end) => acts
+            .get(usize::from(starts[at])..usize::from(*end))
+            .unwrap_or(&[]),
         None => &[],
     }
 }
