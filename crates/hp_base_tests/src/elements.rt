@@ -1,8 +1,5 @@
 //! Calls that take memory, and the sizes of the types that a page is made of. What is owned is kept to the end of a test.
-use hp_elements::{
-    Attribute, AttributeSpace, Chain, Doctype, DoctypeParts, Known, List, Name, Namespace, Tag,
-    Text, Token,
-};
+use hp_elements::{Attribute, List, Name, Tag, Text, Token};
 use std::alloc::Global;
 use std::mem;
 use std::process::Abort;
@@ -17,15 +14,13 @@ fn grown_text(rt: &impl Abort, alloc: Global) -> Text<'static> {
     text
 }
 
-/// Whether a list of one number, another before it and another list's behind it has three.
+/// Whether two numbers more behind a list of one make three.
 fn grows_list(rt: &impl Abort, alloc: Global) -> bool {
-    let mut list = List::of_one(5);
-    let mut more = List::of_one(6);
-    list.insert(alloc, 0, 4).expect(rt, "there is memory");
-    list.append(alloc, &mut more).expect(rt, "there is memory");
+    let mut list = List::of_one(4);
+    list.push(alloc, 5).expect(rt, "there is memory");
+    list.push(alloc, 6).expect(rt, "there is memory");
     let well = list.len() == 3;
     mem::forget(list);
-    mem::forget(more);
     well
 }
 
@@ -35,55 +30,6 @@ fn texts_and_lists_grow(rt: HostRuntime) {
     let well = text.as_str() == "some words! And then some more words.";
     mem::forget(text);
     assert!(rt; well && grows_list(&rt, rt.alloc()));
-}
-
-/// A doctype with all its parts.
-fn doctype(rt: &impl Abort, alloc: Global) -> Token<'static> {
-    let parts = DoctypeParts {
-        name: Some(grown_text(rt, alloc)),
-        public: Some(grown_text(rt, alloc)),
-        system: Some(grown_text(rt, alloc)),
-        force_quirks: false,
-    };
-    let doctype = Doctype::new(alloc, parts).expect(rt, "there is memory");
-    Token::Doctype { doctype }
-}
-
-/// A start tag with an attribute.
-fn start_tag(rt: &impl Abort, alloc: Global) -> Token<'static> {
-    let name = Name::from_text(alloc, "data-a-name-of-its-own").expect(rt, "there is memory");
-    let attribute = Attribute {
-        space: AttributeSpace::Plain,
-        name,
-        value: grown_text(rt, alloc),
-    };
-    let mut attributes = Chain::new();
-    let pushed = attributes.push(alloc, attribute);
-    assert!(rt; pushed.is_ok());
-    mem::forget(pushed);
-    Token::Start {
-        self_closing: true,
-        tag: Tag {
-            namespace: Namespace::Svg,
-            name: Name::of_known(Known::TITLE),
-            attributes,
-        },
-    }
-}
-
-/// Whether a token is copied.
-fn is_copied(alloc: Global, token: Token<'static>) -> bool {
-    let copy = token.copy(alloc);
-    let well = copy.is_ok();
-    mem::forget(copy);
-    mem::forget(token);
-    well
-}
-
-#[test]
-fn tokens_are_copied(rt: HostRuntime) {
-    let start = is_copied(rt.alloc(), start_tag(&rt, rt.alloc()));
-    assert!(rt; start && is_copied(rt.alloc(), doctype(&rt, rt.alloc())));
 }
 
 /// What stands behind a text in its page becomes a part of it without memory; what doesn't, and is too long for a text's own value, stays apart.

@@ -8,7 +8,9 @@ use crate::scans::{first_start_from, first_tag_from};
 /// How a cutter picks the place for a target.
 #[derive(Clone, Copy)]
 pub enum Cutter {
+    /// At the first start of a code point from the target on.
     BySize,
+    /// At the first tag within 512 bytes from the target on; where there is none, as by size.
     AtTags,
 }
 

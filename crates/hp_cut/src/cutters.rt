@@ -11,7 +11,8 @@ use crate::cutting::Cuts;
 use hp_text::{NoMemory, Page};
 use std::alloc::Global;
 
-/// Cuts a page into chunks of about `size` bytes.
+/// Cuts a page into chunks of about one step each. The step is `size` bytes, or the text's length over 4,096 where that is more.
+/// It fails only for want of memory.
 pub fn cuts_by_size(alloc: Global, page: Page<'_>, size: u32) -> Result<Cuts, NoMemory>
     requires at_least { 64 ≤ size }
     requires at_most { size ≤ 16777216 }
@@ -21,7 +22,8 @@ pub fn cuts_by_size(alloc: Global, page: Page<'_>, size: u32) -> Result<Cuts, No
     cuts_by(alloc, page, size, Cutter::BySize)
 }
 
-/// Cuts a page into chunks of about `size` bytes, at tags where there are some.
+/// Cuts a page into chunks of about one step each, at tags where there are some. The step is `size` bytes, or the text's length
+/// over 4,096 where that is more. It fails only for want of memory.
 pub fn cuts_at_tags(alloc: Global, page: Page<'_>, size: u32) -> Result<Cuts, NoMemory>
     requires at_least { 64 ≤ size }
     requires at_most { size ≤ 16777216 }

@@ -25,7 +25,8 @@ pub enum CutRefusal {
     NoMemory,
 }
 
-/// Cuts a page at these places, or says which rule they break.
+/// Cuts a page at these places, or says which rule they break. The rules are looked at in the order of `CutRefusal`, each over all
+/// places.
 pub fn cuts_listed(alloc: Global, page: Page<'_>, places: &[u64]) -> Result<Cuts, CutRefusal>
     ensures refused { IfSome (refusal (text_of page.entry) places.now) (λ cause. result ≡ Err cause) }
     ensures accepted { IfNone (refusal (text_of page.entry) places.now) (MatchResult result (λ cuts. cuts.places ≡ places.now) (λ cause. cause ≡ CutRefusal.NoMemory)) }

@@ -5,7 +5,7 @@ ghost use Rattle.hp_cut.specs.Places.{is_start, is_tag, first_within};
 ghost use Rattle.hp_cut.specs.Targets.{first_start, first_tag};
 
 /// How many places are looked through for a tag.
-pub const WINDOW: usize = 512;
+const WINDOW: usize = 512;
 
 /// Whether a code point starts at this place.
 pub fn starts_at(text: &[u8], place: usize) -> bool

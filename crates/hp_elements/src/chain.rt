@@ -69,17 +69,6 @@ impl<T> Chain<T> {
         }
     }
 
-    /// The last item; `None` where there is none.
-    pub fn last(&self) -> Option<&T>
-        ensures some { IsSome result ↔ (0 < length self.now) }
-        ensures value { IfSome result (λ item. item.now ≡ slice_index_or self.now (length self.now - 1) item.now) }
-    {
-        match &self.cells {
-            None => None,
-            Some(cells) => cells.back(),
-        }
-    }
-
     /// Goes over the items, in order.
     #[inline]
     pub fn iter(&self) -> ChainIter<'_, T>

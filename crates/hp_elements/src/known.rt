@@ -11,7 +11,6 @@ use crate::attribute_name::AttributeName;
 use crate::element_name::ElementName;
 
 /// A name that the rules name, in the spelling that its elements or attributes have. Names of elements come first.
-/// There are two enums, since the prover's work on one grows with more than the cube of its variants.
 #[derive(Clone, Copy)]
 pub enum Known {
     Element(ElementName),

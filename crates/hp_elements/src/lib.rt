@@ -4,7 +4,6 @@
 mod act;
 mod attribute_name;
 mod chain;
-mod duplicate;
 mod element_name;
 mod find;
 mod kinds;
@@ -27,7 +26,6 @@ mod token;
 pub use act::{Act, Scope, Test, Which, acts_in};
 pub use attribute_name::AttributeName;
 pub use chain::{Chain, ChainIter};
-pub use duplicate::Duplicate;
 pub use element_name::ElementName;
 pub use kinds::{Kinds, Point};
 pub use known::Known;

@@ -1,13 +1,10 @@
 //! A list whose first item stands in the list itself.
-ghost use Rattle.std.specs.Prelude.{◌≡◌, ◌-◌, ◌<◌, ◌≤◌, ◌==◌, [], ◌∷◌, ◌++◌, length, take, slice_get, slice_set, slice_index_or, OnOk, OnErr, IfErr, MatchOption};
+ghost use Rattle.std.specs.Prelude.{◌≡◌, ◌-◌, ◌==◌, [], ◌∷◌, ◌++◌, length, slice_get, OnOk, OnErr, IfErr, MatchOption};
 ghost use Rattle.std.specs.Option.{option_copied};
-ghost use Rattle.std.specs.List.{insert, remove};
-ghost use Rattle.std.specs.Slice.Iter.{iter_rest};
 
-use std::alloc::{AllocError, AllocFailed, Global};
+use std::alloc::{AllocFailed, Global};
 use std::marker::Model;
 use std::mem;
-use std::slice::Iter;
 use std::vec::IntoIter;
 
 /// Where the items of a list stand.
@@ -83,28 +80,12 @@ impl<T> List<T> {
         self.as_slice().is_empty()
     }
 
-    /// The item at that place, counted from 0; `None` where the list is no longer than that.
-    #[inline]
-    pub fn get(&self, at: usize) -> Option<&T>
-        ensures { option_copied result ≡ slice_get self.now at }
-    {
-        self.as_slice().get(at)
-    }
-
     /// The last item; `None` where there is none.
     #[inline]
     pub fn last(&self) -> Option<&T>
         ensures { option_copied result ≡ slice_get self.now (length self.now - 1) }
     {
         self.as_slice().last()
-    }
-
-    /// Goes over the items, in order.
-    #[inline]
-    pub fn iter(&self) -> Iter<'_, T>
-        ensures { iter_rest result ≡ self.now }
-    {
-        self.as_slice().iter()
     }
 }
 
@@ -122,11 +103,21 @@ impl<T: Drop> List<T> {
                 self.items = Items::One([item]);
                 Ok(())
             }
-            Items::One(_) => {
-                let end = self.len();
-                self.insert(alloc, end, item)
-            }
+            Items::One(_) => self.push_second(alloc, item),
         }
+    }
+
+    /// The same where the list has one item: the two go to the heap.
+    #[inline(never)]
+    fn push_second(&mut self, alloc: Global, item: T) -> Result<(), AllocFailed<T>>
+        ensures ok { OnOk result (self.new ≡ self.old ++ item ∷ []) }
+        ensures err { OnErr result (self.new ≡ self.old) }
+        ensures returned { IfErr result (λ failed. failed.value ≡ item) }
+    {
+        let items = mem::replace(&mut self.items, Items::Empty);
+        let (items, answer) = pushed(alloc, items, item);
+        self.items = items;
+        answer
     }
 
     /// Takes the last item off the list; `None` where there is none.
@@ -136,236 +127,66 @@ impl<T: Drop> List<T> {
         if let Items::Many(items) = &mut self.items {
             return items.pop();
         }
-        let count = self.len();
-        if count == 0 {
-            return None;
-        }
-        Some(self.remove(count - 1))
-    }
-
-    /// Puts an item at a place, counted from 0, before what stands there. At an `Err`, which comes only for want of memory,
-    /// the list is as before and the item comes back.
-    #[inline(never)]
-    pub fn insert(&mut self, alloc: Global, at: usize, item: T) -> Result<(), AllocFailed<T>>
-        requires { at ≤ length self.old }
-        ensures ok { OnOk result (self.new ≡ insert self.old at item) }
-        ensures err { OnErr result (self.new ≡ self.old) }
-        ensures returned { IfErr result (λ failed. failed.value ≡ item) }
-    {
         let items = mem::replace(&mut self.items, Items::Empty);
-        let (items, answer) = inserted(alloc, items, at, item);
+        let (items, last) = popped(items);
         self.items = items;
-        answer
-    }
-
-    /// Takes the item at a place, counted from 0, out of the list.
-    pub fn remove(&mut self, at: usize) -> T
-        requires { at < length self.old }
-        ensures value { result ≡ slice_index_or self.old at result }
-        ensures items { self.new ≡ remove self.old at }
-    {
-        let items = mem::replace(&mut self.items, Items::Empty);
-        let (items, item) = removed(items, at);
-        self.items = items;
-        item
-    }
-
-    /// Puts an item in the place of the one at a place, counted from 0, and gives that one back.
-    pub fn replace(&mut self, at: usize, item: T) -> T
-        requires { at < length self.old }
-        ensures value { result ≡ slice_index_or self.old at result }
-        ensures items { self.new ≡ slice_set self.old at item }
-    {
-        match &mut self.items {
-            Items::Empty => unreachable!(),
-            Items::One(items) => mem::replace(&mut items[0], item),
-            Items::Many(items) => mem::replace(&mut items[at], item),
-        }
-    }
-
-    /// Puts an item in the place of the one at a place, counted from 0.
-    pub fn set(&mut self, at: usize, item: T)
-        requires { at < length self.old }
-        ensures { self.new ≡ slice_set self.old at item }
-    {
-        let _ = self.replace(at, item);
-    }
-
-    /// Drops the items from the place `len` on.
-    pub fn truncate(&mut self, len: usize)
-        ensures { self.new ≡ take len self.old }
-    {
-        if let Items::Many(items) = &mut self.items {
-            return items.truncate(len);
-        }
-        self.truncate_few(len);
-    }
-
-    /// The same where the list has no items on the heap.
-    #[inline(never)]
-    fn truncate_few(&mut self, len: usize)
-        ensures { self.new ≡ take len self.old }
-    {
-        let items = mem::replace(&mut self.items, Items::Empty);
-        self.items = truncated(items, len);
-    }
-
-    /// Moves all items of another list to the end of this one. At an `Err`, which comes only for want of memory, both lists are
-    /// as before.
-    pub fn append(&mut self, alloc: Global, other: &mut List<T>) -> Result<(), AllocError>
-        ensures ok { OnOk result (self.new ≡ self.old ++ other.old) }
-        ensures emptied { OnOk result (other.new ≡ []) }
-        ensures err { OnErr result (self.new ≡ self.old) }
-        ensures kept { OnErr result (other.new ≡ other.old) }
-    {
-        let end = self.len();
-        let front = mem::replace(&mut self.items, Items::Empty);
-        let back = mem::replace(&mut other.items, Items::Empty);
-        let (front, back, answer) = appended(alloc, front, end, back);
-        self.items = front;
-        other.items = back;
-        answer
-    }
-
-    /// Drops all items.
-    pub fn clear(&mut self)
-        ensures { self.new ≡ [] }
-    {
-        self.truncate(0);
+        last
     }
 }
 
 ghost use Rattle.hp_elements.specs.Lists.{listed, left_of};
 
-/// The first so many items.
-fn truncated<T: Drop>(items: Items<T>, len: usize) -> Items<T>
-    ensures { listed result ≡ take len (listed items) }
-{
-    match items {
-        Items::Empty => Items::Empty,
-        Items::One([item]) => {
-            if len == 0 {
-                Items::Empty
-            } else {
-                Items::One([item])
-            }
-        }
-        Items::Many(mut items) => {
-            items.truncate(len);
-            Items::Many(items)
-        }
-    }
-}
-
-/// The items without the one at a place, and that one.
-fn removed<T: Drop>(items: Items<T>, at: usize) -> (Items<T>, T)
-    requires { at < length (listed items) }
-    ensures value { result.1 ≡ slice_index_or (listed items) at result.1 }
-    ensures items { listed result.0 ≡ remove (listed items) at }
-{
-    match items {
-        Items::Empty => unreachable!(),
-        Items::One([item]) => (Items::Empty, item),
-        Items::Many(mut items) => {
-            let item = items.remove(at);
-            (Items::Many(items), item)
-        }
-    }
-}
-
-/// The only item with another one at a place; where there is no memory, the only one, and the other.
-fn two<T: Drop>(
-    alloc: Global,
-    only: T,
-    at: usize,
-    item: T,
-) -> (Items<T>, Result<(), AllocFailed<T>>)
-    requires { at ≤ 1 }
-    ensures ok { OnOk result.1 (listed result.0 ≡ insert (only ∷ []) at item) }
-    ensures err { OnErr result.1 (listed result.0 ≡ only ∷ []) }
-    ensures returned { IfErr result.1 (λ failed. failed.value ≡ item) }
-{
-    let mut items = Vec::new(alloc);
-    match items.push(only) {
-        Err(failed) => { (Items::One([failed.value]), Err(AllocFailed { value: item })) }
-        Ok(()) => {
-            let answer = items.insert(at, item);
-            (Items::Many(items), answer)
-        }
-    }
-}
-
-/// The items with one more at a place; where there is no memory, the items as they are, and the item.
-fn inserted<T: Drop>(
+/// The items with one more behind them; where there is no memory, the items as they are, and the item.
+fn pushed<T: Drop>(
     alloc: Global,
     items: Items<T>,
-    at: usize,
     item: T,
 ) -> (Items<T>, Result<(), AllocFailed<T>>)
-    requires { at ≤ length (listed items) }
-    ensures ok { OnOk result.1 (listed result.0 ≡ insert (listed items) at item) }
+    ensures ok { OnOk result.1 (listed result.0 ≡ listed items ++ item ∷ []) }
     ensures err { OnErr result.1 (listed result.0 ≡ listed items) }
     ensures returned { IfErr result.1 (λ failed. failed.value ≡ item) }
 {
     match items {
         Items::Empty => (Items::One([item]), Ok(())),
-        Items::One([only]) => two(alloc, only, at, item),
+        Items::One([first]) => two(alloc, first, item),
         Items::Many(mut items) => {
-            let answer = items.insert(at, item);
+            let answer = items.push(item);
             (Items::Many(items), answer)
         }
     }
 }
 
-/// All items in the first place, and none in the second; where there is no memory, the items as they are.
-fn appended<T: Drop>(
-    alloc: Global,
-    front: Items<T>,
-    end: usize,
-    back: Items<T>,
-) -> (Items<T>, Items<T>, Result<(), AllocError>)
-    requires { end ≡ length (listed front) }
-    ensures ok { OnOk result.2 (listed result.0 ≡ listed front ++ listed back) }
-    ensures emptied { OnOk result.2 (listed result.1 ≡ []) }
-    ensures err { OnErr result.2 (listed result.0 ≡ listed front) }
-    ensures kept { OnErr result.2 (listed result.1 ≡ listed back) }
+/// A first item and a second one; where there is no memory, the first alone, and the second.
+fn two<T: Drop>(alloc: Global, first: T, second: T) -> (Items<T>, Result<(), AllocFailed<T>>)
+    ensures ok { OnOk result.1 (listed result.0 ≡ first ∷ second ∷ []) }
+    ensures err { OnErr result.1 (listed result.0 ≡ first ∷ []) }
+    ensures returned { IfErr result.1 (λ failed. failed.value ≡ second) }
 {
-    match back {
-        Items::Empty => (front, Items::Empty, Ok(())),
-        Items::One([last]) => {
-            let (items, answer) = inserted(alloc, front, end, last);
-            match answer {
-                Ok(()) => (items, Items::Empty, Ok(())),
-                Err(failed) => (items, Items::One([failed.value]), Err(AllocError)),
-            }
+    let mut items = Vec::new(alloc);
+    match items.push(first) {
+        Err(failed) => {
+            (
+                Items::One([failed.value]),
+                Err(AllocFailed { value: second }),
+            )
         }
-        Items::Many(more) => before_all(front, more),
+        Ok(()) => {
+            let answer = items.push(second);
+            (Items::Many(items), answer)
+        }
     }
 }
 
-/// Some items before others, and none; where there is no memory, both as they are.
-fn before_all<T: Drop>(
-    items: Items<T>,
-    mut more: Vec<T>,
-) -> (Items<T>, Items<T>, Result<(), AllocError>)
-    ensures ok { OnOk result.2 (listed result.0 ≡ listed items ++ more.items) }
-    ensures emptied { OnOk result.2 (listed result.1 ≡ []) }
-    ensures err { OnErr result.2 (listed result.0 ≡ listed items) }
-    ensures kept { OnErr result.2 (listed result.1 ≡ more.items) }
+/// The items without the last one, and that one.
+fn popped<T: Drop>(items: Items<T>) -> (Items<T>, Option<T>)
+    ensures { MatchOption result.1 ((listed items ≡ []) × (listed result.0 ≡ [])) (λ item. listed items ≡ listed result.0 ++ item ∷ []) }
 {
     match items {
-        Items::Empty => (Items::Many(more), Items::Empty, Ok(())),
-        Items::One([first]) => match more.insert(0, first) {
-            Ok(()) => (Items::Many(more), Items::Empty, Ok(())),
-            Err(failed) => (
-                Items::One([failed.value]),
-                Items::Many(more),
-                Err(AllocError),
-            ),
-        },
+        Items::Empty => (Items::Empty, None),
+        Items::One([item]) => (Items::Empty, Some(item)),
         Items::Many(mut items) => {
-            let answer = items.append(&mut more);
-            (Items::Many(items), Items::Many(more), answer)
+            let last = items.pop();
+            (Items::Many(items), last)
         }
     }
 }

@@ -8,7 +8,8 @@ use crate::token::DoctypeParts;
 impl<'p> DoctypeParts<'p> {
     ghost use Rattle.hp_elements.specs.Quirks.{gives_quirks};
 
-    /// Whether a doctype of these parts puts the document into quirks mode (13.2.6.4.1).
+    /// Whether a doctype of these parts puts the document into quirks mode (13.2.6.4.1), by this profile's list: it lacks many of
+    /// the standard's identifiers, and three of its prefixes take in more.
     pub fn gives_quirks(&self) -> bool
         ensures { result ≡ gives_quirks self.now }
     {

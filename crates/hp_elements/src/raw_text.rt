@@ -7,8 +7,8 @@ use crate::known::Known;
 use crate::token::Rest;
 
 impl Known {
-    /// The state in which the lexer reads the text of an HTML element of that name (13.2.6.2, 13.2.6.4.7); `None` where it is
-    /// read as data.
+    /// The state in which the lexer reads the text of an HTML element of that name (13.2.6.2, 13.2.6.4.4, 13.2.6.4.7); `None`
+    /// where it is read as data.
     pub fn raw_text(self) -> Option<Rest>
         ensures { result ≡ raw_text_of (text_of self) }
     {

@@ -12,45 +12,80 @@ use std::marker::Model;
 /// An insertion mode (13.2.4.1).
 #[derive(Clone, Copy, PartialEq, Eq)]
 pub enum Mode {
+    /// "initial" (13.2.6.4.1).
     Initial,
+    /// "before html" (13.2.6.4.2).
     BeforeHtml,
+    /// "before head" (13.2.6.4.3).
     BeforeHead,
+    /// "in head" (13.2.6.4.4).
     InHead,
+    /// "in head noscript" (13.2.6.4.5).
     InHeadNoscript,
+    /// "after head" (13.2.6.4.6).
     AfterHead,
+    /// "in body" (13.2.6.4.7).
     InBody,
+    /// "text" (13.2.6.4.8).
     Text,
+    /// "in table" (13.2.6.4.9).
     InTable,
+    /// "in table text" (13.2.6.4.10).
     InTableText,
+    /// "in caption" (13.2.6.4.11).
     InCaption,
+    /// "in column group" (13.2.6.4.12).
     InColumnGroup,
+    /// "in table body" (13.2.6.4.13).
     InTableBody,
+    /// "in row" (13.2.6.4.14).
     InRow,
+    /// "in cell" (13.2.6.4.15).
     InCell,
+    /// "in select" (13.2.6.4.16).
     InSelect,
+    /// "in select in table" (13.2.6.4.17).
     InSelectInTable,
+    /// "in template" (13.2.6.4.18).
     InTemplate,
+    /// "after body" (13.2.6.4.19).
     AfterBody,
+    /// "in frameset" (13.2.6.4.20).
     InFrameset,
+    /// "after frameset" (13.2.6.4.21).
     AfterFrameset,
+    /// "after after body" (13.2.6.4.22).
     AfterAfterBody,
+    /// "after after frameset" (13.2.6.4.23).
     AfterAfterFrameset,
 }
 
 /// A resting state of the lexer: one in which no code point is held back.
 #[derive(Clone, Copy, PartialEq, Eq)]
 pub enum Rest {
+    /// Data (13.2.5.1).
     Data,
+    /// RCDATA (13.2.5.2).
     Rcdata,
+    /// RAWTEXT (13.2.5.3).
     Rawtext,
+    /// Script data (13.2.5.4).
     Script,
+    /// PLAINTEXT (13.2.5.5).
     Plaintext,
+    /// Script data escaped (13.2.5.20).
     Escaped,
+    /// Script data escaped dash (13.2.5.21).
     EscapedDash,
+    /// Script data escaped dash dash (13.2.5.22).
     EscapedDashDash,
+    /// Script data double escaped (13.2.5.27).
     Double,
+    /// Script data double escaped dash (13.2.5.28).
     DoubleDash,
+    /// Script data double escaped dash dash (13.2.5.29).
     DoubleDashDash,
+    /// CDATA section (13.2.5.69).
     Cdata,
 }
 
@@ -134,48 +169,12 @@ impl<'p> Doctype<'p> {
         &self.parts
     }
 
-    /// A doctype of equal parts.
-    pub fn copy(&self, alloc: Global) -> Result<Doctype<'static>, AllocError>
-        ensures { IfOk result (λ copy. copy ≡ self.now) }
-    {
-        let parts = &self.parts;
-        let Ok(name) = copied_part(alloc, &parts.name) else {
-            return Err(AllocError);
-        };
-        let Ok(public) = copied_part(alloc, &parts.public) else {
-            return Err(AllocError);
-        };
-        let Ok(system) = copied_part(alloc, &parts.system) else {
-            return Err(AllocError);
-        };
-        let copy = DoctypeParts {
-            name,
-            public,
-            system,
-            force_quirks: parts.force_quirks,
-        };
-        Doctype::new(alloc, copy)
-    }
-
     /// Gives the parts back.
     pub fn into_parts(self) -> DoctypeParts<'p>
         ensures { result ≡ self.entry }
     {
         let Doctype { parts } = self;
         Box::into_inner(parts)
-    }
-}
-
-/// A part that equals a part of a doctype.
-fn copied_part(alloc: Global, part: &Option<Text<'_>>) -> Result<Option<Text<'static>>, AllocError>
-    ensures { IfOk result (λ copy. copy ≡ part.now) }
-{
-    match part {
-        None => Ok(None),
-        Some(text) => match text.copy(alloc) {
-            Ok(text) => Ok(Some(text)),
-            Err(error) => Err(error),
-        },
     }
 }
 
@@ -208,41 +207,6 @@ impl<'p> Token<'p> {
             Token::Comment { .. } => Kind::Comment,
             Token::Doctype { .. } => Kind::Doctype,
             Token::EndOfInput => Kind::EndOfInput,
-        }
-    }
-
-    /// A token that equals this one and owns its texts.
-    pub fn copy(&self, alloc: Global) -> Result<Token<'static>, AllocError>
-        ensures { IfOk result (λ copy. copy ≡ self.now) }
-    {
-        match self {
-            Token::Characters { class, text } => match text.copy(alloc) {
-                Ok(text) => Ok(Token::Characters {
-                    class: *class,
-                    text,
-                }),
-                Err(error) => Err(error),
-            },
-            Token::Start { self_closing, tag } => match tag.copy(alloc) {
-                Ok(tag) => Ok(Token::Start {
-                    self_closing: *self_closing,
-                    tag,
-                }),
-                Err(error) => Err(error),
-            },
-            Token::EndTag { name } => match name.copy(alloc) {
-                Ok(name) => Ok(Token::EndTag { name }),
-                Err(error) => Err(error),
-            },
-            Token::Comment { text } => match text.copy(alloc) {
-                Ok(text) => Ok(Token::Comment { text }),
-                Err(error) => Err(error),
-            },
-            Token::Doctype { doctype } => match doctype.copy(alloc) {
-                Ok(doctype) => Ok(Token::Doctype { doctype }),
-                Err(error) => Err(error),
-            },
-            Token::EndOfInput => Ok(Token::EndOfInput),
         }
     }
 }

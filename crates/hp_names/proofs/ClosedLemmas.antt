@@ -1,5 +1,5 @@
 -- A name of a lawful table that ends with a semicolon is the longest one wherever a text begins with it.
-use Rattle.std.proofs.Common.{◌≡◌, ℕ, ◌+◌, ◌-◌, ◌<◌, suc, zero, List, [], ◌∷◌, get_or, Bool, true, false, ◌&&◌, not, nat_lt, length, refl, arith, ◌∙◌, sym, ap, None, Some, eqb-true}
+use Rattle.std.proofs.Common.{◌≡◌, ℕ, ◌+◌, ◌-◌, ◌<◌, suc, zero, List, [], ◌∷◌, get_or, Bool, true, false, not, nat_lt, length, refl, arith, ◌∙◌, sym, ap, None, Some, eqb-true}
 use Rattle.std.specs.List.{list_all}
 use Rattle.std.proofs.lemmas.List.{get_or_default}
 use Rattle.std.proofs.lemmas.Bool.Decides.{nat_tests}

@@ -7,7 +7,7 @@ use Rattle.std.proofs.lemmas.Bool.Decides.{nat_tests}
 use Rattle.std.proofs.lemmas.List.Elements.{All-push, All-nil, Contains-append_left, Contains-append_right}
 use Rattle.hp_names.specs.Order.{begins}
 use Rattle.hp_names.specs.References.{Reference}
-use Rattle.hp_names.specs.Longest.{longest, longest_after, longer_of, found_of, IsLongest, goes_on, may_grow, StaysDecided}
+use Rattle.hp_names.specs.Longest.{longest, longest_after, longer_of, found_of, IsLongest, goes_on, may_grow}
 use Rattle.hp_names.specs.declared.names.Found.{Found}
 
 one : (r : Reference) → Contains (r ∷ []) r
@@ -78,15 +78,6 @@ begins-decided (c ∷ cs) more (w ∷ ws) h =
     let later : (begins ws cs && nat_lt (length cs) (length ws)) ≡ false → begins (cs ++ more) ws ≡ begins cs ws = begins-decided cs more ws in
     grind (arith, nat_tests)
 
-pub ended-decided : (text more word : List ℕ) → (begins word text && nat_lt (length text) (length word)) ≡ false
-    → (begins word (text ++ more) && nat_lt (length (text ++ more)) (length word)) ≡ false
-ended-decided [] more [] h = grind (arith, nat_tests)
-ended-decided (c ∷ cs) more [] h = refl
-ended-decided [] more (w ∷ ws) h = absurd (grind (arith, nat_tests))
-ended-decided (c ∷ cs) more (w ∷ ws) h =
-    let later : (begins ws cs && nat_lt (length cs) (length ws)) ≡ false → (begins ws (cs ++ more) && nat_lt (length (cs ++ more)) (length ws)) ≡ false = ended-decided cs more ws in
-    grind (arith, nat_tests)
-
 pub or_first : (x y : Bool) → (x || y) ≡ false → x ≡ false
 or_first true y h = h
 or_first false y h = refl
@@ -100,14 +91,6 @@ pub longest-decided : (table : List Reference) (text more : List ℕ) (best : Op
 longest-decided [] text more best h = refl
 longest-decided (r ∷ rs) text more best h =
     rw (begins-decided text more r.name (or_first (goes_on text r) _ h)) (longest-decided rs text more _ (or_second (goes_on text r) _ h))
-
-grow-decided : (table : List Reference) (text more : List ℕ) → may_grow table text ≡ false → may_grow table (text ++ more) ≡ false
-grow-decided [] text more h = refl
-grow-decided (r ∷ rs) text more h =
-    rw (ended-decided text more r.name (or_first (goes_on text r) _ h)) (grow-decided rs text more (or_second (goes_on text r) _ h))
-
-pub stays-decided : (table : List Reference) (text : List ℕ) → may_grow table text ≡ false → StaysDecided table text
-stays-decided table text h = λ more. (longest-decided table text more None h, grow-decided table text more h)
 
 pub OnFalse-from : (b : Bool) (P : Type 0) → (b ≡ false → P) → OnFalse b P
 OnFalse-from true P h = tt

@@ -1,4 +1,4 @@
--- The reference names that the product knows without a table of its own: those of HTML 4, and `apos` (section 13.5 has these among others).
+-- The reference names that the product knows without a table of its own: those of HTML 4, `apos`, and `AMP COPY GT LT QUOT REG` (section 13.5 has these among others).
 use Prim.Native.String.{String}
 use Rattle.std.specs.Prelude.{ℕ, ◌+◌, ◌==◌, List, [], ◌∷◌, ◌++◌, None, codes, if◌then◌else◌}
 use Rattle.std.specs.List.{slice_split}

@@ -39,10 +39,6 @@ IsLongest table text None = All (λ r. begins text r.name ≡ false) table
 IsLongest table text (Some f) = (r : Reference) × Contains table r × (begins text r.name ≡ true) × (f ≡ found_of r)
     × All (λ q. begins text q.name ≡ true → length q.name ≤ length r.name) table
 
--- the law of a decided text: whatever follows, the longest name stays, and no name goes on after it
-abbrev pub StaysDecided : List Reference → List ℕ → Type 0
-StaysDecided table text = (more : List ℕ) → (longest table (text ++ more) ≡ longest table text) × (may_grow table (text ++ more) ≡ false)
-
 -- this name goes on after the text, or is the text and has no semicolon, so that what follows decides what it stands for
 abbrev pub may_be_more : List ℕ → Reference → Bool
 may_be_more text r = begins r.name text && (nat_lt (length text) (length r.name) || not (ends_with_semicolon r.name))

@@ -4,7 +4,7 @@ ghost use Rattle.hp_names.specs.BuiltIn as table;
 ghost use Rattle.hp_names.specs.References.{is_table};
 ghost use Rattle.std.specs.Bool.{OnFalse};
 ghost use Rattle.hp_names.specs.Longest as spec;
-ghost use Rattle.hp_names.specs.Longest.{IsLongest, OverChars, StaysClosed, StaysDecided};
+ghost use Rattle.hp_names.specs.Longest.{IsLongest, OverChars, StaysClosed};
 
 use crate::search;
 use crate::table::{BYTES, ROWS, Row};
@@ -39,7 +39,8 @@ impl Model for Names {
 }
 
 impl Names {
-    /// The 365 names of HTML 4 with `apos`, of which 106 stand without a semicolon too.
+    /// The 365 built-in names: the 252 of HTML 4, `apos`, and `AMP COPY GT LT QUOT REG`, each with its semicolon, and 106 of them
+    /// without it too.
     pub fn built_in() -> Names
         ensures { result ≡ table.built_in }
     {
@@ -49,7 +50,7 @@ impl Names {
         }
     }
 
-    /// The longest name of the table that the text begins with.
+    /// The longest name of the table that the text begins with (13.2.5.73); `None` where it begins with no name of the table.
     pub fn longest(&self, text: &[u8]) -> Option<Found>
         ensures exact { result ≡ spec.longest self.now text.now }
         ensures law { IsLongest self.now text.now result }
@@ -58,14 +59,14 @@ impl Names {
     }
 
     /// Whether the text is the front of a longer name of the table, so that what follows may make a longer name.
-    pub fn might_grow(&self, text: &[u8]) -> bool
+    fn might_grow(&self, text: &[u8]) -> bool
         ensures exact { result ≡ spec.may_grow self.now text.now }
-        ensures decided { OnFalse result (StaysDecided self.now text.now) }
     {
         search::may_grow(self.bytes, self.rows, text)
     }
 
-    /// Whether more text is needed: the text is the front of a longer name of the table, or a name of it without a semicolon.
+    /// Whether more text is needed (13.2.5.73): the text is the front of a longer name of the table, or a name of it without a
+    /// semicolon.
     pub fn is_open(&self, text: &[u8]) -> bool
         ensures exact { result ≡ spec.is_open self.now text.now }
         ensures closed { OnFalse result (StaysClosed self.now text.now) }

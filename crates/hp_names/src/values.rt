@@ -10,7 +10,8 @@ static CONTROLS: [char; 32] = [
     '\u{2DC}', '\u{2122}', '\u{161}', '\u{203A}', '\u{153}', '\u{9D}', '\u{17E}', '\u{178}',
 ];
 
-/// The code point that a numeric reference of this value stands for.
+/// The code point that a numeric reference of this value stands for (13.2.5.80): U+FFFD for 0, a surrogate and what is above
+/// U+10FFFF; another one for most values from 0x80 to 0x9F.
 pub fn numeric(value: u64) -> char
     ensures { result ≡ spec.numeric value }
 {

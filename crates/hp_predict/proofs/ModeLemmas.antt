@@ -29,15 +29,6 @@ where_true : (b : Bool) (o p : Option Mode) → MaySettle o → MaySettle p → 
 where_true true o p x y = x
 where_true false o p x y = y
 
-template_settled : (m : Mode) → is_template_mode m ≡ true → Settled m
-template_settled mode.InTemplate h = refl
-template_settled mode.InTable h = refl
-template_settled mode.InColumnGroup h = refl
-template_settled mode.InTableBody h = refl
-template_settled mode.InRow h = refl
-template_settled mode.InBody h = refl
-template_settled _ h = absurd (true_false h)
-
 select_settled : (b : Bool) → Settled (select_mode b)
 select_settled true = refl
 select_settled false = refl

@@ -201,7 +201,7 @@ static CASES: &[Case] = &[
 
 /// Whether each answer that was kept is true of the state.
 fn are_true(state: &Control, kept: &Assumptions) -> bool {
-    for pair in kept.iter() {
+    for pair in kept.as_slice() {
         if !truth(state, &pair.question, &pair.answer) {
             return false;
         }
