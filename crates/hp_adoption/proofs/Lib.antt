@@ -10,3 +10,4 @@ pub mod LastEntry
 pub mod FewEqual
 pub mod Standing
 pub mod Climbing
+pub mod Settled

@@ -3,7 +3,7 @@ ghost use Rattle.std.specs.Prelude.{◌≡◌, [], ◌∷◌, IfOk};
 ghost use Rattle.hp_control.specs.Adoption.{edit_at};
 
 use hp_control::{FormattingEntry, Stack};
-use hp_elements::{List, NoMemory};
+use hp_elements::NoMemory;
 use hp_views::{Walk, listed_walk};
 use std::alloc::Global;
 
@@ -41,7 +41,7 @@ pub fn follow(
     ensures { IfOk result (λ _. list.new ≡ edit_at id 0 (entry ∷ []) list.old) }
 {
     match listed_walk(list, id) {
-        Walk::Found(depth) => list.splice(alloc, depth, 0, List::of_one(entry)),
+        Walk::Found(depth) => list.insert_at(alloc, depth, entry),
         Walk::Stopped => Ok(()),
         Walk::PastAll => Ok(()),
     }

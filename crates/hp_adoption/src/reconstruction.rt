@@ -6,20 +6,17 @@ ghost use Rattle.hp_adoption.specs.Still.{is_still_at};
 ghost use Rattle.hp_adoption.specs.ReconPlans.{is_settled as spec_is_settled, stale_walk as spec_stale_walk, renew_plan, renew_down_plan, reconstruct_plan};
 
 use hp_control::{Below, Change, Crossing, FormattingEntry, OpenElements, Refusal};
-use hp_views::{View, Walk, older_quiet, open_walk, point_of};
+use hp_views::{View, Walk, older_quiet, point_of};
 use std::alloc::Global;
 
 /// Whether the entry is a marker or its element is open.
+#[tactic(auto, using(crate::proofs::Settled::open_found))]
 fn is_settled(stack: &OpenElements, entry: &FormattingEntry) -> bool
     ensures { result ≡ spec_is_settled stack.now entry.now }
 {
     match entry {
         FormattingEntry::Marker => true,
-        FormattingEntry::Element { id, .. } => match open_walk(stack, *id) {
-            Walk::Found(_) => true,
-            Walk::Stopped => false,
-            Walk::PastAll => false,
-        },
+        FormattingEntry::Element { id, .. } => stack.is_open(*id),
     }
 }
 

@@ -2,8 +2,9 @@ pub mod Rooms
 pub mod Reversed
 pub mod RestLemmas
 pub mod WalkLemmas
-pub mod EndLemmas
+pub mod SummaryLemmas
 pub mod StandingLemmas
+pub mod OpenLemmas
 pub mod NothingLemmas
 pub mod TextTests
 pub mod TagTests

@@ -7,21 +7,6 @@ use Rattle.hp_tokens.specs.declared.state.State.TheVariants.{Data, Rcdata, Rawte
 use Rattle.hp_tokens.specs.States.{is_resting, state_of_rest}
 use Rattle.hp_control.specs.Truth.{rest_of}
 
-pub no_rest : (s : State) → is_resting s ≡ false → rest_of s ≡ None
-no_rest Data h = absurd (cc)
-no_rest Rcdata h = absurd (cc)
-no_rest Rawtext h = absurd (cc)
-no_rest ScriptData h = absurd (cc)
-no_rest Plaintext h = absurd (cc)
-no_rest ScriptDataEscaped h = absurd (cc)
-no_rest ScriptDataEscapedDash h = absurd (cc)
-no_rest ScriptDataEscapedDashDash h = absurd (cc)
-no_rest ScriptDataDoubleEscaped h = absurd (cc)
-no_rest ScriptDataDoubleEscapedDash h = absurd (cc)
-no_rest ScriptDataDoubleEscapedDashDash h = absurd (cc)
-no_rest CdataSection h = absurd (cc)
-no_rest _ h = refl
-
 rest_of_rest : (r : Rest) → rest_of (state_of_rest r) ≡ Some r
 rest_of_rest rest.Data = refl
 rest_of_rest rest.Rcdata = refl

@@ -1,7 +1,8 @@
 -- What a list turned round is, where a part is taken off.
 use Rattle.std.proofs.Common.{◌≡◌, ℕ, suc, ◌+◌, ◌-◌, ◌<◌, ◌≤◌, List, ◌∷◌, ◌++◌, length, take, drop, get_or, reverse, ap, sym, ◌∙◌, arith, length-drop, drop-cons}
 use Rattle.std.proofs.lemmas.List.{length-reverse, reverse-append, take-append-drop, take_at, drop_at}
-use Rattle.std.specs.List.{remove}
+use Rattle.std.specs.List.{remove, insert}
+use Rattle.hp_control.proofs.Setting.{turned}
 
 reverse_parts : {X : Type 0} (n : ℕ) (xs : List X) → reverse xs ≡ reverse (drop n xs) ++ reverse (take n xs)
 reverse_parts n xs = sym (ap reverse (take-append-drop n xs)) ∙ reverse-append (take n xs) (drop n xs)
@@ -28,12 +29,9 @@ remove_reverse n xs h =
     ∙ (ap (λ m. take n (reverse xs) ++ reverse (take m xs)) f
     ∙ ap (λ l. take n (reverse xs) ++ l) (drop_reverse (n + 1) xs (omega arith)))))
 
--- one more item of a list, from its end on
-pub piled : {X : Type 0} (xs : List X) (count turn : ℕ) (x : X) (done : List X) → count ≡ length xs → turn < count → x ≡ get_or xs (count - 1 - turn) x → done ≡ drop (count - turn) xs → x ∷ done ≡ drop (count - (turn + 1)) xs
-piled xs count turn x done c t v d =
-    let e : count - (turn + 1) ≡ count - 1 - turn = omega arith in
-    let f : suc (count - 1 - turn) ≡ count - turn = omega arith in
-    let h : count - 1 - turn < length xs = omega arith in
-    ap (λ y. y ∷ done) v
-    ∙ (ap (λ rest. get_or xs (count - 1 - turn) x ∷ rest) (d ∙ ap (λ (n : ℕ). drop n xs) (sym f))
-    ∙ (sym (drop-cons xs (count - 1 - turn) x h) ∙ ap (λ (n : ℕ). drop n xs) (sym e)))
+-- the list with one more item, counted from its end, turned round
+pub insert_reverse : {X : Type 0} (n : ℕ) (xs : List X) (x : X) → n ≤ length xs → reverse (insert xs (length xs - n) x) ≡ take n (reverse xs) ++ x ∷ drop n (reverse xs)
+insert_reverse n xs x h =
+    turned (take (length xs - n) xs) (drop (length xs - n) xs) x
+    ∙ (ap (λ l. l ++ x ∷ reverse (take (length xs - n) xs)) (take_reverse n xs h)
+    ∙ ap (λ l. take n (reverse xs) ++ x ∷ l) (drop_reverse n xs h))

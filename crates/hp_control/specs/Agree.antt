@@ -15,18 +15,6 @@ abbrev pub AllTrue : ControlState → (Question → Answer) → List Question �
 AllTrue s says [] = Unit {0}
 AllTrue s says (q ∷ qs) = (answer_of s q ≡ says q) × AllTrue s says qs
 
-pub all_true_first : (s : ControlState) (says : Question → Answer) (qs rs : List Question) → AllTrue s says (qs ++ rs) → AllTrue s says qs
-all_true_first s says [] rs h = tt
-all_true_first s says (q ∷ qs) rs h = (h.0, all_true_first s says qs rs h.1)
-
-pub all_true_rest : (s : ControlState) (says : Question → Answer) (qs rs : List Question) → AllTrue s says (qs ++ rs) → AllTrue s says rs
-all_true_rest s says [] rs h = h
-all_true_rest s says (q ∷ qs) rs h = all_true_rest s says qs rs h.1
-
-pub all_true_both : (s : ControlState) (says : Question → Answer) (qs rs : List Question) → AllTrue s says qs → AllTrue s says rs → AllTrue s says (qs ++ rs)
-all_true_both s says [] rs h k = k
-all_true_both s says (q ∷ qs) rs h k = (h.0, all_true_both s says qs rs h.1 k)
-
 -- what is kept of these questions is true exactly where what is said is
 pub kept_hold : (s : ControlState) (says : Question → Answer) (qs : List Question) → AllTrue s says qs → Holds (kept_pairs says qs) s
 kept_hold s says [] h = All-nil (λ (k : Kept). answer_of s k.question ≡ k.answer)
@@ -44,11 +32,6 @@ pub ends_alike : {X : Type 0} (s : ControlState) (says : Question → Answer) (p
 ends_alike s says (gives x) h = refl
 ends_alike s says (crosses crossing) h = refl
 ends_alike s says (asks q go) h = ap (λ a. end_by says (go a)) (sym h.0) ∙ ends_alike s says (go (answer_of s q)) h.1
-
-pub asks_alike : {X : Type 0} (s : ControlState) (says : Question → Answer) (p : Plan X) → AllTrue s says (asked_by (answer_of s) p) → asked_by says p ≡ asked_by (answer_of s) p
-asks_alike s says (gives x) h = refl
-asks_alike s says (crosses crossing) h = refl
-asks_alike s says (asks q go) h = ap (λ l. q ∷ l) (ap (λ a. asked_by says (go a)) (sym h.0) ∙ asks_alike s says (go (answer_of s q)) h.1)
 
 -- the same, where what is asked under what is said is true
 pub true_alike : {X : Type 0} (s : ControlState) (says : Question → Answer) (p : Plan X) → AllTrue s says (asked_by says p) → AllTrue s says (asked_by (answer_of s) p)

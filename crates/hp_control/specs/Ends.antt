@@ -1,5 +1,5 @@
 -- Where walks down a stack end, and that from each of its elements which looks for a p element in button scope (13.2.4.2).
-use Rattle.std.specs.Prelude.{◌≡◌, if◌then◌else◌, List, [], ◌∷◌}
+use Rattle.std.specs.Prelude.{if◌then◌else◌, List, [], ◌∷◌}
 use Rattle.hp_elements.specs.Names.{text_of}
 use Rattle.hp_elements.specs.declared.kinds.Kinds.{Kinds}
 use Rattle.hp_elements.specs.declared.kinds.Kinds.TheVariants as kinds
@@ -24,15 +24,3 @@ paragraph_from e below = end_from (kinds.Html (text_of known.P)) (kinds.Set sets
 
 unfoldable pub paragraph_end : List OpenElement → WalkEnd
 paragraph_end es = end_of (kinds.Html (text_of known.P)) (kinds.Set sets.ButtonScopeEnds) es
-
--- that from each element
-abbrev pub paragraph_ends : List OpenElement → List WalkEnd
-paragraph_ends [] = []
-paragraph_ends (e ∷ es) = paragraph_end (e ∷ es) ∷ paragraph_ends es
-
-pub record AreEnds (elements : List OpenElement) (ends : List WalkEnd) : Type 0 where
-  pub same : ends ≡ paragraph_ends elements
-
-abbrev pub first_end : List WalkEnd → WalkEnd
-first_end [] = BelowAll
-first_end (w ∷ ws) = w

@@ -159,9 +159,5 @@ faithful_test_where fits t test next f g d h k = λ s v st fit u.
 pub faithful_test : (t : Split → Plan Bool) (test : ControlState → Bool) (next : Bool → Split → Plan Split) (f g : Act) → FaithfulTest t test → Faithful (next true) f → Faithful (next false) g → Faithful (λ v. followed_by (t v) (λ b. next b v)) (choose test f g)
 faithful_test t test next f g d h k = faithful_test_where any_view t test next f g d h k
 
--- the same plan by another description
-pub faithful_as : (fits : Split → Bool) (p q : Split → Plan Split) (f : Act) → ((s : ControlState) (v : Split) → end_by (answer_of s) (q v) ≡ end_by (answer_of s) (p v)) → FaithfulWhere fits p f → FaithfulWhere fits q f
-faithful_as fits p q f same h = λ s v st fit u. let P : Result Split Crossing → Type 0 = λ e. Matches s v e (f (state_over v s)) in subst P (sym (same s v)) (h s v st fit u)
-
 pub faithful_nothing : Faithful (λ v. gives v) nothing_done
 faithful_nothing = λ s v st fit u. record { control = refl; edits = sym (append-nil (map (named_edit s) v.edits)); own = refl; stands = st }

@@ -1,11 +1,11 @@
 pub mod Edits
 pub mod Held
 pub mod Tree
-pub mod Standings
 pub mod States
 pub mod KindTests
 pub mod Walks
 pub mod Ends
+pub mod Standings
 pub mod Truth
 pub mod Viewing
 pub mod Parts

@@ -58,9 +58,3 @@ runs_crosses {X} {Y} {a} {b} {p} {crossing} next r = record {
 -- whatever carries out the rest from here has carried out the whole
 abbrev pub Partway : {X : Type 0} → Heard → Heard → Plan X → Plan X → Type 0
 Partway {X} start now whole rest = (new : Heard) (end : Result X Crossing) → Runs now new rest end → Runs start new whole end
-
--- what a plan gives is changed before it goes on
-pub end_changed : {X Y Z : Type 0} (says : Question → Answer) (p : Plan X) (f : X → Y) (next : Y → Plan Z) → end_by says (followed_by (followed_by p (λ x. gives (f x))) next) ≡ end_by says (followed_by p (λ x. next (f x)))
-end_changed says (gives x) f next = refl
-end_changed says (crosses crossing) f next = refl
-end_changed says (asks q go) f next = end_changed says (go (says q)) f next

@@ -5,12 +5,6 @@ use Rattle.std.proofs.lemmas.List.{append-nil}
 use Rattle.std.proofs.Math.Bool.{or-false, or_assoc}
 use Rattle.hp_control.specs.Outcome.{Outcome, after, becomes}
 
-pub after_nothing : (o : Outcome) → after o (becomes o.control) ≡ o
-after_nothing o =
-    ap (λ es. record { control = o.control; edits = es; touched = o.touched ++ []; spared = o.spared || false }) (append-nil o.edits)
-    ∙ (ap (λ t. record { control = o.control; edits = o.edits; touched = t; spared = o.spared || false }) (append-nil o.touched)
-    ∙ ap (λ b. record { control = o.control; edits = o.edits; touched = o.touched; spared = b }) (or-false o.spared))
-
 pub after_after : (o p q : Outcome) → after o (after p q) ≡ after (after o p) q
 after_after o p q =
     ap (λ es. record { control = q.control; edits = es; touched = o.touched ++ (p.touched ++ q.touched); spared = o.spared || (p.spared || q.spared) }) (sym (append_assoc o.edits p.edits q.edits))

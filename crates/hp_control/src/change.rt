@@ -46,7 +46,7 @@ pub struct Change {
     pub made: u64,
 }
 
-/// Why an act isn't carried out.
+/// Why an act isn't carried out. The view that it was tried on is spent: what it shows then is not promised.
 #[derive(Clone, Copy)]
 pub enum Refusal {
     /// It touches what was there before the chunk.

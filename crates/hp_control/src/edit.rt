@@ -113,7 +113,8 @@ impl<'p> Edits<'p> {
         }
     }
 
-    /// One more edit, made after the others.
+    /// One more edit, made after the others. At an `Err`, which comes only for want of memory, the edits are as before and the edit
+    /// is dropped.
     #[inline(always)]
     pub fn push(&mut self, alloc: Global, edit: Edit<'p>) -> Result<(), AllocError>
         ensures ok { OnOk result (self.new ≡ self.old ++ edit.entry ∷ []) }
@@ -128,7 +129,8 @@ impl<'p> Edits<'p> {
         Ok(())
     }
 
-    /// An element made for the tag, which has so many attributes, and put into a place, after the others.
+    /// An element made for the tag, which has so many attributes, and put into a place, after the others. At an `Err`, which comes
+    /// only for want of memory, the edits are as before and the tag is dropped.
     #[inline(always)]
     pub fn push_element(
         &mut self,
@@ -165,12 +167,14 @@ impl<'p> Edits<'p> {
         }
     }
 
+    /// The number of edits.
     pub fn len(&self) -> usize
         ensures { result ≡ length self.now }
     {
         self.as_slice().len()
     }
 
+    /// Whether there is no edit.
     pub fn is_empty(&self) -> bool
         ensures { IsTrue result ↔ (self.now ≡ []) }
     {
@@ -184,6 +188,7 @@ impl<'p> Edits<'p> {
         self.room
     }
 
+    /// The edits, in order.
     pub fn as_slice(&self) -> &[Edit<'p>]
         ensures { result.now ≡ self.now }
     {

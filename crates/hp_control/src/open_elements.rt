@@ -1,7 +1,9 @@
-//! The stack of open elements (13.2.4.2), which knows at each element whether a p element is in button scope.
-ghost use Rattle.std.specs.Prelude.{◌≡◌, ◌+◌, ◌-◌, ◌<◌, ◌≤◌, ◌==◌, [], ◌∷◌, ◌++◌, length, take, drop, OnOk, OnErr, IfOk, MatchOption, slice_index_or};
-ghost use Rattle.hp_control.specs.Ends.{paragraph_from, paragraph_end, AreEnds, first_end};
-ghost use Rattle.hp_control.specs.Standings.{elements_of, ends_of};
+//! The stack of open elements (13.2.4.2), which knows at each element whether a p element is in button scope, and the highest id
+//! from there down.
+ghost use Rattle.std.specs.Prelude.{◌≡◌, ◌+◌, ◌-◌, ◌<◌, ◌≤◌, ◌==◌, true, [], ◌∷◌, ◌++◌, length, take, drop, is_some, OnOk, OnErr, IfOk, MatchOption, slice_index_or};
+ghost use Rattle.hp_control.specs.Ends.{paragraph_from, paragraph_end};
+ghost use Rattle.hp_control.specs.Standings.{elements_of, summaries_of, highest_id, summary_from, AreSummaries, first_summary};
+ghost use Rattle.hp_control.specs.Walks.{open_at};
 
 use crate::element::OpenElement;
 use crate::kinds::is_within;
@@ -18,12 +20,23 @@ pub enum WalkEnd {
     BelowAll,
 }
 
+/// How many elements are looked at one by one before a deep stack is searched by halving.
+const NEAR: usize = 16;
+
+/// What is known at an element of it and all below.
+#[derive(Clone, Copy)]
+struct Summary {
+    /// Where the walk from it down ends that looks for a p element in button scope.
+    end: WalkEnd,
+    /// The highest id.
+    highest: u64,
+}
+
 /// An element on the stack.
 #[derive(Drop)]
 struct Standing {
     element: OpenElement,
-    /// Where the walk from it down ends that looks for a p element in button scope.
-    end: WalkEnd,
+    summary: Summary,
 }
 
 /// The stack of open elements. A contract sees it as a list with the current node first.
@@ -35,14 +48,13 @@ pub struct OpenElements {
 impl Model for OpenElements {
     ghost use Rattle.std.specs.Prelude.{List};
     ghost use Rattle.hp_control.specs.declared.element.OpenElement.{OpenElement};
-    ghost use Rattle.hp_control.specs.Ends.{AreEnds};
-    ghost use Rattle.hp_control.specs.Standings.{elements_of, ends_of};
+    ghost use Rattle.hp_control.specs.Standings.{elements_of, summaries_of, AreSummaries};
 
     ghost Value = { List OpenElement };
 
     ghost view = { λ s. elements_of s.standing };
 
-    ghost invariant = { λ s. AreEnds (elements_of s.standing) (ends_of s.standing) };
+    ghost invariant = { λ s. AreSummaries (elements_of s.standing) (summaries_of s.standing) };
 }
 
 /// Where the walk from an element ends, by where that from the next below it ends.
@@ -59,30 +71,44 @@ fn paragraph_from(element: &OpenElement, below: WalkEnd) -> WalkEnd
     }
 }
 
-/// Where the walk from the element at a depth down ends.
-#[tactic(auto, using(crate::proofs::StandingLemmas::end_first, crate::proofs::StandingLemmas::end_none))]
+/// What is known at an element, by what is known at the next below it.
 #[inline(always)]
-fn end_at(standing: &Stack<Standing>, depth: usize) -> WalkEnd
-    ensures { result ≡ first_end (drop depth (ends_of standing.now)) }
+fn summary_from(element: &OpenElement, below: Summary) -> Summary
+    ensures { result ≡ summary_from element.now below }
 {
-    if depth < standing.len() {
-        standing.at(depth).end
-    } else {
-        WalkEnd::BelowAll
+    Summary {
+        end: paragraph_from(element, below.end),
+        highest: element.id.max(below.highest),
     }
 }
 
-/// Finds out anew where the walk ends from the element directly above a depth. Another one stands there meanwhile, so that the
-/// end can be written.
+/// What is known at the element at a depth.
+#[tactic(auto, using(crate::proofs::StandingLemmas::summary_first, crate::proofs::StandingLemmas::summary_none))]
+#[inline(always)]
+fn summary_at(standing: &Stack<Standing>, depth: usize) -> Summary
+    ensures { result ≡ first_summary (drop depth (summaries_of standing.now)) }
+{
+    if depth < standing.len() {
+        standing.at(depth).summary
+    } else {
+        Summary {
+            end: WalkEnd::BelowAll,
+            highest: 0,
+        }
+    }
+}
+
+/// Finds out anew what is known at the element directly above a depth. Another one stands there meanwhile, so that it can be
+/// written.
 fn renew_above(standing: &mut Stack<Standing>, depth: usize)
     requires positive { 0 < depth }
     requires within { depth ≤ length standing.old }
-    requires below { AreEnds (drop depth (elements_of standing.old)) (drop depth (ends_of standing.old)) }
+    requires below { AreSummaries (drop depth (elements_of standing.old)) (drop depth (summaries_of standing.old)) }
     ensures elements { elements_of standing.new ≡ elements_of standing.old }
-    ensures ends { AreEnds (drop (depth - 1) (elements_of standing.new)) (drop (depth - 1) (ends_of standing.new)) }
+    ensures summaries { AreSummaries (drop (depth - 1) (elements_of standing.new)) (drop (depth - 1) (summaries_of standing.new)) }
 {
     let above = depth - 1;
-    let end = paragraph_from(&standing.at(above).element, end_at(standing, depth));
+    let summary = summary_from(&standing.at(above).element, summary_at(standing, depth));
     let another = OpenElement {
         id: 0,
         namespace: Namespace::Html,
@@ -93,24 +119,24 @@ fn renew_above(standing: &mut Stack<Standing>, depth: usize)
         above,
         Standing {
             element: another,
-            end,
+            summary,
         },
     );
     let _ = standing.replace(
         above,
         Standing {
             element: old.element,
-            end,
+            summary,
         },
     );
 }
 
-/// Finds out anew where the walks from the top elements end.
+/// Finds out anew what is known at the top elements.
 fn renew(standing: &mut Stack<Standing>, count: usize)
     requires count { count ≤ length standing.old }
-    requires below { AreEnds (drop count (elements_of standing.old)) (drop count (ends_of standing.old)) }
+    requires below { AreSummaries (drop count (elements_of standing.old)) (drop count (summaries_of standing.old)) }
     ensures elements { elements_of standing.new ≡ elements_of standing.old }
-    ensures ends { AreEnds (elements_of standing.new) (ends_of standing.new) }
+    ensures summaries { AreSummaries (elements_of standing.new) (summaries_of standing.new) }
 {
     for turn in 0..count {
         renew_above(standing, count - turn);
@@ -157,7 +183,49 @@ impl OpenElements {
     pub fn paragraph(&self) -> WalkEnd
         ensures { result ≡ paragraph_end self.now }
     {
-        end_at(&self.standing, 0)
+        summary_at(&self.standing, 0).end
+    }
+
+    /// The highest id from a depth down; 0 where no element stands there.
+    #[inline(always)]
+    pub fn highest_from(&self, depth: usize) -> u64
+        ensures { result ≡ highest_id (drop depth self.now) }
+    {
+        summary_at(&self.standing, depth).highest
+    }
+
+    /// Whether an element of this id stands on the stack. Where none can stand further down the walk ends, and from so many
+    /// elements on it is looked for by halving: as a rule ids rise from the bottom up.
+    pub fn is_open(&self, id: u64) -> bool
+        ensures { result ≡ is_some (open_at id self.now) }
+    {
+        for depth in 0..self.len() {
+            if self.highest_from(depth) < id {
+                return false;
+            }
+            if self.at(depth).id == id || depth == NEAR && self.is_in_order(id) {
+                return true;
+            }
+        }
+        false
+    }
+
+    /// Looks for an element of this id where it stands if all ids below it are lower. Answers `true` only where it is there.
+    #[inline(never)]
+    fn is_in_order(&self, id: u64) -> bool
+        ensures { result ≡ true → is_some (open_at id self.now) ≡ true }
+    {
+        let mut from = 0;
+        let mut to = self.len();
+        while from < to {
+            let middle = from + (to - from) / 2;
+            if self.highest_from(middle) < id {
+                to = middle;
+            } else {
+                from = middle + 1;
+            }
+        }
+        from > 0 && self.at(from - 1).id == id
     }
 
     /// Puts an element on top. At an `Err`, which comes only for want of memory, the stack is as before.
@@ -166,8 +234,8 @@ impl OpenElements {
         ensures ok { OnOk result (self.new ≡ element ∷ self.old) }
         ensures err { OnErr result (self.new ≡ self.old) }
     {
-        let end = paragraph_from(&element, self.paragraph());
-        self.standing.add(alloc, Standing { element, end })
+        let summary = summary_from(&element, summary_at(&self.standing, 0));
+        self.standing.add(alloc, Standing { element, summary })
     }
 
     /// Takes the top `count` elements off.

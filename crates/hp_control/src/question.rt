@@ -60,6 +60,7 @@ pub enum Question {
     Pointer {
         depth: u64,
     },
+    /// A fact of the older state as a whole.
     Fact {
         which: FactKind,
     },
@@ -72,6 +73,7 @@ pub enum Question {
 /// A fact of the older state as a whole.
 #[derive(Clone, Copy)]
 pub enum FactKind {
+    /// Whether the document is in quirks mode.
     Quirks,
     /// The name of the last start tag.
     LastTag,
@@ -86,6 +88,7 @@ pub enum EntryKind {
     Closed,
     /// The end of a scope stands above its element.
     Hidden,
+    /// Its element is in scope.
     InScope,
 }
 

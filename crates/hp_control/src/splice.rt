@@ -1,9 +1,10 @@
-//! Items put into a stack in the place of others, and taken out of its middle.
-ghost use Rattle.std.specs.Prelude.{◌≡◌, ◌+◌, ◌<◌, ◌≤◌, [], ◌∷◌, ◌++◌, length, take, drop, slice_set, slice_index_or, IfOk, MatchOption};
+//! Items put into a stack's middle, in the place of others, and taken off.
+ghost use Rattle.std.specs.Prelude.{◌≡◌, ◌<◌, ◌≤◌, [], ◌∷◌, length, slice_set, slice_index_or, OnOk, OnErr, MatchOption};
 ghost use Rattle.hp_control.specs.Adoption.{spliced};
 
+use crate::items::begin;
 use crate::stack::Stack;
-use hp_elements::{List, NoMemory};
+use hp_elements::NoMemory;
 use std::alloc::Global;
 use std::mem;
 
@@ -32,49 +33,21 @@ impl<T: Drop> Stack<T> {
         }
     }
 
-    /// Takes the top `count` items off; they come with the topmost first. At an `Err`, which comes only for want of memory,
-    /// the stack is spent.
-    pub fn lift(&mut self, alloc: Global, count: usize) -> Result<List<T>, NoMemory>
-        requires { count ≤ length self.old }
-        ensures top { IfOk result (λ top. top ≡ take count self.old) }
-        ensures rest { IfOk result (λ _. self.new ≡ drop count self.old) }
+    /// Puts an item in below the top `depth` ones. At an `Err`, which comes only for want of memory, the stack is as before and the
+    /// item is dropped.
+    pub fn insert_at(&mut self, alloc: Global, depth: usize, item: T) -> Result<(), NoMemory>
+        requires { depth ≤ length self.old }
+        ensures ok { OnOk result (self.new ≡ spliced depth 0 (item ∷ []) self.old) }
+        ensures err { OnErr result (self.new ≡ self.old) }
     {
-        let mut top = List::new();
-        for _turn in 0..count {
-            match self.pop() {
-                Some(item) => top.push(alloc, item)?,
-                None => unreachable!(),
+        let place = self.len() - depth;
+        begin(alloc, &mut self.items);
+        match &mut self.items {
+            Some(items) => {
+                items.insert(place, item)?;
+                Ok(())
             }
+            None => unreachable!(),
         }
-        Ok(top)
-    }
-
-    /// Puts items on top, the first of them topmost. At an `Err`, which comes only for want of memory, the stack is spent.
-    pub fn pile(&mut self, alloc: Global, items: List<T>) -> Result<(), NoMemory>
-        ensures { IfOk result (λ _. self.new ≡ items ++ self.old) }
-    {
-        let mut rest = items;
-        while let Some(item) = rest.pop() {
-            self.push(alloc, item)?;
-        }
-        Ok(())
-    }
-
-    /// Puts items, the first of them topmost, in the place of `count` items at a depth. At an `Err`, which comes only for want
-    /// of memory, the stack is spent.
-    pub fn splice(
-        &mut self,
-        alloc: Global,
-        depth: usize,
-        count: usize,
-        items: List<T>,
-    ) -> Result<(), NoMemory>
-        requires { depth + count ≤ length self.old }
-        ensures { IfOk result (λ _. self.new ≡ spliced depth count items self.old) }
-    {
-        let over = self.lift(alloc, depth)?;
-        self.drop_top(count);
-        self.pile(alloc, items)?;
-        self.pile(alloc, over)
     }
 }

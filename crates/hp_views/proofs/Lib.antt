@@ -9,3 +9,4 @@ pub mod Wholes
 pub mod Made
 pub mod Paragraphs
 pub mod Popping
+pub mod OpenWalks

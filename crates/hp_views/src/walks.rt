@@ -61,12 +61,15 @@ pub fn run_of_walk(stack: &OpenElements, names: &Kinds) -> Walk
     Walk::PastAll
 }
 
-/// Walks down to the element of this id.
+/// Walks down to the element of this id, at most as far as one may stand.
 pub fn open_walk(stack: &OpenElements, id: u64) -> Walk
     ensures walk { result ≡ id_walk id stack.now }
     ensures within { IsWithin result stack.now }
 {
     for depth in 0..stack.len() {
+        if stack.highest_from(depth) < id {
+            return Walk::PastAll;
+        }
         if stack.at(depth).id == id {
             return Walk::Found(depth);
         }

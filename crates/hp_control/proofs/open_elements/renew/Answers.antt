@@ -1,6 +1,5 @@
 use Rattle.std.proofs.Common.{◌≡◌, ◌+◌, ◌-◌, ℕ, length, drop, ap, sym, subst, ◌∙◌, arith}
-use Rattle.hp_control.specs.Ends.{AreEnds}
-use Rattle.hp_control.specs.Standings.{elements_of, ends_of}
+use Rattle.hp_control.specs.Standings.{elements_of, summaries_of, AreSummaries}
 use Rattle.hp_control.proofs.StandingLemmas.{elements_count}
 use Rattle.hp_control.proofs.open_elements.renew.Goals as goal
 
@@ -19,4 +18,4 @@ pub loop-turn-preserved : goal.loop-turn-preserved
 loop-turn-preserved c =
     let vs = c.renew_above.new.standing in
     let g : c.args.count - (c.loop-turn.turn + 1) ≡ c.args.count - c.loop-turn.turn - 1 = omega arith in
-    (c.renew_above.ensures.elements ∙ c.loop-turn.invariant.0, subst (λ (n : ℕ). AreEnds (drop n (elements_of vs)) (drop n (ends_of vs))) (sym g) c.renew_above.ensures.ends)
+    (c.renew_above.ensures.elements ∙ c.loop-turn.invariant.0, subst (λ (n : ℕ). AreSummaries (drop n (elements_of vs)) (drop n (summaries_of vs))) (sym g) c.renew_above.ensures.summaries)

@@ -1,6 +1,6 @@
 use Rattle.std.proofs.Common.{◌≡◌, ◌+◌, ◌-◌, ◌<◌, length, ap, refl, ◌∙◌, arith}
-use Rattle.hp_control.specs.Ends.{paragraph_from}
-use Rattle.hp_control.proofs.StandingLemmas.{renewed_elements, renewed_ends}
+use Rattle.hp_control.specs.Standings.{summary_from}
+use Rattle.hp_control.proofs.StandingLemmas.{renewed_elements, renewed_summaries}
 use Rattle.hp_control.proofs.open_elements.renew_above.Goals as goal
 
 pub returns : goal.returns
@@ -12,8 +12,8 @@ returns c =
     let o = c.replace-old.result in
     let next : c.args.depth ≡ c.args.depth - 1 + 1 = omega (arith, c.requires.positive) in
     let h : c.args.depth - 1 < length c.args.standing.now = omega (arith, c.requires.positive, c.requires.within) in
-    let e = c.paragraph_from-end.ensures ∙ ap (paragraph_from s.element) c.end_at.ensures in
+    let e = c.summary_from-summary.ensures ∙ ap (summary_from s.element) c.summary_at.ensures in
     record {
       elements = renewed_elements ss us vs (c.args.depth - 1) _ o _ h c.replace-old.ensures.value c.replace-old.ensures.items c.replace.ensures.items refl;
-      ends = renewed_ends ss us vs (c.args.depth - 1) c.args.depth s _ o _ next h c.at.ensures c.replace-old.ensures.value c.replace-old.ensures.items c.replace.ensures.items refl e c.requires.below;
+      summaries = renewed_summaries ss us vs (c.args.depth - 1) c.args.depth s _ o _ next h c.at.ensures c.replace-old.ensures.value c.replace-old.ensures.items c.replace.ensures.items refl e c.requires.below;
     }

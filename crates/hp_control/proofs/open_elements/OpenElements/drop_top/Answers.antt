@@ -1,5 +1,5 @@
 use Rattle.std.proofs.Common.{length, ap, arith}
-use Rattle.hp_control.proofs.EndLemmas.{ends_dropped}
+use Rattle.hp_control.proofs.SummaryLemmas.{summaries_dropped}
 use Rattle.hp_control.proofs.StandingLemmas.{elements_count, shown_below, told_below}
 use Rattle.hp_control.proofs.open_elements.OpenElements.drop_top.Goals as goal
 
@@ -10,7 +10,7 @@ drop_top-requires c =
     omega (arith, c.requires)
 
 pub invariant_of-self : goal.invariant_of-self
-invariant_of-self c = told_below c.self.inside.standing c.drop_top.new.self c.args.count (ends_dropped c.args.count c.self.invariant) c.drop_top.ensures
+invariant_of-self c = told_below c.self.inside.standing c.drop_top.new.self c.args.count (summaries_dropped c.args.count c.self.invariant) c.drop_top.ensures
 
 pub returns : goal.returns
 returns c = shown_below c.self.inside.standing c.drop_top.new.self c.args.self.now c.args.count c.self.view_is c.drop_top.ensures
