@@ -50,7 +50,9 @@ pub fn check_page(bytes: &[u8]) -> Result<Page<'_>, NotUtf8>
     ensures at { IfErr result (λ fault. IsValidUpTo bytes.now fault.at) }
 {
     match from_utf8(bytes) {
-        Ok(text) if bytes.starts_with(&BYTE_ORDER_MARK) => Ok(Page { text: &text[3..] }),
+        Ok(text) if bytes.starts_with(&BYTE_ORDER_MARK) => Ok(Page {
+            text: &text[BYTE_ORDER_MARK.len()..],
+        }),
         Ok(text) => Ok(Page { text }),
         Err(fault) => Err(NotUtf8 {
             at: fault.valid_up_to() as u64,
