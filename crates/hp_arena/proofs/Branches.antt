@@ -50,7 +50,3 @@ branches-one old new elements before after change id hid here there =
           branch-at new elements after i below ∙ ap (make_branch (get_or elements i no_element).tag) (there i below other)
           ∙ sym (get_or-set_other t id i (with_inside change (branch t id)) no_branch other ∙ branch-at old elements before i below)
     ])
-
--- a change of one list of children depends on that list alone
-pub in_one-same : (t : Tree) (p : ℕ) (f g : List Item → List Item) → f (branch t p).inside ≡ g (branch t p).inside → in_one f t p ≡ in_one g t p
-in_one-same t p f g e = ap (λ ys. set t p (make_branch (branch t p).tag ys)) e

@@ -122,9 +122,6 @@ module _ (nodes : List Node) (elements : List ElementOf) (leaves : List Item) (t
   abbrev pub joined : List Item
   joined = set leaves number (item.Text (bs ++ text))
 
-  pub IsTree-joined : IsTree nodes elements (length joined)
-  IsTree-joined = subst (λ n. IsTree nodes elements n) (sym (length-set leaves number (item.Text (bs ++ text)))) t
-
   module _ (last : ℕ) (at : IsTextBefore nodes leaves last number bs) where
     others : (s : ℕ) → s ≢ last → item_of nodes joined s ≡ item_of nodes leaves s
     others s apart = kind-other leaves number (item.Text (bs ++ text)) (kind_of nodes s) (λ k. apart (t.leaf_once s last number k at.leaf))
