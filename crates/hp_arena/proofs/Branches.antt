@@ -2,7 +2,7 @@
 use Rattle.std.proofs.Common.{◌≡◌, ◌≢◌, ℕ, ◌+◌, ◌<◌, List, length, map, sym, ap, ◌∙◌, subst, get_or, inl, inr}
 use Rattle.std.proofs.lemmas.Bool.{cases_eq}
 use Rattle.std.proofs.lemmas.List.{ext_get_or, get_or-map, length-map, get_or-set_same, get_or-set_other}
-use Rattle.std.proofs.Math.ListN.{set, length-set}
+use Rattle.std.proofs.Math.ListN.{length-set}
 use Rattle.hp_control.specs.Tree.{Item, Tree, in_one, with_inside, no_branch, branch}
 use Rattle.hp_arena.specs.Nodes.{inside}
 use Rattle.hp_arena.specs.Shape.{item_of, branch_of, branches_of, node_of, no_element}
