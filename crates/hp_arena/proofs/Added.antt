@@ -133,6 +133,3 @@ last-kept runs mid new last grown some read out back is =
     last-set runs mid new grown out back
     ∙ ap (λ t. set runs (length runs - 1) t) (is ∙ read)
     ∙ set-own runs (length runs - 1) last (omega arith)
-
-pub last-count : (runs mid new : List (List ℕ)) (grown : List ℕ) → mid ≡ set runs (length runs - 1) [] → new ≡ set mid (length mid - 1) grown → length new ≡ length runs
-last-count runs mid new grown out back = ap length (last-set runs mid new grown out back) ∙ length-set runs (length runs - 1) grown

@@ -2,7 +2,7 @@
 use Rattle.std.proofs.Common.{◌≡◌, ◌≢◌, ℕ, ◌+◌, ◌<◌, List, length, map, sym, ap, ◌∙◌, subst, get_or, inl, inr}
 use Rattle.std.proofs.lemmas.Bool.{cases_eq}
 use Rattle.std.proofs.lemmas.List.{ext_get_or, get_or-map, length-map, get_or-set_same, get_or-set_other}
-use Rattle.std.proofs.Math.ListN.{set, length-set}
+use Rattle.std.proofs.Math.ListN.{length-set}
 use Rattle.hp_control.specs.Tree.{Item, Tree, in_one, with_inside, no_branch, branch}
 use Rattle.hp_arena.specs.Nodes.{inside}
 use Rattle.hp_arena.specs.Shape.{item_of, branch_of, branches_of, node_of, no_element}
@@ -50,7 +50,3 @@ branches-one old new elements before after change id hid here there =
           branch-at new elements after i below ∙ ap (make_branch (get_or elements i no_element).tag) (there i below other)
           ∙ sym (get_or-set_other t id i (with_inside change (branch t id)) no_branch other ∙ branch-at old elements before i below)
     ])
-
--- a change of one list of children depends on that list alone
-pub in_one-same : (t : Tree) (p : ℕ) (f g : List Item → List Item) → f (branch t p).inside ≡ g (branch t p).inside → in_one f t p ≡ in_one g t p
-in_one-same t p f g e = ap (λ ys. set t p (make_branch (branch t p).tag ys)) e

@@ -64,9 +64,6 @@ module _ (old new : List Node) (elements : List ElementOf) (leaves : List Item) 
       ∙ map-same_items old new leaves relinked.same (inside old (node_of elements p + 1) ++ node ∷ [])
       ∙ map-append (item_of old leaves) (inside old (node_of elements p + 1)) (node ∷ [])
 
-  pub branches-appended : branches_of new elements leaves ≡ in_one (λ items. items ++ item_of old leaves node ∷ []) (branches_of old elements leaves) p
-  branches-appended = branches-one old new elements leaves leaves (λ items. items ++ item_of old leaves node ∷ []) p h appended there
-
   here : StaysApart (item_of old leaves ((links_of old).prev (node_of elements p + 1))) (item_of old leaves node) → items_of new elements leaves p ≡ put_last (items_of old elements leaves p) (item_of old leaves node)
   here stays =
       appended

@@ -1,15 +1,8 @@
-use Rattle.std.proofs.Common.{◌≡◌, ◌≢◌, ℕ, List, [], ◌∷◌, ◌++◌, eqb, ◌==◌, if◌then◌else◌, Bool, true, false, arith, sym, refl, ap, ◌∙◌, subst, ◌||◌, inl, inr}
+use Rattle.std.proofs.Common.{◌≡◌, ◌≢◌, ℕ, List, [], ◌∷◌, ◌++◌, ◌==◌, if◌then◌else◌, Bool, true, false, arith, sym, refl, ap, ◌∙◌, subst, ◌||◌, inl, inr}
 use Rattle.std.specs.List.{list_any}
 use Rattle.std.proofs.lemmas.Bool.{or_cases, true≢false, eq-eqb, cond_both, eqb-true, eqb-false, ne_eqb}
 use Rattle.std.proofs.lemmas.Bool.Decides.{nat_tests}
 use Rattle.hp_arena.specs.Ring.{Links, Follows, Path, unlinked, inserted}
-
--- a test for equal numbers, at equal numbers and at others
-pub eqb-same : (a b : ℕ) → a ≡ b → eqb a b ≡ true
-eqb-same a b e = grind (arith, nat_tests)
-
-pub eqb-other : (a b : ℕ) → a ≢ b → eqb a b ≡ false
-eqb-other a b h = grind (arith, nat_tests)
 
 -- a node that is put between two is between them
 pub Follows-inserted_first : (l : Links) (from at node : ℕ) → Follows l from at → from ≢ node → node ≢ at → Follows (inserted l at node) from node

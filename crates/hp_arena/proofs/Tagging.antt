@@ -1,5 +1,5 @@
 -- An element gets another tag.
-use Rattle.std.proofs.Common.{◌≡◌, ◌≢◌, ℕ, zero, suc, ◌+◌, ◌-◌, ◌<◌, ◌≤◌, ◌==◌, List, [], ◌∷◌, ◌++◌, true, length, refl, sym, ap, ◌∙◌, subst, arith, get_or, inl, inr, Option, Some, None}
+use Rattle.std.proofs.Common.{◌≡◌, ◌≢◌, ℕ, suc, ◌+◌, ◌-◌, ◌<◌, ◌≤◌, ◌==◌, List, [], ◌∷◌, ◌++◌, true, length, refl, sym, ap, ◌∙◌, subst, arith, get_or, inl, inr, Option, Some, None}
 use Rattle.std.specs.List.{list_any}
 use Rattle.std.proofs.lemmas.Bool.{cases_eq}
 use Rattle.std.proofs.lemmas.List.{get_or-set_same, get_or-set_other, length-set, map-set}
@@ -142,9 +142,3 @@ branches-with_missing a s elements id more view h is =
     ∙ branches-retagged a.elements.items id (with_attributes (tag_at a.elements.items id) more) h a.nodes.items (items_in a)
     ∙ ap (λ b. with_tag (branches_of a.nodes.items a.elements.items (items_in a)) id (with_attributes b.tag more)) (sym (branch-at a.nodes.items a.elements.items (items_in a) id h))
     ∙ ap (λ r. with_tag r.branches id (with_attributes (branch r.branches id).tag more)) view
-
--- an element whose tag stays
-pub with_tag_at-own : (elements : List ElementOf) (id : ℕ) → with_tag_at elements id (tag_at elements id) ≡ elements
-with_tag_at-own [] id = refl
-with_tag_at-own (e ∷ rest) zero = refl
-with_tag_at-own (e ∷ rest) (suc id) = ap (λ es. e ∷ es) (with_tag_at-own rest id)

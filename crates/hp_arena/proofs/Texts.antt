@@ -1,7 +1,7 @@
 -- Leaves: a new one is put at a place, or a text gets more.
 use Rattle.std.proofs.Common.{◌≡◌, ◌≢◌, ℕ, ◌+◌, ◌<◌, List, [], ◌∷◌, ◌++◌, Bool, true, false, length, map, refl, sym, ap, ◌∙◌, subst, arith, get_or, inl, inr, Option}
 use Rattle.std.proofs.lemmas.Bool.{true≢false, cases_eq}
-use Rattle.std.proofs.lemmas.List.{length-append, get_or-set_same, get_or-set_other, length-set}
+use Rattle.std.proofs.lemmas.List.{length-append, get_or-set_same, get_or-set_other}
 use Rattle.std.proofs.Math.ListN.{set}
 use Rattle.std.proofs.Math.Seq.{get_or-append_seam}
 use Rattle.hp_control.specs.Tree as item
@@ -121,9 +121,6 @@ pub record IsTextBefore (nodes : List Node) (leaves : List Item) (s number : ℕ
 module _ (nodes : List Node) (elements : List ElementOf) (leaves : List Item) (t : IsTree nodes elements (length leaves)) (number : ℕ) (bs text : List ℕ) where
   abbrev pub joined : List Item
   joined = set leaves number (item.Text (bs ++ text))
-
-  pub IsTree-joined : IsTree nodes elements (length joined)
-  IsTree-joined = subst (λ n. IsTree nodes elements n) (sym (length-set leaves number (item.Text (bs ++ text)))) t
 
   module _ (last : ℕ) (at : IsTextBefore nodes leaves last number bs) where
     others : (s : ℕ) → s ≢ last → item_of nodes joined s ≡ item_of nodes leaves s

@@ -1,3 +1,4 @@
+-- What contracts see of a tree.
 use Rattle.std.specs.Prelude.{ℕ, List}
 use Rattle.hp_control.specs.Tree.{Tree}
 

@@ -1,3 +1,4 @@
+-- Links among nodes, and what an edit makes of them.
 use Rattle.std.specs.Prelude.{◌≡◌, ℕ, ◌==◌, if◌then◌else◌, List, [], ◌∷◌}
 
 -- the node after and the node before each node

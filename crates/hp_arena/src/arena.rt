@@ -57,7 +57,7 @@ impl<'p> Model for Arena<'p> {
 /// So many levels are few: where a tree can't have more above its lines, they aren't summed one by one.
 const FEW_LEVELS: u64 = 1 << 34;
 
-/// The most nodes before, and the most room of, one reservation.
+/// The most items of a list before a reservation, and the most room that it makes.
 const MOST: usize = 0x2000_0000;
 
 /// How many elements, and how many leaves, there is memory for from the start. So much is mapped apart by the C library: what isn't
@@ -86,7 +86,7 @@ impl<'p> Arena<'p> {
         })
     }
 
-    /// Makes room for these edits. A tree of more than 2^29 nodes finds no memory for more.
+    /// Makes room for these edits. There is no memory also where a list or count of the tree, or the room asked for, is past 2^29.
     pub fn reserve(&mut self, alloc: Global, edits: &Edits<'p>) -> Result<(), AllocError>
         ensures branches { self.new.branches ≡ self.old.branches }
         ensures room { OnOk result (room_of_all edits.now ≤ self.new.spare) }

@@ -28,7 +28,7 @@ pub struct Node {
 const _: () = prove!(size_of::<Node>() == 16);
 
 /// Makes `second` the node after `first`.
-pub fn join(nodes: &mut [Node], first: u32, second: u32)
+fn join(nodes: &mut [Node], first: u32, second: u32)
     requires first_in { first < length nodes.old }
     requires second_in { second < length nodes.old }
     ensures links { links_of nodes.new ≡ joined (links_of nodes.old) first second }

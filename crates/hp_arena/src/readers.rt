@@ -8,14 +8,18 @@ use hp_elements::{Chain, Known, Namespace, Tag, Text};
 /// Where an item stands: at which place in the list of children of which element, and by what number it is found.
 #[derive(Clone, Copy)]
 pub struct Spot {
+    /// The id of the element in whose list of children it stands. The document is 0.
     pub parent: u32,
+    /// At which place of that list.
     pub place: u32,
+    /// The number by which the tree finds it.
     pub node: u32,
 }
 
 /// Where a reader stands in a tree.
 #[derive(Clone, Copy)]
 pub enum At {
+    /// The document.
     Document,
     /// An item in a list of children.
     Child(Spot),
@@ -26,16 +30,20 @@ pub enum At {
 /// The runs of a text. Most texts have one.
 #[derive(Clone, Copy)]
 pub enum Runs<'t, 'p> {
+    /// The one run.
     One(&'t Text<'p>),
+    /// The runs, one after the other.
     Several(&'t Chain<Text<'p>>),
 }
 
 /// What stands there.
 #[derive(Clone, Copy)]
 pub enum NodeView<'t, 'p> {
+    /// The document.
     Document,
     /// The contents of a template.
     Contents,
+    /// A doctype, with the identifiers that it has.
     Doctype {
         name: &'t Text<'p>,
         public: Option<&'t Text<'p>>,
@@ -50,6 +58,7 @@ pub enum NodeView<'t, 'p> {
     Text {
         runs: Runs<'t, 'p>,
     },
+    /// A comment.
     Comment {
         text: &'t Text<'p>,
     },

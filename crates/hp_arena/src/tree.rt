@@ -19,7 +19,7 @@ use std::alloc::{AllocError, Global};
 use std::marker::Model;
 use std::mem;
 
-/// So many edits find room among those to come, before there has to be more memory for them.
+/// How many edits the next batch has room for before it takes memory.
 const BATCH: usize = 256;
 
 /// A document tree. Contracts see its branches by their ids, and its room.
@@ -59,7 +59,7 @@ impl<'p> Tree<'p> {
         })
     }
 
-    /// Makes room for these edits. A tree of more than 2^29 nodes finds no memory for more.
+    /// Makes room for these edits. There is no memory also where a list or count of the tree, or the room asked for, is past 2^29.
     pub fn reserve(&mut self, alloc: Global, edits: &Edits<'p>) -> Result<(), AllocError>
         ensures branches { self.new.branches ≡ self.old.branches }
         ensures room { OnOk result (room_of_all edits.now ≤ self.new.spare) }
@@ -87,9 +87,8 @@ impl<'p> Tree<'p> {
         self.arena.apply(edit, apart)
     }
 
-    /// Makes all edits, in order, each told where no older state is below, and leaves none. At an `Err`, which comes only for want
-    /// of memory, also for a tree of more than 2^29 nodes as at `reserve`, the branches and the edits are as before; there may be
-    /// more room than before.
+    /// Makes all edits, in order, each told where no older state is below, and leaves none. At an `Err`, which comes where
+    /// `reserve` or the next batch finds no memory, the branches and the edits are as before; there may be more room than before.
     pub fn grow(&mut self, alloc: Global, edits: &mut Edits<'p>) -> Result<(), AllocError>
         ensures branches { OnOk result (self.new.branches ≡ applied_all self.old.branches (map (named_edit nothing) edits.old)) }
         ensures edits { OnOk result (edits.new ≡ []) }
@@ -331,6 +330,7 @@ impl<'p> Tree<'p> {
         ensures list { result ≡ list_of self.now.branches at }
         ensures there { IfSome result (λ id. id < length self.now.branches) }
     {
+        // `len` hands on that the tree is a forest: the document and each child are there.
         let _elements = self.len();
         match at {
             At::Document => Some(0),

@@ -1,6 +1,6 @@
 -- What a stable sort makes of a list is what comes of putting its items into order one by one.
-use Rattle.std.proofs.Common.{◌≡◌, ℕ, zero, suc, ◌+◌, ◌<◌, ◌≤◌, ◌⊎◌, Bool, true, false, not, ◌&&◌, List, [], ◌∷◌, ◌++◌, length, get_or, map, refl, ap, sym, ◌∙◌, append_assoc, append-nil, add-one, length-append, arith, inl, inr}
-use Rattle.std.specs.List.{filter, fold, flat_map}
+use Rattle.std.proofs.Common.{◌≡◌, ℕ, zero, suc, ◌+◌, ◌<◌, ◌≤◌, ◌⊎◌, Bool, true, false, not, ◌&&◌, List, [], ◌∷◌, ◌++◌, length, get_or, map, refl, ap, sym, ◌∙◌, append_assoc, append-nil, add-one, arith, inl, inr}
+use Rattle.std.specs.List.{filter, fold}
 use Rattle.std.specs.List.Sorted.{IsSortedBy, IsStableBy, ties}
 use Rattle.std.specs.Cmp.{IsStrictWeakOrder}
 use Rattle.std.proofs.lemmas.List.Sorted.{sorted_far}
@@ -204,23 +204,3 @@ map_placed f lt a (b ∷ bs) =
 pub map-fold_placed : {X Y : Type 0} (f : X → Y) (lt : Y → Y → Bool) (xs done : List X) → map f (fold (placed (λ x y. lt (f x) (f y))) done xs) ≡ fold (placed lt) (map f done) (map f xs)
 map-fold_placed f lt [] done = refl
 map-fold_placed f lt (x ∷ xs) done = map-fold_placed f lt xs (placed (λ a b. lt (f a) (f b)) done x) ∙ ap (λ ys. fold (placed lt) ys (map f xs)) (map_placed f lt x done)
-
--- the order changes no total
-length-flat_map_placed : {X : Type 0} (f : X → List ℕ) (lt : X → X → Bool) (a : X) (bs : List X) → length (flat_map f (placed lt bs a)) ≡ length (flat_map f bs) + length (f a)
-length-flat_map_placed f lt a [] =
-    let made : length (flat_map f (placed lt [] a)) ≡ length (f a) = ap (λ ys. length (flat_map f ys)) (placed_none lt a) ∙ ap length (append-nil (f a)) in
-    omega (arith, made)
-length-flat_map_placed f lt a (b ∷ bs) =
-    elim (bool_cases (lt a b)) [
-      | inl t ↦
-          let made : length (flat_map f (placed lt (b ∷ bs) a)) ≡ length (f a ++ (f b ++ flat_map f bs)) = ap (λ ys. length (flat_map f ys)) (placed_here lt a b bs t) in
-          omega (arith, made, length-append (f a) (f b ++ flat_map f bs))
-      | inr e ↦
-          let made : length (flat_map f (placed lt (b ∷ bs) a)) ≡ length (f b ++ flat_map f (placed lt bs a)) = ap (λ ys. length (flat_map f ys)) (placed_later lt a b bs e) in
-          omega (arith, made, length-append (f b) (flat_map f (placed lt bs a)), length-append (f b) (flat_map f bs), length-flat_map_placed f lt a bs)
-    ]
-
-pub length-flat_map_fold : {X : Type 0} (f : X → List ℕ) (lt : X → X → Bool) (xs done : List X) → length (flat_map f (fold (placed lt) done xs)) ≡ length (flat_map f done) + length (flat_map f xs)
-length-flat_map_fold f lt [] done = omega arith
-length-flat_map_fold f lt (x ∷ xs) done =
-    omega (arith, length-flat_map_fold f lt xs (placed lt done x), length-flat_map_placed f lt x done, length-append (f x) (flat_map f xs))

@@ -32,11 +32,6 @@ lines-some t zero depth x xs h = absurd (omega arith)
 lines-some t (suc left) depth x xs h =
     let a : left ≡ suc left - 1 = omega arith in ap (λ l. own_lines t depth x ++ lines t l (depth + 1 + extra t x) (inside t x) ++ lines t (suc left) depth xs) a
 
-work-none : (t : Tree) (left : ℕ) → work t left [] ≡ 0
-unfolding work
-work-none t zero = refl
-work-none t (suc left) = refl
-
 work-some : (t : Tree) (left : ℕ) (x : Item) (xs : List Item) → 0 < left → work t left (x ∷ xs) ≡ work t (left - 1) (inside t x) + 2 + work t left xs
 unfolding work
 work-some t zero x xs h = absurd (omega arith)

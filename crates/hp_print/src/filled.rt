@@ -56,7 +56,7 @@ impl Filled {
         self.len = 0;
     }
 
-    /// Appends bytes where there is room.
+    /// Appends bytes where there is room, and tells whether there was.
     #[inline(always)]
     pub fn append(&mut self, piece: &[u8]) -> bool
         ensures whole { result ≡ true → self.new ≡ self.old ++ piece.now }
@@ -69,7 +69,7 @@ impl Filled {
         true
     }
 
-    /// Appends a line of a low depth where there is room: a text between two marks.
+    /// Appends a line of a low depth where there is room, and tells whether it did: a text between two marks.
     #[inline(always)]
     pub fn append_line(&mut self, depth: u64, left: u8, text: &str, right: u8) -> bool
         ensures whole { result ≡ true → self.new ≡ self.old ++ (indentation depth ++ left ∷ (encode_utf8_all (chars text.now) ++ right ∷ 10 ∷ [])) }
@@ -90,7 +90,7 @@ impl Filled {
         true
     }
 
-    /// Appends a line of a low depth where there is room: a name and a value.
+    /// Appends a line of a low depth where there is room, and tells whether it did: a name and a value.
     #[inline(always)]
     pub fn append_pair(&mut self, depth: u64, name: &str, value: &str) -> bool
         ensures whole { result ≡ true → self.new ≡ self.old ++ (indentation depth ++ encode_utf8_all (chars name.now) ++ codes "=\"" ++ encode_utf8_all (chars value.now) ++ codes "\"\n") }

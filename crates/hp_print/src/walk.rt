@@ -40,7 +40,7 @@ pub enum Refusal {
 /// A text with more levels than these above its lines is of absurd length: that of a tree goes by the square of its depth.
 const ABSURD: u64 = 1 << 34;
 
-/// The tree as text, in UTF-8.
+/// The tree as text, in UTF-8. An `Err` comes for want of memory, or where the text would be of absurd length.
 pub fn print_tree(alloc: Global, tree: &Tree<'_>) -> Result<Vec<u8>, NoMemory>
     ensures { IfOk result (λ text. text.items ≡ print tree.now.branches) }
 {
@@ -104,6 +104,7 @@ fn print_all<'t, K: Sink>(
     requires list { HasRoom tree.now.branches (vec_capacity list.old) }
     ensures { Prints out.old out.new (K.taken sink.old, K.faults sink.old) (K.taken sink.new, K.faults sink.new) (print tree.now.branches) }
 {
+    // `len` hands on that the tree is a forest: the document is there.
     let _elements = tree.len();
     push_first(tree, stack, 0, 0, 0);
     while let Some(mark) = stack.pop() {
@@ -122,6 +123,7 @@ fn step<'t, 'p>(tree: &'t Tree<'p>, stack: &mut Vec<Mark>, mark: Mark) -> NodeVi
     ensures step { Stepped tree.now mark result stack.old.items stack.new.items }
     ensures room { length tree.now.branches ≤ vec_capacity stack.new }
 {
+    // `len` hands on that the tree is a forest: each child is there, and no level is past the number of elements.
     let _elements = tree.len();
     push_next(tree, stack, mark);
     let view = tree.view(mark.at);
@@ -142,6 +144,7 @@ fn push_next(tree: &Tree<'_>, stack: &mut Vec<Mark>, mark: Mark)
     ensures len { vec_len stack.new ≤ vec_len stack.old + 1 }
     ensures room { length tree.now.branches ≤ vec_capacity stack.new }
 {
+    // `len` hands on that the tree is a forest: no level is past the number of elements.
     let _elements = tree.len();
     if let Some(at) = tree.next_sibling(mark.at) {
         stack.push_reserved(Mark {
@@ -163,6 +166,7 @@ fn push_first(tree: &Tree<'_>, stack: &mut Vec<Mark>, id: u32, level: u32, templ
     ensures pushed { let t = tree.now.branches in let items = (branch t id).inside in Pushed tree.now stack.old.items stack.new.items (lines_at t level templates items) (steps_at t level items) }
     ensures room { length tree.now.branches ≤ vec_capacity stack.new }
 {
+    // `len` hands on that the tree is a forest: no level is past the number of elements.
     let _elements = tree.len();
     if let Some(at) = tree.first_inside(id) {
         stack.push_reserved(Mark {

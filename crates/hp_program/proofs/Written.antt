@@ -5,7 +5,7 @@ use Rattle.std.specs.Result.{IsOk, OnOk}
 use Rattle.std.specs.Str.{chars}
 use Rattle.hp_print.specs.declared.walk.Refusal.{Refusal}
 use Rattle.hp_text.specs.Text.{without_mark}
-use Rattle.hp_program.specs.Answers.{ComesExactly, TakesPage, TakesPagePart, TakesTree, TakesTreeOf, TakesTreePart, TakesTreePartOf}
+use Rattle.hp_program.specs.Answers.{ComesExactly, IsText, TakesPage, TakesPagePart, TakesSomePage, TakesSomePagePart, TakesTreeOf, TakesTreePartOf}
 use Rattle.hp_program.specs.declared.status.Status.{Status}
 
 -- the text of the page is that of the bytes
@@ -20,12 +20,12 @@ pub of_ok : (outcome : Result (Unit {0}) Refusal) (P : Type 0) → IsOk outcome 
 of_ok (Ok v) P is h = h
 of_ok (Err refusal) P is h = absurd (cc is)
 
--- it is the text of a tree
-pub takes_tree : (bytes : List ℕ) (old new : Option (List ℕ)) → TakesPage bytes old new → TakesTree old new
-takes_tree bytes old new taken = (taken.0, taken.2)
+-- it is that of some page
+pub takes_some : (bytes : List ℕ) (old new : Option (List ℕ)) → IsText bytes → TakesPage bytes old new → TakesSomePage old new
+takes_some bytes old new text taken = (bytes, text, taken)
 
-pub takes_tree_part : (bytes : List ℕ) (old new : Option (List ℕ)) → TakesPagePart bytes old new → TakesTreePart old new
-takes_tree_part bytes old new taken = (taken.0, taken.2)
+pub takes_some_part : (bytes : List ℕ) (old new : Option (List ℕ)) → IsText bytes → TakesPagePart bytes old new → TakesSomePagePart old new
+takes_some_part bytes old new text taken = (bytes, text, taken)
 
 -- what holds of the bytes that were read holds of the page's, where these are told
 pub of_page : (left : Option (List ℕ)) (read : List ℕ) (P : List ℕ → Type 0) → IfSome left (λ bytes. read ≡ bytes) → P read → IfSome left P

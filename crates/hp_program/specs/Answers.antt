@@ -25,40 +25,37 @@ pub record IsText (bytes : List ℕ) : Type 0 where
   pub within : length bytes ≤ PAGE_LIMIT
   pub utf8 : IsUtf8 bytes
 
--- the printed text of a tree
-abbrev pub IsTreeText : List ℕ → Type 0
-IsTreeText text = (tree : Tree) × (text ≡ print tree)
-
 -- the result is this answer exactly under this cause. Under the cause it yields to want of memory, and to a
 -- fault of reading where the count of faults rose
 pub record ComesExactly (answer : Status) (cause : Type 0) (result : Status) (read_rose : Type 0) : Type 0 where
   pub only : result ≡ answer → cause
   pub always : cause → (result ≡ answer) ⊎ (result ≡ NoMemory) ⊎ ((result ≡ ReadFault) × read_rose)
 
--- the printed text of a tree was taken, and nothing else
-abbrev pub TakesTree : Option (List ℕ) → Option (List ℕ) → Type 0
-TakesTree old new = (tree : Tree) × (new ≡ append_known old (print tree))
-
--- the first bytes of the printed text of a tree were taken, and not all of them
-abbrev pub TakesTreePart : Option (List ℕ) → Option (List ℕ) → Type 0
-TakesTreePart old new = (tree : Tree) × TakesPart (print tree) old new
-
--- the tree of the page: the one that the standard's sequential parser builds (13.2)
+-- the tree of a page of these code points: the one that the standard's sequential parser builds (13.2), with the
+-- reference names that are built in (365 of the standard's longer list, docs/spec/references.md)
 abbrev pub IsPageTree : List ℕ → Tree → Type 0
-IsPageTree bytes tree = IsTreeOf built_in (page_text bytes) tree
+IsPageTree page tree = IsTreeOf built_in page tree
 
--- the printed text of the tree of a text was taken, and nothing else
+-- the printed text of that tree was taken, and nothing else
 abbrev pub TakesTreeOf : List ℕ → Option (List ℕ) → Option (List ℕ) → Type 0
-TakesTreeOf page old new = (tree : Tree) × IsTreeOf built_in page tree × (new ≡ append_known old (print tree))
+TakesTreeOf page old new = (tree : Tree) × IsPageTree page tree × (new ≡ append_known old (print tree))
 
 -- the first bytes of it were taken, and not all of them
 abbrev pub TakesTreePartOf : List ℕ → Option (List ℕ) → Option (List ℕ) → Type 0
-TakesTreePartOf page old new = (tree : Tree) × IsTreeOf built_in page tree × TakesPart (print tree) old new
+TakesTreePartOf page old new = (tree : Tree) × IsPageTree page tree × TakesPart (print tree) old new
 
--- the printed text of the page's tree was taken, and nothing else
+-- the printed text of the tree of the page of these bytes was taken, and nothing else
 abbrev pub TakesPage : List ℕ → Option (List ℕ) → Option (List ℕ) → Type 0
-TakesPage bytes old new = (tree : Tree) × IsPageTree bytes tree × (new ≡ append_known old (print tree))
+TakesPage bytes = TakesTreeOf (page_text bytes)
 
 -- the first bytes of it were taken, and not all of them
 abbrev pub TakesPagePart : List ℕ → Option (List ℕ) → Option (List ℕ) → Type 0
-TakesPagePart bytes old new = (tree : Tree) × IsPageTree bytes tree × TakesPart (print tree) old new
+TakesPagePart bytes = TakesTreePartOf (page_text bytes)
+
+-- the printed text of the tree of some page was taken, and nothing else
+abbrev pub TakesSomePage : Option (List ℕ) → Option (List ℕ) → Type 0
+TakesSomePage old new = (bytes : List ℕ) × IsText bytes × TakesPage bytes old new
+
+-- the first bytes of the printed text of the tree of some page were taken, and not all of them
+abbrev pub TakesSomePagePart : Option (List ℕ) → Option (List ℕ) → Type 0
+TakesSomePagePart old new = (bytes : List ℕ) × IsText bytes × TakesPagePart bytes old new

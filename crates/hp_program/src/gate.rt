@@ -1,6 +1,6 @@
 //! What a worker passes before it guesses.
 
-/// A place where a worker may be held before it begins to guess.
+/// A place where a worker may be held before it begins to guess. There are no workers yet, so nobody calls it.
 pub trait Gate {
     /// Is called by the worker of this number before it guesses the chunk of this number.
     fn before_guess(&self, worker: u32, chunk: u32);

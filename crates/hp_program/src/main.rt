@@ -12,7 +12,7 @@ pub use gate::{Gate, OpenGate};
 use hp_text::{StreamSink, StreamSource};
 pub use status::Status;
 use std::process::ExitCode;
-pub use top::hpar;
+pub use top::{answer_page, hpar};
 pub use words::Words;
 
 fn main(rt: HostRuntime) -> ExitCode {

@@ -322,6 +322,7 @@ fn an_output_without_room_takes_the_first_part(rt: HostRuntime) {
     }
 }
 
+/// For `rt try --test --fail-alloc N`, where the Nth allocation fails. In the gate none fails, and the page is printed.
 #[test]
 fn without_memory_nothing_is_written(rt: HostRuntime) {
     let ended = measured(&rt, b"hello", 100);

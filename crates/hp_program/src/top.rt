@@ -2,7 +2,7 @@
 ghost use Rattle.std.specs.Prelude.{◌≡◌, ◌≢◌, ◌⊎◌, ◌↔◌, ◌+◌, ◌≤◌, Some, Err, [], length, OnOk, IfSome, IfNone};
 ghost use Rattle.std.specs.Result.{IsOk};
 ghost use Rattle.hp_text.specs.Device.{Rose, Gives};
-ghost use Rattle.hp_program.specs.Answers.{IsTooLarge, IsNotText, IsText, ComesExactly, TakesTree, TakesTreePart, TakesTreeOf, TakesTreePartOf, TakesPage, TakesPagePart};
+ghost use Rattle.hp_program.specs.Answers.{IsTooLarge, IsNotText, IsText, ComesExactly, TakesTreeOf, TakesTreePartOf, TakesPage, TakesPagePart, TakesSomePage, TakesSomePagePart};
 ghost use Rattle.hp_text.specs.Page.{text_of};
 ghost use Rattle.hp_text.specs.Text.{without_mark};
 ghost use Rattle.hp_print.specs.Out.{TakesPart};
@@ -118,9 +118,11 @@ fn put_tree<K: Sink>(alloc: Global, bytes: &[u8], out: &mut K) -> Status
     }
 }
 
-/// Reads the page, and writes its printed tree to `out`. The first refusal decides, in the order reading, UTF-8, writing.
-#[tactic(auto, using(crate::proofs::Written::takes_tree, crate::proofs::Written::takes_tree_part, crate::proofs::Written::of_page))]
-fn answer_page<S: Source, K: Sink>(alloc: Global, page: &mut S, out: &mut K) -> Status
+/// Reads the page, and writes its printed tree to `out`. The first refusal decides, in the order reading, UTF-8, writing;
+/// want of memory may come at any of them. This is all that [`hpar`] does where there is no word. It has no bound `Wait`,
+/// under which a function owes no return: it is proved to end.
+#[tactic(auto, using(crate::proofs::Written::takes_some, crate::proofs::Written::takes_some_part, crate::proofs::Written::of_page))]
+pub fn answer_page<S: Source, K: Sink>(alloc: Global, page: &mut S, out: &mut K) -> Status
     ensures no_usage { result ≢ Status.Usage }
     ensures too_large { IfSome (S.left page.old) (λ bytes. ComesExactly Status.TooLarge
         (IsTooLarge bytes) result (Rose (S.faults page.old) (S.faults page.new))) }
@@ -129,11 +131,13 @@ fn answer_page<S: Source, K: Sink>(alloc: Global, page: &mut S, out: &mut K) -> 
         (IsNotText bytes) result (Rose (S.faults page.old) (S.faults page.new))) }
     ensures read_fault { result ≡ Status.ReadFault → Rose (S.faults page.old) (S.faults page.new) }
     ensures write_fault { result ≡ Status.WriteFault → Rose (K.faults out.old) (K.faults out.new) }
+    ensures not_utf8_read { result ≡ Status.NotUtf8 → IfSome (S.left page.old) (λ _. S.left page.new ≡ Some []) }
     ensures done_read { result ≡ Status.Done → IfSome (S.left page.old) (λ _. S.left page.new ≡ Some []) }
-    ensures done_tree { result ≡ Status.Done → TakesTree (K.taken out.old) (K.taken out.new) }
+    ensures write_fault_read { result ≡ Status.WriteFault → IfSome (S.left page.old) (λ _. S.left page.new ≡ Some []) }
+    ensures done_tree { result ≡ Status.Done → TakesSomePage (K.taken out.old) (K.taken out.new) }
     ensures done { result ≡ Status.Done → IfSome (S.left page.old) (λ bytes.
         TakesPage bytes (K.taken out.old) (K.taken out.new)) }
-    ensures part_tree { result ≡ Status.WriteFault → TakesTreePart (K.taken out.old) (K.taken out.new) }
+    ensures part_tree { result ≡ Status.WriteFault → TakesSomePagePart (K.taken out.old) (K.taken out.new) }
     ensures part { result ≡ Status.WriteFault → IfSome (S.left page.old) (λ bytes.
         TakesPagePart bytes (K.taken out.old) (K.taken out.new)) }
     ensures nothing { result ≢ Status.Done → result ≢ Status.WriteFault → out.new ≡ out.old }
@@ -150,7 +154,8 @@ fn answer_page<S: Source, K: Sink>(alloc: Global, page: &mut S, out: &mut K) -> 
 
 /// Reads the page, and writes its printed tree to `out`. The first refusal decides, in the order words, reading,
 /// UTF-8, writing; want of memory may come at any of them. `left` and `taken` tell what was read and
-/// written, where the page and the output tell it.
+/// written, where the page and the output tell it. Where there is no word, this is [`answer_page`], which is proved to end.
+/// `rt` and `gate` aren't used yet, and nothing is written to `notes`.
 pub fn hpar<R: Threads + Wait + Sync, S: Source, K: Sink, N: Sink, G: Gate + Sync>(
     rt: &R,
     alloc: Global,
@@ -175,13 +180,17 @@ pub fn hpar<R: Threads + Wait + Sync, S: Source, K: Sink, N: Sink, G: Gate + Syn
     ensures read_fault { result ≡ Status.ReadFault → Rose (S.faults page.old) (S.faults page.new) }
     ensures write_fault { result ≡ Status.WriteFault → Rose (K.faults out.old) (K.faults out.new) }
 
-    // What was read, and what was written: the printed text of a tree, or its first part. Where the page is told, that tree is
-    // the one that the standard's sequential parser builds of it.
+    // Where the page's text was judged, it had been read to its end.
+    ensures not_utf8_read { result ≡ Status.NotUtf8 → IfSome (S.left page.old) (λ _. S.left page.new ≡ Some []) }
     ensures done_read { result ≡ Status.Done → IfSome (S.left page.old) (λ _. S.left page.new ≡ Some []) }
-    ensures done_tree { result ≡ Status.Done → TakesTree (K.taken out.old) (K.taken out.new) }
+    ensures write_fault_read { result ≡ Status.WriteFault → IfSome (S.left page.old) (λ _. S.left page.new ≡ Some []) }
+
+    // What was written: the printed text of the tree that the standard's sequential parser builds of a page (with the reference
+    // names that are built in, 365 of the standard's longer list), or its first part. Where the page is told, it is that page.
+    ensures done_tree { result ≡ Status.Done → TakesSomePage (K.taken out.old) (K.taken out.new) }
     ensures done { result ≡ Status.Done → IfSome (S.left page.old) (λ bytes.
         TakesPage bytes (K.taken out.old) (K.taken out.new)) }
-    ensures part_tree { result ≡ Status.WriteFault → TakesTreePart (K.taken out.old) (K.taken out.new) }
+    ensures part_tree { result ≡ Status.WriteFault → TakesSomePagePart (K.taken out.old) (K.taken out.new) }
     ensures part { result ≡ Status.WriteFault → IfSome (S.left page.old) (λ bytes.
         TakesPagePart bytes (K.taken out.old) (K.taken out.new)) }
     ensures nothing { result ≢ Status.Done → result ≢ Status.WriteFault → out.new ≡ out.old }
