@@ -1,5 +1,5 @@
 -- An element is open where the walk down the stack finds it.
-use Rattle.std.proofs.Common.{◌≡◌, ℕ, suc, ◌==◌, List, [], ◌∷◌, if◌then◌else◌, refl, sym, ◌∙◌}
+use Rattle.std.proofs.Common.{◌≡◌, ℕ, suc, ◌==◌, List, [], ◌∷◌, true, false, if◌then◌else◌, refl, sym, ◌∙◌}
 use Rattle.std.specs.Prelude.{Option, None, Some, is_some}
 use Rattle.std.specs.Option.{option_map}
 use Rattle.hp_control.specs.declared.element.OpenElement.{OpenElement}

@@ -10,7 +10,6 @@ use hp_views::{View, Walk, older_quiet, point_of};
 use std::alloc::Global;
 
 /// Whether the entry is a marker or its element is open.
-#[tactic(auto, using(crate::proofs::Settled::open_found))]
 fn is_settled(stack: &OpenElements, entry: &FormattingEntry) -> bool
     ensures { result ≡ spec_is_settled stack.now entry.now }
 {
