@@ -14,7 +14,7 @@ use Rattle.hp_control.specs.Walks.{same_tag}
 use Rattle.hp_views.specs.ListPlans.{append_plan}
 use Rattle.hp_views.specs.RemovePlans.{remove_entry_plan}
 use Rattle.hp_views.specs.View.{Sight, Carries}
-use Rattle.hp_adoption.proofs.Carrying.{carries_as}
+use Rattle.hp_views.proofs.Carrying.{carries_as}
 use Rattle.hp_adoption.specs.FewEntries.{IsShort}
 use Rattle.hp_adoption.specs.ArkPlans.{Tally, tally, tally_on, older_equals, room_with, room_by, room_plan, append_to_list_plan}
 

@@ -5,7 +5,7 @@ pub mod TurnSteps
 pub mod Untangling
 pub mod Renewing
 pub mod Whites
-pub mod Carrying
+pub mod Flushing
 pub mod LastEntry
 pub mod FewEqual
 pub mod Standing

@@ -8,10 +8,10 @@ use Rattle.hp_control.specs.declared.element.FormattingEntry.TheVariants.{Marker
 use Rattle.hp_control.specs.Faithful.{Split}
 use Rattle.hp_control.specs.Plan.{Heard, Runs}
 use Rattle.hp_control.specs.Running.{runs_gives}
-use Rattle.hp_views.specs.Walks.{deeper, id_walk}
+use Rattle.hp_views.specs.Walks.{deeper, id_walk, is_found}
 use Rattle.hp_views.specs.declared.walks.Walk.{Walk}
 use Rattle.hp_views.specs.declared.walks.Walk.TheVariants.{Found, PastAll}
-use Rattle.hp_adoption.specs.ReconPlans.{is_found, is_settled, recon_below, recon_on, reconstruct_plan, stale_walk}
+use Rattle.hp_adoption.specs.ReconPlans.{is_settled, recon_below, recon_on, reconstruct_plan, stale_walk}
 use Rattle.hp_adoption.specs.Still.{is_still, is_still_at, is_top}
 
 not_none : (n : ℕ) → (suc n == 0) ≡ false

@@ -1,19 +1,16 @@
 -- A turn with a furthest block, from its parts.
-use Rattle.std.proofs.Common.{◌≡◌, ℕ, ◌+◌, Bool, true, false, if◌then◌else◌, List, [], ◌++◌, Option, Some, None, Ok, Err, take, drop, slice_get, ap, refl, sym, subst, ◌∙◌}
+use Rattle.std.proofs.Common.{◌≡◌, ℕ, ◌+◌, Bool, true, false, if◌then◌else◌, List, [], ◌++◌, Option, Some, None, Ok, take, drop, slice_get, ap, refl, sym, subst, ◌∙◌}
 use Rattle.std.specs.Option.{is_some, option_map}
 use Rattle.hp_elements.specs.declared.tag.Tag.{Tag}
 use Rattle.hp_control.specs.declared.change.Change.{Change}
-use Rattle.hp_control.specs.declared.change.Refusal.{Refusal}
-use Rattle.hp_control.specs.declared.change.Refusal.TheVariants.{Crossed, NoMemory}
 use Rattle.hp_control.specs.declared.edit.Edit.{Edit}
 use Rattle.hp_control.specs.declared.edit.Place.{Place}
 use Rattle.hp_control.specs.declared.element.OpenElement.{OpenElement}
-use Rattle.hp_control.specs.declared.question.Crossing.{Crossing}
 use Rattle.hp_control.specs.declared.element.FormattingEntry.{FormattingEntry}
 use Rattle.hp_control.specs.Adoption.{Seat, edit_at, furthest, hides}
 use Rattle.hp_control.specs.Faithful.{Split}
 use Rattle.hp_control.specs.Plan.{Plan, gives, Heard, Runs}
-use Rattle.hp_control.specs.Running.{runs_gives, runs_then, runs_crosses}
+use Rattle.hp_control.specs.Running.{runs_gives, runs_then}
 use Rattle.hp_views.specs.FieldPlans.{with_change}
 use Rattle.hp_views.specs.ListPlans.{with_entries}
 use Rattle.hp_views.specs.PlacePlans.{place_plan}
@@ -57,10 +54,6 @@ block_done : (fostering : Bool) (id : ℕ) (tag : Tag) (depth k : ℕ) (v w : Sp
 block_done fostering id tag depth k v w start new None h run = absurd (cc)
 block_done fostering id tag depth k v w start new (Some seat) h run = runs_then (λ x. gives (record { split = x; goes_on = true })) run (runs_gives new (record { split = w; goes_on = true }))
 
-block_refused : (fostering : Bool) (id : ℕ) (tag : Tag) (depth k : ℕ) (v : Split) (start new : Heard) (crossing : Crossing) (o : Option Seat) → seat_depth o ≡ Some k → Runs start new (untangle_in fostering id tag depth v o) (Err crossing) → Runs start new (block_turn fostering id tag depth v o) (Err crossing)
-block_refused fostering id tag depth k v start new crossing None h run = absurd (cc)
-block_refused fostering id tag depth k v start new crossing (Some seat) h run = runs_crosses (λ x. gives (record { split = x; goes_on = true })) run
-
 -- the element is open at that depth, and this is what stands above it
 abbrev open_by : Bool → ℕ → Tag → ℕ → Split → Bool → Option Seat → Plan Turned
 open_by fostering id tag depth v hidden o = if hidden then stays v else block_turn fostering id tag depth v o
@@ -96,11 +89,3 @@ turn_tangled fostering id tag depth k old new h s run =
     let P : Option Seat → Type 0 = λ o. Runs old.heard new.heard (untangle_in fostering id tag depth old.split o) (Ok new.split) in
     let Q : Bool → Type 0 = λ b. Runs old.heard new.heard (open_by fostering id tag depth old.split b (furthest (take depth old.split.change.stack))) (Ok (record { split = new.split; goes_on = true })) in
     subst Q (sym h) (block_done fostering id tag depth k old.split new.split old.heard new.heard (furthest (take depth old.split.change.stack)) s (subst P (sym (furthest_at old.split.change.stack depth k s)) run))
-
-pub tangled_refused : (result : Refusal) (fostering : Bool) (id : ℕ) (tag : Tag) (depth k : ℕ) (old new : Sight) → hides (take depth old.split.change.stack) ≡ false → seat_depth (furthest (take depth old.split.change.stack)) ≡ Some k
-    → Carries (Err result) old new (untangle_at fostering id tag depth k) → Turns (Err result) old new (λ v. own_turn fostering id tag v (Found depth))
-tangled_refused NoMemory fostering id tag depth k old new h s run = tt
-tangled_refused (Crossed crossing) fostering id tag depth k old new h s run =
-    let P : Option Seat → Type 0 = λ o. Runs old.heard new.heard (untangle_in fostering id tag depth old.split o) (Err crossing) in
-    let Q : Bool → Type 0 = λ b. Runs old.heard new.heard (open_by fostering id tag depth old.split b (furthest (take depth old.split.change.stack))) (Err crossing) in
-    subst Q (sym h) (block_refused fostering id tag depth k old.split old.heard new.heard crossing (furthest (take depth old.split.change.stack)) s (subst P (sym (furthest_at old.split.change.stack depth k s)) run))

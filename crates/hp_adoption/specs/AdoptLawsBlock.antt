@@ -24,9 +24,10 @@ use Rattle.hp_views.specs.OwnWalks.{drop_own}
 use Rattle.hp_views.specs.PlaceLaws.{none_made, place_placed}
 use Rattle.hp_views.specs.PlacePlans.{place_plan}
 use Rattle.hp_views.specs.Quiet.{paged, paged_part, stands_kept}
+use Rattle.hp_views.specs.RemoveLaws.{own_id_new}
 use Rattle.hp_views.specs.StackLaws.{full_stack}
 use Rattle.hp_adoption.specs.AdoptLawsClimb.{NamesOwn, seat_on, adopted_on, adopted_own}
-use Rattle.hp_adoption.specs.AdoptLawsEntries.{older_list, whole_list, none_own, own_id_new}
+use Rattle.hp_adoption.specs.AdoptLawsEntries.{older_list, whole_list, none_own}
 use Rattle.hp_adoption.specs.AdoptPlans.{an_entry, below_depth, with_adopted, untangled, untangle_plan}
 use Rattle.hp_adoption.specs.Entries.{ref_of}
 

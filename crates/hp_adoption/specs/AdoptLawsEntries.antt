@@ -1,10 +1,10 @@
 -- Own entries on older ones: by their ids they are found and edited in the whole list as in the own one.
-use Rattle.std.specs.Prelude.{◌≡◌, ℕ, suc, ◌+◌, ◌<◌, ◌≤◌, ◌==◌, Bool, true, false, ◌||◌, if◌then◌else◌, nat_lt, List, [], ◌∷◌, ◌++◌, length, Option, Some, None, map, take, drop, slice_get, refl}
+use Rattle.std.specs.Prelude.{◌≡◌, ℕ, suc, ◌+◌, ◌<◌, ◌≤◌, ◌==◌, Bool, true, false, ◌||◌, if◌then◌else◌, List, [], ◌∷◌, ◌++◌, length, Option, Some, None, map, take, drop, slice_get, refl}
 use Rattle.std.specs.Option.{option_map, is_some}
 use Rattle.std.specs.List.{take-map}
 use Rattle.std.specs.Str.{bytes_eq}
 use Rattle.std.proofs.Common.{sym, subst, ap, ◌∙◌, append_assoc, arith}
-use Rattle.std.proofs.lemmas.Bool.{ne_eqb, le-ltb}
+use Rattle.std.proofs.lemmas.Bool.{ne_eqb}
 use Rattle.std.proofs.lemmas.List.{length-map, length-drop, map-append, take-append-le}
 use Rattle.hp_control.specs.declared.element.FormattingEntry.{FormattingEntry}
 use Rattle.hp_control.specs.declared.element.FormattingEntry.TheVariants.{Marker, Element}
@@ -30,9 +30,6 @@ whole_list s v = paged_part v.page (λ c. c.formatting) (applied v.change s) (λ
 
 pub older_entries : (s : ControlState) (v : Split) → StandsOn s v → AreIds 1 s.next (entry_ids (older_list s v))
 older_entries s v st = entries_cleared_by 1 s.next v.change.cuts s.formatting st.older.list_ids
-
-pub own_id_new : (s : ControlState) (id : ℕ) → nat_lt (s.next + id) s.next ≡ false
-own_id_new s id = le-ltb (s.next + id) s.next (omega arith)
 
 -- a spot by its id in the whole state
 abbrev pub lifted : ℕ → Spot → Spot

@@ -22,6 +22,7 @@ use Rattle.hp_control.specs.Plan.{crosses, end_by}
 use Rattle.hp_views.specs.declared.walks.Walk.{Walk}
 use Rattle.hp_views.specs.declared.walks.Walk.TheVariants.{Found, Stopped, PastAll}
 use Rattle.hp_views.specs.OlderIds.{open_below}
+use Rattle.hp_views.specs.OwnWalks.{some_map}
 use Rattle.hp_views.specs.StackLaws.{full_stack}
 use Rattle.hp_views.specs.Walks.{entry_walk}
 use Rattle.hp_adoption.specs.AdoptLawsBlock.{older_stack}
@@ -30,10 +31,6 @@ use Rattle.hp_adoption.specs.AdoptLawsOwn.{MatchesTurn, MeansTurn, walk_means, s
 use Rattle.hp_adoption.specs.AdoptPlans.{stays, kind_turn, turn_on, turn_plan}
 
 -- an open element is in scope where no end of a scope stands above it
-some_suc : (o : Option ℕ) → is_some (option_map suc o) ≡ is_some o
-some_suc None = refl
-some_suc (Some k) = refl
-
 scope_more : (b d : Bool) (o p : Option ℕ) (x : OpenElement) (xs : List OpenElement) (k : ℕ) → within scope_ends x ≡ d → ((j : ℕ) → o ≡ Some j → is_some p ≡ not (hides (take j xs))) → (if b then Some 0 else option_map suc o) ≡ Some k → is_some (if b then Some 0 else (if d then None else option_map suc p)) ≡ not (hides (take k (x ∷ xs)))
 scope_more true d o p x xs k m h e =
     let z : 0 ≡ k = cc in
@@ -44,7 +41,7 @@ scope_more false true (Some j) p x xs k m h e =
     ap (λ b. not (b || hides (take j xs))) (sym m) ∙ ap (λ i. not (hides (take i (x ∷ xs)))) z
 scope_more false false (Some j) p x xs k m h e =
     let z : suc j ≡ k = cc in
-    some_suc p ∙ (h j refl ∙ (ap (λ b. not (b || hides (take j xs))) (sym m) ∙ ap (λ i. not (hides (take i (x ∷ xs)))) z))
+    some_map suc p ∙ (h j refl ∙ (ap (λ b. not (b || hides (take j xs))) (sym m) ∙ ap (λ i. not (hides (take i (x ∷ xs)))) z))
 
 scope_hides : (id : ℕ) (es : List OpenElement) (k : ℕ) → open_at id es ≡ Some k → is_some (scope_at id es) ≡ not (hides (take k es))
 scope_hides id [] k e = absurd (cc)

@@ -28,12 +28,12 @@ use Rattle.hp_views.specs.ListPlans.{with_entries}
 use Rattle.hp_views.specs.OwnIds.{found_at, id_within}
 use Rattle.hp_views.specs.PopLaws.{own_pops, nothing_popped}
 use Rattle.hp_views.specs.Quiet.{quiet, own_touch}
-use Rattle.hp_views.specs.RemoveLaws.{full_open}
+use Rattle.hp_views.specs.RemoveLaws.{full_open, own_id_new}
 use Rattle.hp_views.specs.StackPlans.{own_popped}
 use Rattle.hp_views.specs.Walks.{id_walk}
 use Rattle.hp_adoption.specs.AdoptLawsBlock.{whole_front, untangle_matches}
 use Rattle.hp_adoption.specs.AdoptLawsClimb.{seat_on}
-use Rattle.hp_adoption.specs.AdoptLawsEntries.{older_list, none_own, own_id_new, edit_own, IsEntry, spot_of}
+use Rattle.hp_adoption.specs.AdoptLawsEntries.{older_list, none_own, edit_own, IsEntry, spot_of}
 use Rattle.hp_adoption.specs.AdoptPlans.{Turned, struck, untangle_plan, block_turn, stays, own_turn, entry_turn, walk_turn}
 
 -- a turn was taken, and it is known whether there may be another

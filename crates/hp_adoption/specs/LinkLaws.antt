@@ -20,12 +20,12 @@ use Rattle.hp_control.specs.Outcome.{Outcome, Act, touches, after, and_then, not
 use Rattle.hp_control.specs.Plan.{end_by}
 use Rattle.hp_views.specs.declared.walks.Walk.{Walk}
 use Rattle.hp_views.specs.declared.walks.Walk.TheVariants.{Found, Stopped, PastAll}
-use Rattle.hp_views.specs.OlderIds.{is_found}
+use Rattle.hp_views.specs.OwnIds.{has_found}
 use Rattle.hp_views.specs.PopLaws.{nothing_popped}
 use Rattle.hp_views.specs.Reading.{listed_read}
 use Rattle.hp_views.specs.RemoveLaws.{FaithfulToOwn, take_off_faithful, remove_entry_faithful}
 use Rattle.hp_views.specs.RemovePlans.{remove_on, remove_entry_plan, take_off_plan}
-use Rattle.hp_views.specs.Walks.{deeper, id_entry_walk, entry_walk}
+use Rattle.hp_views.specs.Walks.{is_found, id_entry_walk, entry_walk}
 use Rattle.hp_adoption.specs.AdoptLaws.{adopt_faithful}
 use Rattle.hp_adoption.specs.AdoptLawsBlock.{older_stack}
 use Rattle.hp_adoption.specs.AdoptLawsEntries.{older_list, older_entries, whole_list, none_own, some_entry, entry_own, IsEntry, entry_there, spot_of, sunk, found_by, whole_name, id_in, named_id, name_below}
@@ -34,20 +34,6 @@ use Rattle.hp_adoption.specs.AdoptPlans.{adopt_plan}
 use Rattle.hp_adoption.specs.LinkPlans.{a_link, gone_plan, close_own_plan, close_older_by, close_on, close_link_plan}
 
 -- ## An own link
-
-found_still : (w : Walk) → is_found w ≡ is_found (deeper 1 w)
-found_still (Found k) = refl
-found_still Stopped = refl
-found_still PastAll = refl
-
-has_found : (id : ℕ) (xs : List FormattingEntry) → has_entry id xs ≡ is_found (id_entry_walk id xs)
-has_found id [] = refl
-has_found id (Marker ∷ xs) = has_found id xs ∙ found_still (id_entry_walk id xs)
-has_found id (Element other tag ∷ xs) =
-    elim (other == id) as (λ b. (b || has_entry id xs) ≡ is_found (if b then Found 0 else deeper 1 (id_entry_walk id xs))) [
-      | true ↦ refl
-      | false ↦ has_found id xs ∙ found_still (id_entry_walk id xs)
-    ]
 
 whole_has : (s : ControlState) (v : Split) (id : ℕ) → StandsOn s v → has_entry (s.next + id) (state_over v s).formatting ≡ is_found (id_entry_walk id v.change.formatting)
 whole_has s v id st =

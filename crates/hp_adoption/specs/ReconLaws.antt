@@ -1,8 +1,8 @@
 -- Reconstruction: its plan does to a view what the act does to the whole state.
-use Rattle.std.specs.Prelude.{◌≡◌, ℕ, zero, suc, ◌+◌, ◌<◌, ◌≤◌, ◌==◌, Bool, true, false, ◌||◌, if◌then◌else◌, nat_lt, List, [], ◌∷◌, ◌++◌, length, Option, Some, None, Result, Ok, Err, map, drop, slice_get, slice_set, refl}
+use Rattle.std.specs.Prelude.{◌≡◌, ℕ, zero, suc, ◌+◌, ◌<◌, ◌≤◌, ◌==◌, Bool, true, false, ◌||◌, if◌then◌else◌, List, [], ◌∷◌, ◌++◌, length, Option, Some, None, Result, Ok, Err, map, drop, slice_get, slice_set, refl}
 use Rattle.std.specs.Option.{is_some, option_map}
 use Rattle.std.proofs.Common.{sym, subst, ap, ◌∙◌, arith, length-set}
-use Rattle.std.proofs.lemmas.Bool.{le-ltb, lt-ltb, ne_eqb}
+use Rattle.std.proofs.lemmas.Bool.{lt-ltb, ne_eqb}
 use Rattle.hp_elements.specs.declared.tag.Tag.{Tag}
 use Rattle.hp_control.specs.declared.edit.Place.{Place}
 use Rattle.hp_control.specs.declared.element.OpenElement.{OpenElement}
@@ -26,22 +26,20 @@ use Rattle.hp_views.specs.declared.walks.Walk.TheVariants.{Found, Stopped, PastA
 use Rattle.hp_views.specs.InsertLaws.{insert_faithful}
 use Rattle.hp_views.specs.ListPlans.{with_entries}
 use Rattle.hp_views.specs.OwnIds.{found_at, open_own, entries_cleared_by}
+use Rattle.hp_views.specs.OwnWalks.{some_map}
 use Rattle.hp_views.specs.PlacePlans.{place_plan, insert_at, insert_plan}
 use Rattle.hp_views.specs.PopLaws.{nothing_popped}
 use Rattle.hp_views.specs.Quiet.{quiet, own_touch, paged_part}
-use Rattle.hp_views.specs.Reading.{yes_read}
-use Rattle.hp_views.specs.RemoveLaws.{none_older}
+use Rattle.hp_views.specs.Reading.{step_within, yes_read}
+use Rattle.hp_views.specs.RemoveLaws.{none_older, own_id_new}
 use Rattle.hp_views.specs.StackLaws.{full_stack}
-use Rattle.hp_views.specs.Walks.{deeper, id_walk}
+use Rattle.hp_views.specs.Walks.{deeper, id_walk, is_found}
 use Rattle.hp_adoption.specs.Following.{matches_then}
-use Rattle.hp_adoption.specs.ReconPlans.{is_found, is_settled, stale_walk, relisted, renew_on, renew_plan, renew_down_plan, recon_older, recon_below, recon_on, reconstruct_plan}
+use Rattle.hp_adoption.specs.ReconPlans.{is_settled, stale_walk, relisted, renew_on, renew_plan, renew_down_plan, recon_older, recon_below, recon_on, reconstruct_plan}
 
 -- the list of the whole state: own entries on what is left of the older ones
 pub full_list : (s : ControlState) (v : Split) → (state_over v s).formatting ≡ map (shifted_entry s.next) v.change.formatting ++ cleared_by v.change.cuts s.formatting
 full_list s v = paged_part v.page (λ c. c.formatting) (applied v.change s) (λ p c. refl)
-
-pub own_new : (s : ControlState) (id : ℕ) → nat_lt (s.next + id) s.next ≡ false
-own_new s id = le-ltb (s.next + id) s.next (omega arith)
 
 -- an own entry in the place of another
 relist_own : (n k : ℕ) (e : FormattingEntry) (xs ys : List FormattingEntry) → k < length xs → map (shifted_entry n) (slice_set xs k e) ++ ys ≡ spliced k 1 (shifted_entry n e ∷ []) (map (shifted_entry n) xs ++ ys)
@@ -62,7 +60,7 @@ entry_past_own n m (x ∷ xs) ys =
 
 relist_done : (s : ControlState) (v : Split) (depth id : ℕ) (tag : Tag) → StandsOn s v → depth < length v.change.formatting → IsDone s v (relisted depth tag v) (relist depth (s.next + id) tag (state_over v s))
 relist_done s v depth id tag st h =
-    own_touch s v (relisted depth tag v) (renewed_entry (s.next + id)) (becomes (record (state_over v s) { formatting = spliced depth 1 (Element (state_over v s).next tag ∷ []) (state_over v s).formatting })) (own_new s id)
+    own_touch s v (relisted depth tag v) (renewed_entry (s.next + id)) (becomes (record (state_over v s) { formatting = spliced depth 1 (Element (state_over v s).next tag ∷ []) (state_over v s).formatting })) (own_id_new s id)
     (quiet s v (with_entries (slice_set v.change.formatting depth (Element v.change.made tag)) v.change) (λ c. record c { formatting = spliced depth 1 (Element c.next tag ∷ []) c.formatting }) st refl (λ p c. refl)
     (ap (λ l. record (applied v.change s) { formatting = l }) (relist_own s.next depth (Element v.change.made tag) v.change.formatting (cleared_by v.change.cuts s.formatting) h)))
 
@@ -135,22 +133,9 @@ stale_full n so sr none (Element id tag ∷ xs) ys =
       | false ↦ ap suc (stale_full n so sr none xs ys) ∙ stale_deeper (stale_walk so xs) (length xs) (stale full ys)
     ]
 
-later_within : (w : Walk) (n k : ℕ) → ((j : ℕ) → w ≡ Found j → j < n) → deeper 1 w ≡ Found k → k < suc n
-later_within (Found j) n k h e = let z : 1 + j ≡ k = cc in let l : j < n = h j refl in omega arith
-later_within Stopped n k h e = cc
-later_within PastAll n k h e = cc
-
-settled_within : (b : Bool) (w : Walk) (n k : ℕ) → ((j : ℕ) → w ≡ Found j → j < n) → (if b then Found 0 else deeper 1 w) ≡ Found k → k < suc n
-settled_within true w n k h e = let z : 0 ≡ k = cc in omega arith
-settled_within false w n k h e = later_within w n k h e
-
 stale_within : (so : List OpenElement) (xs : List FormattingEntry) (k : ℕ) → stale_walk so xs ≡ Found k → k < length xs
 stale_within so [] k e = cc
-stale_within so (x ∷ xs) k e = settled_within (is_settled so x) (stale_walk so xs) (length xs) k (λ j. stale_within so xs j) e
-
-some_suc : (o : Option ℕ) → is_some (option_map suc o) ≡ is_some o
-some_suc None = refl
-some_suc (Some k) = refl
+stale_within so (x ∷ xs) k e = step_within (is_settled so x) false (stale_walk so xs) (length xs) k (λ j. stale_within so xs j) e
 
 -- what is open below is open
 open_below : (id : ℕ) (xs sr : List OpenElement) → is_some (open_at id sr) ≡ true → is_some (open_at id (xs ++ sr)) ≡ true
@@ -158,7 +143,7 @@ open_below id [] sr h = h
 open_below id (x ∷ xs) sr h =
     elim (x.id == id) as (λ b. is_some (if b then Some 0 else option_map suc (open_at id (xs ++ sr))) ≡ true) [
       | true ↦ refl
-      | false ↦ some_suc (open_at id (xs ++ sr)) ∙ open_below id xs sr h
+      | false ↦ some_map suc (open_at id (xs ++ sr)) ∙ open_below id xs sr h
     ]
 
 -- an older element is none of the own ones
@@ -166,7 +151,7 @@ pub open_skip : (n id : ℕ) (xs sr : List OpenElement) → id < n → is_some (
 open_skip n id [] sr h = refl
 open_skip n id (x ∷ xs) sr h =
     ap (λ b. is_some (if b then Some 0 else option_map suc (open_at id (map (shifted n) xs ++ sr)))) (ne_eqb (n + x.id) id (λ q. omega (arith, h, q)))
-    ∙ (some_suc (open_at id (map (shifted n) xs ++ sr)) ∙ open_skip n id xs sr h)
+    ∙ (some_map suc (open_at id (map (shifted n) xs ++ sr)) ∙ open_skip n id xs sr h)
 
 quiet_stale : (n : ℕ) (so sr : List OpenElement) (ys : List FormattingEntry) → is_quiet sr ys ≡ true → stale (map (shifted n) so ++ sr) ys ≡ 0
 quiet_stale n so sr [] h = refl

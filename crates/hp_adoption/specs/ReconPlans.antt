@@ -13,11 +13,7 @@ use Rattle.hp_views.specs.Asking.{ask_quiet}
 use Rattle.hp_views.specs.FieldPlans.{with_change}
 use Rattle.hp_views.specs.ListPlans.{with_entries}
 use Rattle.hp_views.specs.PlacePlans.{insert_plan}
-use Rattle.hp_views.specs.Walks.{deeper, id_walk}
-
-abbrev pub is_found : Walk → Bool
-is_found (Found k) = true
-is_found _ = false
+use Rattle.hp_views.specs.Walks.{deeper, id_walk, is_found}
 
 -- a marker, or open in the stack
 abbrev pub is_settled : List OpenElement → FormattingEntry → Bool

@@ -12,7 +12,7 @@ use std::marker::Model;
 /// How many equal entries there may be.
 const MOST: u64 = 3;
 
-/// Among fewer entries there aren't so many.
+/// As many entries of a list. In a shorter one there are not so many equal ones, so that none has to go.
 const FEW: usize = 3;
 
 /// The own entries after the last marker that are equal to a tag.
@@ -33,6 +33,7 @@ impl Model for Equal {
     ghost view = { λ e. record { count = e.count; earliest = e.earliest; ended = e.ended } };
 }
 
+/// Counts the own entries after the last marker that are equal to the tag.
 fn equal_entries(list: &Stack<FormattingEntry>, tag: &Tag) -> Equal
     ensures { result ≡ spec_tally tag.now list.now 0 0 }
 {

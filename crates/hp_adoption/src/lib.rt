@@ -1,5 +1,5 @@
 //! Reconstruction of the active formatting elements, the adoption agency algorithm and what else works on that list, over a
-//! state whose lower part may be unknown.
+//! state whose lower part may be unknown. After a refusal of any call the view is spent.
 #![tactic(auto)]
 
 mod adopting;

@@ -1,6 +1,5 @@
 //! The adoption agency algorithm (13.2.6.4.7).
 ghost use Rattle.std.specs.Prelude.{◌≡◌, ◌<◌, ◌&&◌, length};
-ghost use Rattle.std.specs.Str.{bytes_eq};
 ghost use Rattle.hp_control.specs.States.{is_html};
 ghost use Rattle.hp_views.specs.StackPlans.{own_popped};
 ghost use Rattle.hp_views.specs.View.{sight, split_of, Answers, Carries};
@@ -8,7 +7,7 @@ ghost use Rattle.hp_adoption.specs.AdoptPlans.{plain_below, is_plain_plan, adopt
 ghost use Rattle.hp_adoption.specs.LastEntry.{is_own, is_last, without_last};
 
 use crate::turns::turns;
-use hp_control::{Below, Change, FormattingEntry, OpenElement, Refusal, is_html};
+use hp_control::{Below, Change, FormattingEntry, OpenElement, Refusal, is_html, same_name};
 use hp_elements::{Kinds, Name};
 use hp_views::{View, older_listed};
 use std::alloc::Global;
@@ -26,12 +25,6 @@ fn is_plain<'p, B: Below>(
     }
     let top = view.change.stack.at(0);
     Ok(is_html(top) && same_name(name, &top.name) && !view.has_entry(top.id))
-}
-
-fn same_name(name: &Name, other: &Name) -> bool
-    ensures { result ≡ bytes_eq name.now other.now }
-{
-    name.same(other)
 }
 
 /// The same of the older current node.

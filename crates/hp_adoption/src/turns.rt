@@ -126,7 +126,8 @@ fn turn_older<'p, B: Below>(
     }
 }
 
-/// What an end tag does that no row names.
+/// Any other end tag (13.2.6.4.7): pops up to and with the nearest HTML element of the name, unless a special one stands above it.
+/// There is no turn after it.
 fn walk<'p, B: Below>(alloc: Global, view: &mut View<'p, B>, name: &Name) -> Result<bool, Refusal>
     ensures { Turns result (sight B.heard view.old) (sight B.heard view.new) (walk_turn name.now) }
 {

@@ -1,16 +1,14 @@
 -- Where a token goes, by whether the current node is the view's own.
-use Rattle.std.proofs.Common.{◌≡◌, ℕ, suc, Bool, true, false, List, [], ◌∷◌, length, get_or, Result, Ok, Err, refl, ap, sym, subst, ◌∙◌, arith}
+use Rattle.std.proofs.Common.{◌≡◌, ℕ, suc, Bool, true, false, List, [], ◌∷◌, length, get_or, Ok, refl, ap, sym, subst, ◌∙◌, arith}
 use Rattle.std.specs.Prelude.{◌==◌, if◌then◌else◌}
 use Rattle.std.proofs.lemmas.Bool.Decides.{nat_tests}
 use Rattle.hp_elements.specs.declared.token.Kind.{Kind}
-use Rattle.hp_control.specs.declared.change.Refusal.{Refusal}
-use Rattle.hp_control.specs.declared.change.Refusal.TheVariants.{Crossed, NoMemory}
 use Rattle.hp_control.specs.declared.element.OpenElement.{OpenElement}
 use Rattle.hp_control.specs.Faithful.{Split}
 use Rattle.hp_control.specs.Foreign.{is_end_of_input, is_foreign_at}
 use Rattle.hp_control.specs.Plan.{Heard, Plan, Runs, gives}
 use Rattle.hp_control.specs.Running.{runs_gives}
-use Rattle.hp_views.specs.View.{Answers, Finds, Sight}
+use Rattle.hp_views.specs.View.{Finds}
 use Rattle.hp_foreign.specs.Plans.{goes_on, goes_plan, older_goes}
 
 own_one : (token : Kind) (v : Split) (es : List OpenElement) (e : OpenElement) → (length es == 0) ≡ false → e ≡ get_or es 0 e → goes_on token v es ≡ gives (is_foreign_at token e)
@@ -41,8 +39,3 @@ ended_goes heard v token kind none same ended = given heard v (goes_plan token) 
 -- an older one
 pub older_plan : (v : Split) (token kind : Kind) → (length v.change.stack == 0) ≡ true → kind ≡ token → is_end_of_input kind ≡ false → older_goes kind v ≡ goes_plan token v
 older_plan v token kind none same goes_on = ap (λ (k : Kind). older_goes k v) same ∙ sym (no_own token v v.change.stack false none (ap is_end_of_input (sym same) ∙ goes_on))
-
-pub same_answers : {X : Type 0} (result : Result X Refusal) (old new : Sight) (p q : Split → Plan X) → p old.split ≡ q old.split → Answers result old new p → Answers result old new q
-same_answers {X} (Ok x) old new p q same f = record { runs = subst (λ (plan : Plan X). Runs old.heard new.heard plan (Ok x)) same f.runs; same = f.same }
-same_answers (Err (Crossed crossing)) old new p q same f = f
-same_answers (Err NoMemory) old new p q same f = tt

@@ -9,6 +9,7 @@ ghost use Rattle.hp_foreign.specs.Changes.{changes_in};
 use hp_elements::{
     Attribute, Chain, ForeignAttribute, Known, Name, Namespace, NoMemory, Respelling, Tag,
 };
+use hp_views::is_called;
 use std::alloc::Global;
 
 /// The spelling of which the name is the lower case, or the name.
@@ -119,14 +120,6 @@ fn changed_in(
     Ok(made)
 }
 
-fn is_called(name: &Name, known: Known) -> bool
-    ensures { result ≡ bytes_eq name.now (text_of known) }
-{
-    name.is(known)
-}
-
-ghost use Rattle.std.specs.Str.{bytes_eq};
-ghost use Rattle.hp_elements.specs.Names.{text_of};
 ghost use Rattle.hp_foreign.specs.Fonts.{is_font_attribute};
 
 fn is_font_attribute(attribute: &Attribute) -> bool

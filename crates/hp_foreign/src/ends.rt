@@ -1,5 +1,5 @@
 //! Where foreign content ends, and its characters (13.2.6.5).
-ghost use Rattle.std.specs.Prelude.{◌≡◌, ◌++◌, [], length, replicate, IfOk};
+ghost use Rattle.std.specs.Prelude.{◌≡◌, IfOk};
 ghost use Rattle.hp_control.specs.Foreign.{replaced};
 ghost use Rattle.hp_views.specs.View.{sight, Answers, Meets};
 ghost use Rattle.hp_foreign.specs.Plans.{names_plan};
@@ -55,8 +55,7 @@ fn replaced(alloc: Global, text: &Text<'_>) -> Result<Text<'static>, NoMemory>
     ensures { IfOk result (λ made. made ≡ replaced text.now) }
 {
     let mut made = Text::new();
-    for c in text.as_str().chars() {
-        let _ = c;
+    for _c in text.as_str().chars() {
         made.push(alloc, '\u{FFFD}')?;
     }
     Ok(made)

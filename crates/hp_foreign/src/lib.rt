@@ -1,4 +1,5 @@
-//! Foreign content: which tokens its rules are for, and what those rules do (13.2.6, 13.2.6.5).
+//! Foreign content: which tokens its rules are for, and what those rules do (13.2.6, 13.2.6.5). After a refusal of any call
+//! the view is spent.
 #![tactic(auto)]
 
 mod attributes;

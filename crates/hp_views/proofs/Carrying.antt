@@ -51,6 +51,11 @@ carries_refused (Crossed crossing) old new p q k = runs_crosses q k
 carries_refused NoMemory old new p q k = tt
 
 -- another plan that is the same on this view
+pub carries_as : (result : Result (Unit {0}) Refusal) (old new : Sight) (p q : Split → Plan Split) → p old.split ≡ q old.split → Carries result old new p → Carries result old new q
+carries_as (Ok u) old new p q e k = let P : Plan Split → Type 0 = λ plan. Runs old.heard new.heard plan (Ok new.split) in subst P e k
+carries_as (Err (Crossed crossing)) old new p q e k = let P : Plan Split → Type 0 = λ plan. Runs old.heard new.heard plan (Err crossing) in subst P e k
+carries_as (Err NoMemory) old new p q e k = tt
+
 pub answers_as : {X : Type 0} (result : Result X Refusal) (old new : Sight) (p q : Split → Plan X) → p old.split ≡ q old.split → Answers result old new p → Answers result old new q
 answers_as (Ok x) old new p q e f = let P : Plan _ → Type 0 = λ plan. Runs old.heard new.heard plan (Ok x) in record { runs = subst P e f.runs; same = f.same }
 answers_as (Err (Crossed crossing)) old new p q e f = f

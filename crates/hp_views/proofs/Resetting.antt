@@ -1,14 +1,14 @@
 -- The walk that resets the insertion mode, one own element further.
-use Rattle.std.specs.Prelude.{ℕ, zero, suc, ◌+◌, ◌<◌, ◌≡◌, List, [], ◌∷◌, length, drop, Result, Ok, Err}
+use Rattle.std.specs.Prelude.{ℕ, zero, suc, ◌+◌, ◌<◌, ◌≡◌, List, [], ◌∷◌, length, drop, Result}
 use Rattle.std.proofs.Common.{arith, ap, sym, subst, ◌∙◌}
 use Rattle.hp_elements.specs.declared.token.Mode.{Mode}
 use Rattle.hp_control.specs.declared.change.Refusal.{Refusal}
-use Rattle.hp_control.specs.declared.change.Refusal.TheVariants.{Crossed, NoMemory}
 use Rattle.hp_control.specs.declared.element.OpenElement.{OpenElement}
 use Rattle.hp_control.specs.Faithful.{Split}
-use Rattle.hp_control.specs.Plan.{Plan, Runs, Heard, gives}
+use Rattle.hp_control.specs.Plan.{Plan, Heard, gives}
 use Rattle.hp_views.specs.declared.reset.Decides.TheVariants.{Nothing, Select, To}
 use Rattle.hp_views.specs.ResetPlans.{decides_at, reset_by, reset_on, select_plan, to_mode}
+use Rattle.hp_views.proofs.Carrying.{carries_as}
 use Rattle.hp_views.specs.View.{Sight, Carries, sight, split_of}
 use Rattle.hp_views.specs.declared.view.View.{View}
 
@@ -30,12 +30,6 @@ pub reset_goes : (v : Split) (k : ℕ) (xs : List OpenElement) (m : Mode) → k 
 reset_goes v k [] m h e = absurd (omega (arith, h))
 reset_goes v zero (x ∷ xs) m h e = sym (ap (λ d. reset_by v xs d (reset_on v xs)) e)
 reset_goes v (suc k) (x ∷ xs) m h e = reset_goes v k xs m (omega (arith, h)) e
-
--- another plan that is the same on this view
-pub carries_as : (result : Result (Unit {0}) Refusal) (old new : Sight) (p q : Split → Plan Split) → p old.split ≡ q old.split → Carries result old new p → Carries result old new q
-carries_as (Ok u) old new p q e k = let P : Plan Split → Type 0 = λ plan. Runs old.heard new.heard plan (Ok new.split) in subst P e k
-carries_as (Err (Crossed crossing)) old new p q e k = let P : Plan Split → Type 0 = λ plan. Runs old.heard new.heard plan (Err crossing) in subst P e k
-carries_as (Err NoMemory) old new p q e k = tt
 
 -- the same view
 pub carries_on : {B : Type 0} (heard : B → Heard) (a b : View B) (result : Result (Unit {0}) Refusal) (new : Sight) (p q : Split → Plan Split) → a ≡ b → p (split_of a) ≡ q (split_of a) → Carries result (sight heard a) new p → Carries result (sight heard b) new q

@@ -97,9 +97,6 @@ whole_again c =
 pub nothing_older : IsOlder nothing
 nothing_older = record { short = omega arith; next = omega arith; entries = omega arith; stack_ids = tt; list_ids = tt; form = tt; pending = refl }
 
-pub whole_stands : (c : ControlState) → StandsOn nothing (whole_of c)
-whole_stands c = record { older = nothing_older; text = refl; base = refl }
-
 -- the lexer at rest has no other parts
 entered : (r : Rest) (m : Machine) → record (resting r m.after_cr) { last_tag = m.last_tag } ≡ enter (state_of_rest r) m
 entered rest.Data m = refl

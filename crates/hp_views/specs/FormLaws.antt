@@ -26,7 +26,7 @@ use Rattle.hp_views.specs.ClosingPlans.{implied_plan, end_form_in_template_plan}
 use Rattle.hp_views.specs.FieldLaws.{empty_form_faithful}
 use Rattle.hp_views.specs.FieldPlans.{form_cleared}
 use Rattle.hp_views.specs.FormPlans.{form_emptied, own_form_on, own_form_plan, older_off_at, older_off_plan, leave_older_on, pointed_plan, outside_on, outside_plan, end_form_plan}
-use Rattle.hp_views.specs.OlderIds.{is_found, scope_older, scope_own, scope_by, scope_below, scope_open, open_within, open_drop, open_gone, open_left, open_below}
+use Rattle.hp_views.specs.OlderIds.{scope_older, scope_own, scope_by, scope_below, scope_open, open_within, open_drop, open_gone, open_left, open_below}
 use Rattle.hp_views.specs.OwnIds.{ids_drop}
 use Rattle.hp_views.specs.PopLaws.{pop_faithful, nothing_popped}
 use Rattle.hp_views.specs.Quiet.{quiet, paged_part}
@@ -35,7 +35,7 @@ use Rattle.hp_views.specs.RemoveLaws.{take_off_faithful}
 use Rattle.hp_views.specs.RemovePlans.{take_off_plan}
 use Rattle.hp_views.specs.StackLaws.{full_stack, template_faithful}
 use Rattle.hp_views.specs.StackPlans.{pop_plan, template_plan}
-use Rattle.hp_views.specs.Walks.{walk_of, id_scope_walk}
+use Rattle.hp_views.specs.Walks.{is_found, walk_of, id_scope_walk}
 
 -- what leaves the stack where the form's element is in scope
 abbrev pub form_left : ℕ → Act

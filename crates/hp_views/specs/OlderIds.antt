@@ -11,22 +11,9 @@ use Rattle.hp_control.specs.Walks.{open_at, scope_at, scope_ends}
 use Rattle.hp_control.specs.Apply.{shifted}
 use Rattle.hp_views.specs.declared.walks.Walk.{Walk}
 use Rattle.hp_views.specs.declared.walks.Walk.TheVariants.{Found, Stopped, PastAll}
-use Rattle.hp_views.specs.OwnIds.{ids, own_number}
-use Rattle.hp_views.specs.Walks.{deeper, walk_of, id_scope_walk}
-
-abbrev pub is_found : Walk → Bool
-is_found (Found k) = true
-is_found Stopped = false
-is_found PastAll = false
-
-found_still : (w : Walk) → is_found w ≡ is_found (deeper 1 w)
-found_still (Found k) = refl
-found_still Stopped = refl
-found_still PastAll = refl
-
-some_suc : (o : Option ℕ) → is_some (option_map suc o) ≡ is_some o
-some_suc None = refl
-some_suc (Some k) = refl
+use Rattle.hp_views.specs.OwnIds.{found_still, ids, own_number}
+use Rattle.hp_views.specs.OwnWalks.{some_map}
+use Rattle.hp_views.specs.Walks.{deeper, is_found, walk_of, id_scope_walk}
 
 none_either : (b : Bool) (o : Option ℕ) → o ≡ None → (if b then None else option_map suc o) ≡ None
 none_either true o h = refl
@@ -48,7 +35,7 @@ scope_own n id (x ∷ xs) ys h =
       | true ↦ refl
       | false ↦ elim (within scope_ends x) as (λ b. is_some (if b then None else option_map suc (scope_at (n + id) (map (shifted n) xs ++ ys))) ≡ is_found (if b then Stopped else deeper 1 (id_scope_walk id xs))) [
         | true ↦ refl
-        | false ↦ some_suc (scope_at (n + id) (map (shifted n) xs ++ ys)) ∙ (scope_own n id xs ys h ∙ found_still (id_scope_walk id xs))
+        | false ↦ some_map suc (scope_at (n + id) (map (shifted n) xs ++ ys)) ∙ (scope_own n id xs ys h ∙ found_still (id_scope_walk id xs))
       ]
     ]
 
@@ -69,7 +56,7 @@ scope_below n i (x ∷ xs) ys l =
     ap (λ b. is_some (if b then Some 0 else (if within scope_ends x then None else option_map suc (scope_at i (map (shifted n) xs ++ ys))))) (ne_eqb (n + x.id) i (λ q. omega (arith, l, q)))
     ∙ elim (within scope_ends x) as (λ b. is_some (if b then None else option_map suc (scope_at i (map (shifted n) xs ++ ys))) ≡ scope_by (if b then Stopped else deeper 1 (walk_of kinds.Nothing scope_ends xs)) (is_some (scope_at i ys))) [
       | true ↦ refl
-      | false ↦ some_suc (scope_at i (map (shifted n) xs ++ ys)) ∙ (scope_below n i xs ys l ∙ scope_deeper (walk_of kinds.Nothing scope_ends xs) (is_some (scope_at i ys)))
+      | false ↦ some_map suc (scope_at i (map (shifted n) xs ++ ys)) ∙ (scope_below n i xs ys l ∙ scope_deeper (walk_of kinds.Nothing scope_ends xs) (is_some (scope_at i ys)))
     ]
 
 -- an element in scope stands where it is open

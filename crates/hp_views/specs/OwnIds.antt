@@ -1,5 +1,5 @@
 -- Own elements and entries by their ids: those of an older state are below its next one, so that none is found among them.
-use Rattle.std.specs.Prelude.{◌≡◌, ℕ, zero, suc, ◌+◌, ◌<◌, ◌≤◌, ◌==◌, Bool, true, false, if◌then◌else◌, List, [], ◌∷◌, ◌++◌, Option, Some, None, map, take, drop, length, refl}
+use Rattle.std.specs.Prelude.{◌≡◌, ℕ, zero, suc, ◌+◌, ◌<◌, ◌≤◌, ◌==◌, Bool, true, false, ◌||◌, if◌then◌else◌, List, [], ◌∷◌, ◌++◌, Option, Some, None, map, take, drop, length, refl}
 use Rattle.std.specs.Option.{option_map}
 use Rattle.std.specs.List.{take-map}
 use Rattle.std.proofs.Common.{sym, ap, ◌∙◌, append_assoc, arith}
@@ -9,13 +9,14 @@ use Rattle.hp_control.specs.declared.element.OpenElement.{OpenElement}
 use Rattle.hp_control.specs.declared.element.FormattingEntry.{FormattingEntry}
 use Rattle.hp_control.specs.declared.element.FormattingEntry.TheVariants.{Marker, Element}
 use Rattle.hp_control.specs.States.{AreIds, entry_ids}
-use Rattle.hp_control.specs.Walks.{open_at, cleared, cleared_by}
+use Rattle.hp_control.specs.Walks.{open_at, has_entry, cleared, cleared_by}
 use Rattle.hp_control.specs.Acts.{without, without_entry}
 use Rattle.hp_control.specs.Apply.{shifted, shifted_entry}
 use Rattle.hp_views.specs.declared.walks.Walk.{Walk}
 use Rattle.hp_views.specs.declared.walks.Walk.TheVariants.{Found, Stopped, PastAll}
 use Rattle.hp_views.specs.OwnWalks.{drop_own}
-use Rattle.hp_views.specs.Walks.{deeper, id_walk, id_entry_walk}
+use Rattle.hp_views.specs.Reading.{step_within}
+use Rattle.hp_views.specs.Walks.{deeper, is_found, id_walk, id_entry_walk}
 
 abbrev pub ids : List OpenElement → List ℕ
 ids es = map (λ e. e.id) es
@@ -38,6 +39,11 @@ found_deeper : (w : Walk) → option_map suc (found_at w) ≡ found_at (deeper 1
 found_deeper (Found k) = ap Some (omega arith)
 found_deeper Stopped = refl
 found_deeper PastAll = refl
+
+pub found_still : (w : Walk) → is_found w ≡ is_found (deeper 1 w)
+found_still (Found k) = refl
+found_still Stopped = refl
+found_still PastAll = refl
 
 pub ids_drop : (low next n : ℕ) (es : List OpenElement) → AreIds low next (ids es) → AreIds low next (ids (drop n es))
 ids_drop low next zero es h = h
@@ -70,20 +76,20 @@ without_own n k xs ys h =
     ∙ (sym (append_assoc (map f (take k xs)) (map f (drop (k + 1) xs)) ys)
     ∙ ap (λ l. l ++ ys) (sym (map-append f (take k xs) (drop (k + 1) xs)))))
 
-id_deeper : (w : Walk) (n k : ℕ) → ((j : ℕ) → w ≡ Found j → j < n) → deeper 1 w ≡ Found k → k < suc n
-id_deeper (Found j) n k h e = let z : 1 + j ≡ k = cc in let l : j < n = h j refl in omega arith
-id_deeper Stopped n k h e = cc
-id_deeper PastAll n k h e = cc
-
-id_step : (b : Bool) (w : Walk) (n k : ℕ) → ((j : ℕ) → w ≡ Found j → j < n) → (if b then Found 0 else deeper 1 w) ≡ Found k → k < suc n
-id_step true w n k h e = let z : 0 ≡ k = cc in omega arith
-id_step false w n k h e = id_deeper w n k h e
-
 pub id_within : (id : ℕ) (xs : List OpenElement) (k : ℕ) → id_walk id xs ≡ Found k → k < length xs
 id_within id [] k e = cc
-id_within id (x ∷ xs) k e = id_step (x.id == id) (id_walk id xs) (length xs) k (λ j. id_within id xs j) e
+id_within id (x ∷ xs) k e = step_within (x.id == id) false (id_walk id xs) (length xs) k (λ j. id_within id xs j) e
 
 -- entries
+pub has_found : (id : ℕ) (xs : List FormattingEntry) → has_entry id xs ≡ is_found (id_entry_walk id xs)
+has_found id [] = refl
+has_found id (Marker ∷ xs) = has_found id xs ∙ found_still (id_entry_walk id xs)
+has_found id (Element other tag ∷ xs) =
+    elim (other == id) as (λ b. (b || has_entry id xs) ≡ is_found (if b then Found 0 else deeper 1 (id_entry_walk id xs))) [
+      | true ↦ refl
+      | false ↦ has_found id xs ∙ found_still (id_entry_walk id xs)
+    ]
+
 pub entries_cleared : (low next : ℕ) (es : List FormattingEntry) → AreIds low next (entry_ids es) → AreIds low next (entry_ids (cleared es))
 entries_cleared low next [] h = h
 entries_cleared low next (Marker ∷ es) h = h

@@ -57,7 +57,7 @@ reach_own n goals stops (x ∷ xs) ys =
       ]
     ]
 
-some_map : (f : ℕ → ℕ) (o : Option ℕ) → is_some (option_map f o) ≡ is_some o
+pub some_map : (f : ℕ → ℕ) (o : Option ℕ) → is_some (option_map f o) ≡ is_some o
 some_map f None = refl
 some_map f (Some k) = refl
 

@@ -30,13 +30,14 @@ use Rattle.hp_control.specs.Plan.{Plan, gives, end_by}
 use Rattle.hp_control.specs.Running.{on_end, end_then}
 use Rattle.hp_views.specs.declared.walks.Walk.{Walk}
 use Rattle.hp_views.specs.declared.walks.Walk.TheVariants.{Found, Stopped, PastAll}
+use Rattle.hp_views.specs.OwnIds.{found_still}
 use Rattle.hp_views.specs.OwnWalks.{reach_by, reach_own, is_stopped, drop_own, drop_below}
 use Rattle.hp_views.specs.PlacePlans.{top_ref, current_ref, first_ref, at_table, own_table, older_table, a_template, a_table, foster_older, foster_on, foster_plan, fostered, place_plan}
 use Rattle.hp_views.specs.PopLaws.{stack_over, none_left, older_length, whole_length}
 use Rattle.hp_views.specs.Reading.{depth_read, walk_within}
 use Rattle.hp_views.specs.StackLaws.{full_stack, named_kind, current_faithful}
 use Rattle.hp_views.specs.StackPlans.{current_is_plan}
-use Rattle.hp_views.specs.Walks.{walk_of, deeper}
+use Rattle.hp_views.specs.Walks.{deeper, is_found, walk_of}
 
 -- before the element with this id, where there is one below it, or into it
 abbrev pub before : ℕ → List OpenElement → Place
@@ -73,20 +74,10 @@ told (e ∷ f ∷ es) =
     ∙ told_more (within a_template e) (within a_table e) e f es (reach a_template a_table (f ∷ es)) (reach a_table kinds.Nothing (f ∷ es)) (foster_place (f ∷ es)) (told (f ∷ es)))
 
 -- where a walk for a template meets a table, a walk for a table finds it
-abbrev pub is_found : Walk → Bool
-is_found (Found k) = true
-is_found Stopped = false
-is_found PastAll = false
-
 abbrev pub is_past : Walk → Bool
 is_past (Found k) = false
 is_past Stopped = false
 is_past PastAll = true
-
-found_deeper : (w : Walk) → is_found w ≡ true → is_found (deeper 1 w) ≡ true
-found_deeper (Found k) h = refl
-found_deeper Stopped h = h
-found_deeper PastAll h = h
 
 still_stopped : (w : Walk) → is_stopped (deeper 1 w) ≡ true → is_stopped w ≡ true
 still_stopped (Found k) h = h
@@ -96,7 +87,7 @@ still_stopped PastAll h = h
 stop_step : (b d : Bool) (w t : Walk) → (is_stopped w ≡ true → is_found t ≡ true) → is_stopped (if b then Found 0 else (if d then Stopped else deeper 1 w)) ≡ true → is_found (if d then Found 0 else deeper 1 t) ≡ true
 stop_step true d w t h e = absurd (cc)
 stop_step false true w t h e = refl
-stop_step false false w t h e = found_deeper t (h (still_stopped w e))
+stop_step false false w t h e = sym (found_still t) ∙ h (still_stopped w e)
 
 tables_stop : (xs : List OpenElement) → is_stopped (walk_of a_template a_table xs) ≡ true → is_found (walk_of a_table kinds.Nothing xs) ≡ true
 tables_stop [] e = absurd (cc)

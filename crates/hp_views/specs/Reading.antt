@@ -87,14 +87,14 @@ deeper_within (Found j) n k h e = let z : 1 + j ≡ k = cc in let l : j < n = h 
 deeper_within Stopped n k h e = cc
 deeper_within PastAll n k h e = cc
 
-walk_step : (b d : Bool) (w : Walk) (n k : ℕ) → ((j : ℕ) → w ≡ Found j → j < n) → (if b then Found 0 else (if d then Stopped else deeper 1 w)) ≡ Found k → k < suc n
-walk_step true d w n k h e = let z : 0 ≡ k = cc in omega arith
-walk_step false true w n k h e = cc
-walk_step false false w n k h e = deeper_within w n k h e
+pub step_within : (b d : Bool) (w : Walk) (n k : ℕ) → ((j : ℕ) → w ≡ Found j → j < n) → (if b then Found 0 else (if d then Stopped else deeper 1 w)) ≡ Found k → k < suc n
+step_within true d w n k h e = let z : 0 ≡ k = cc in omega arith
+step_within false true w n k h e = cc
+step_within false false w n k h e = deeper_within w n k h e
 
 pub walk_within : (goals stops : Kinds) (xs : List OpenElement) (k : ℕ) → walk_of goals stops xs ≡ Found k → k < length xs
 walk_within goals stops [] k e = cc
-walk_within goals stops (x ∷ xs) k e = walk_step (within goals x) (within stops x) (walk_of goals stops xs) (length xs) k (λ j. walk_within goals stops xs j) e
+walk_within goals stops (x ∷ xs) k e = step_within (within goals x) (within stops x) (walk_of goals stops xs) (length xs) k (λ j. walk_within goals stops xs j) e
 
 run_found : (b : Bool) (w : Walk) (n k : ℕ) → ((j : ℕ) → w ≡ Found j → j < n) → (if b then deeper 1 w else Found 0) ≡ Found k → k < suc n
 run_found true w n k h e = deeper_within w n k h e

@@ -36,7 +36,7 @@ none_older s v id st = open_older 0 s.next (s.next + id) (drop v.change.popped s
 pub full_open : (s : ControlState) (v : Split) (id : ℕ) → StandsOn s v → open_at (s.next + id) (state_over v s).stack ≡ found_at (id_walk id v.change.stack)
 full_open s v id st = ap (open_at (s.next + id)) (full_stack s v) ∙ open_own s.next id v.change.stack (drop v.change.popped s.stack) (none_older s v id st)
 
-own_id_new : (s : ControlState) (id : ℕ) → nat_lt (s.next + id) s.next ≡ false
+pub own_id_new : (s : ControlState) (id : ℕ) → nat_lt (s.next + id) s.next ≡ false
 own_id_new s id = le-ltb (s.next + id) s.next (omega arith)
 
 taken_stack : (s : ControlState) (v : Split) (k : ℕ) → k < length v.change.stack → map (shifted s.next) (without k v.change.stack) ++ drop v.change.popped s.stack ≡ without k (applied v.change s).stack

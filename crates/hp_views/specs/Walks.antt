@@ -1,5 +1,5 @@
 -- Where a walk over a list ends, the top first.
-use Rattle.std.specs.Prelude.{ℕ, ◌+◌, ◌<◌, ◌^◌, ◌==◌, if◌then◌else◌, List, [], ◌∷◌, length}
+use Rattle.std.specs.Prelude.{ℕ, ◌+◌, ◌<◌, ◌^◌, ◌==◌, Bool, true, false, if◌then◌else◌, List, [], ◌∷◌, length}
 use Rattle.std.specs.Str.{bytes_eq}
 use Rattle.hp_elements.specs.declared.kinds.Kinds.{Kinds}
 use Rattle.hp_control.specs.declared.element.OpenElement.{OpenElement}
@@ -57,6 +57,11 @@ abbrev pub entry_walk : List ℕ → List FormattingEntry → Walk
 entry_walk name [] = PastAll
 entry_walk name (Marker ∷ es) = Stopped
 entry_walk name (Element id tag ∷ es) = if bytes_eq name tag.name then Found 0 else deeper 1 (entry_walk name es)
+
+abbrev pub is_found : Walk → Bool
+is_found (Found k) = true
+is_found Stopped = false
+is_found PastAll = false
 
 -- what is found is there
 abbrev pub IsWithin : {X : Type 0} → Walk → List X → Type 0

@@ -89,7 +89,7 @@ pub fn older_seen<B: Below>(
     asked_yes(below, alloc, question)
 }
 
-/// How many elements stand above it, from this depth downward.
+/// How many elements stand above the first goal, from this depth downward; `None` where a stop comes first, or no goal.
 #[inline(never)]
 pub fn older_reach<B: Below>(
     below: &mut B,

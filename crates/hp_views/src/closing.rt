@@ -67,7 +67,7 @@ impl<'p, B: Below> View<'p, B> {
         self.through(alloc, Kinds::Html(name), Kinds::Nothing)
     }
 
-    /// What an end tag does that no row names: up to and with the nearest element of the name, unless a special one stands above it.
+    /// Any other end tag (13.2.6.4.7): pops up to and with the nearest HTML element of the name, unless a special one stands above it.
     pub fn walk(&mut self, alloc: Global, name: Name) -> Result<(), Refusal>
         ensures { Meets result (sight B.heard self.old) (sight B.heard self.new) (walk_step name) }
     {

@@ -72,14 +72,13 @@ impl<'p, B: Below> View<'p, B> {
     }
 
     /// Another mode in place of the last template mode. An older one isn't this view's to replace.
-    pub fn replace_template_mode(&mut self, alloc: Global, mode: Mode) -> Result<(), Refusal>
+    pub fn replace_template_mode(&mut self, _alloc: Global, mode: Mode) -> Result<(), Refusal>
         ensures { Meets result (sight B.heard self.old) (sight B.heard self.new) (replace_mode_step mode) }
     {
         if self.change.templates.is_empty() {
             return self.without_template_mode();
         }
-        self.change.templates.drop_top(1);
-        self.change.templates.push(alloc, mode)?;
+        let _ = self.change.templates.replace(0, mode);
         Ok(())
     }
 

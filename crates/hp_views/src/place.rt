@@ -31,12 +31,14 @@ pub fn second_id(stack: &OpenElements) -> u64
     if count < 2 { 0 } else { stack.at(count - 2).id }
 }
 
+/// The HTML element `template`.
 pub fn a_template() -> Kinds
     ensures { result ≡ spec_template }
 {
     Kinds::Html(Name::of_known(Known::TEMPLATE))
 }
 
+/// The HTML element `table`.
 pub fn a_table() -> Kinds
     ensures { result ≡ spec_table }
 {

@@ -66,7 +66,8 @@ fn is_alike(text: &Text<'_>, other: &str) -> bool
     text.as_str().eq_ignore_ascii_case(other)
 }
 
-fn is_called(name: &Name, known: Known) -> bool
+/// Whether the name is that known one.
+pub fn is_called(name: &Name, known: Known) -> bool
     ensures { result ≡ bytes_eq name.now (text_of known) }
 {
     name.is(known)

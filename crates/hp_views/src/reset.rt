@@ -73,7 +73,7 @@ impl<'p, B: Below> View<'p, B> {
         let templates = &self.change.templates;
         match self.page {
             Some(facts) => {
-                let is_first = self.change.stack.len() - 1 - depth == 0;
+                let is_first = self.change.stack.len() == depth + 1;
                 decided(element, is_first, templates, facts.head.is_some())
             }
             None => decided(element, false, templates, true),

@@ -9,6 +9,7 @@ pub struct PageFacts {
 }
 
 /// A control state whose lower part is asked: what a chunk changed of it so far, and the edits that it makes.
+/// After a refusal of any call the view is spent: what it shows is not promised.
 #[derive(Drop)]
 pub struct View<'p, B> {
     /// The state below, which is asked.

@@ -1,7 +1,7 @@
 use Rattle.hp_views.specs.ListPlans.{append_plan}
 use Rattle.hp_views.specs.View.{sight}
 use Rattle.hp_adoption.specs.ArkPlans.{room_plan}
-use Rattle.hp_adoption.proofs.Carrying.{carries_next, carries_failed}
+use Rattle.hp_views.proofs.Carrying.{carries_next, carries_failed}
 use Rattle.hp_adoption.proofs.ark.append_with_room.Goals as goal
 
 pub returns-in_err-make_room : goal.returns-in_err-make_room

@@ -10,7 +10,7 @@ use Rattle.hp_views.specs.RemovePlans.{remove_entry_plan, take_off_plan}
 use Rattle.hp_views.specs.View.{Carries, Sight, sight, split_of}
 use Rattle.hp_adoption.specs.AdoptPlans.{adopt_plan}
 use Rattle.hp_adoption.specs.LinkPlans.{a_link, gone_plan, close_own_plan}
-use Rattle.hp_adoption.proofs.Carrying.{carries_as, carries_next, carries_failed}
+use Rattle.hp_views.proofs.Carrying.{carries_as, carries_next, carries_failed}
 use Rattle.hp_adoption.proofs.Renewing.{got}
 use Rattle.hp_adoption.proofs.links.close_own.Goals as goal
 

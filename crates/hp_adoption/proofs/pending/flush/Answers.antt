@@ -6,7 +6,7 @@ use Rattle.hp_control.specs.Running.{runs_gives}
 use Rattle.hp_views.specs.FieldPlans.{with_change, with_pending}
 use Rattle.hp_views.specs.View.{Sight, sight, split_of}
 use Rattle.hp_adoption.specs.FlushPlans.{flush_on}
-use Rattle.hp_adoption.proofs.Carrying.{flushed, none_flushed, others_flushed, white_flushed}
+use Rattle.hp_adoption.proofs.Flushing.{flushed, none_flushed, others_flushed, white_flushed}
 use Rattle.hp_adoption.proofs.pending.flush.Goals as goal
 
 pub returns-then-view : goal.returns-then-view

@@ -5,7 +5,7 @@ use Rattle.hp_views.specs.PlacePlans.{put_plan}
 use Rattle.hp_views.specs.View.{sight}
 use Rattle.hp_adoption.specs.FlushPlans.{fostered_text}
 use Rattle.hp_adoption.specs.ReconPlans.{reconstruct_plan}
-use Rattle.hp_adoption.proofs.Carrying.{carries_next, carries_failed}
+use Rattle.hp_views.proofs.Carrying.{carries_next, carries_failed}
 use Rattle.hp_adoption.proofs.pending.foster.Goals as goal
 
 pub returns-in_err-reconstruct : goal.returns-in_err-reconstruct

@@ -1,7 +1,7 @@
 use Rattle.std.proofs.Common.{◌∙◌, sym}
 use Rattle.hp_views.specs.View.{sight, split_of}
 use Rattle.hp_adoption.specs.ReconPlans.{recon_below, reconstruct_plan}
-use Rattle.hp_adoption.proofs.Carrying.{carries_as}
+use Rattle.hp_views.proofs.Carrying.{carries_as}
 use Rattle.hp_adoption.proofs.Standing.{none_stale, still_first, still_runs}
 use Rattle.hp_adoption.proofs.reconstruction.reconstruct.Goals as goal
 

@@ -3,11 +3,10 @@ use Rattle.hp_control.specs.declared.question.Crossing.TheVariants.{X2}
 use Rattle.hp_control.specs.Faithful.{Split}
 use Rattle.hp_control.specs.Plan.{Heard, Runs}
 use Rattle.hp_control.specs.Running.{runs_gives, runs_then}
-use Rattle.hp_views.proofs.Carrying.{carries_then}
+use Rattle.hp_views.proofs.Carrying.{carries_as, carries_then}
 use Rattle.hp_views.specs.Asking.{ask_quiet}
 use Rattle.hp_views.specs.View.{Carries, Sight, sight, split_of}
 use Rattle.hp_adoption.specs.ReconPlans.{recon_older, renew_down_plan}
-use Rattle.hp_adoption.proofs.Carrying.{carries_as}
 use Rattle.hp_adoption.proofs.reconstruction.reconstruct_below.Goals as goal
 
 pub returns-then-branch : goal.returns-then-branch

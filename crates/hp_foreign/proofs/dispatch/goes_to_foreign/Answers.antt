@@ -1,7 +1,8 @@
 use Rattle.std.proofs.Common.{sym, ◌∙◌}
 use Rattle.hp_elements.specs.Tokens.{kind_of}
 use Rattle.hp_views.specs.View.{sight, split_of}
-use Rattle.hp_foreign.proofs.OwnNode.{ended_goes, older_plan, own_goes, same_answers}
+use Rattle.hp_foreign.proofs.OwnNode.{ended_goes, older_plan, own_goes}
+use Rattle.hp_views.proofs.Carrying.{answers_as}
 use Rattle.hp_foreign.specs.Plans.{goes_plan, older_goes}
 use Rattle.hp_foreign.proofs.dispatch.goes_to_foreign.Goals as goal
 
@@ -17,6 +18,6 @@ returns-then-is_end_of_input g c =
 
 pub returns : goal.returns
 returns g c =
-    same_answers c.older_goes.result (sight g.B.Below.heard c.args.view.now) (sight g.B.Below.heard c.older_goes.new.view) (older_goes c.kind-kind.result) (goes_plan (kind_of c.args.token.now))
+    answers_as c.older_goes.result (sight g.B.Below.heard c.args.view.now) (sight g.B.Below.heard c.older_goes.new.view) (older_goes c.kind-kind.result) (goes_plan (kind_of c.args.token.now))
     (older_plan (split_of c.args.view.now) (kind_of c.args.token.now) c.kind-kind.result (sym c.is_empty.ensures ∙ c.if-not-is_empty.false) c.kind-kind.ensures (sym c.is_end_of_input.ensures ∙ c.if-is_end_of_input.false))
     c.older_goes.ensures

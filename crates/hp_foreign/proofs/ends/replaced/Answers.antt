@@ -11,4 +11,4 @@ returns c =
     c.loop-c.invariant ∙ ap replaced (sym (map-id c.loop-c.yielded) ∙ (end.0 ∙ c.as_str.ensures))
 
 pub loop-c-preserved : goal.loop-c-preserved
-loop-c-preserved c = c.in_ok-push.ensures.ok ∙ (ap (λ (made : List ℕ). made ++ 0xFFFD ∷ []) c.loop-c.invariant ∙ sym (map-append (λ (x : ℕ). 0xFFFD) c.loop-c.yielded (c.in-Some.c ∷ [])))
+loop-c-preserved c = c.in_ok-push.ensures.ok ∙ (ap (λ (made : List ℕ). made ++ 0xFFFD ∷ []) c.loop-c.invariant ∙ sym (map-append (λ (x : ℕ). 0xFFFD) c.loop-c.yielded (c.in-Some._c ∷ [])))

@@ -5,8 +5,7 @@ use Rattle.hp_views.specs.FormPlans.{older_form_plan, outside_on, outside_plan, 
 use Rattle.hp_views.specs.StackPlans.{template_plan}
 use Rattle.hp_views.specs.View.{Carries, sight}
 use Rattle.hp_views.proofs.AtOnce.{gives_at_once}
-use Rattle.hp_views.proofs.Carrying.{carries_then}
-use Rattle.hp_views.proofs.Resetting.{carries_as}
+use Rattle.hp_views.proofs.Carrying.{carries_as, carries_then}
 use Rattle.hp_views.proofs.view.View.end_form.Goals as goal
 
 pub returns-then-branch : goal.returns-then-branch

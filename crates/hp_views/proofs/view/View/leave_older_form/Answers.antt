@@ -2,8 +2,7 @@ use Rattle.std.proofs.Common.{ap, sym, ◌∙◌}
 use Rattle.hp_views.specs.ClosingPlans.{first_then, implied_plan}
 use Rattle.hp_views.specs.FormPlans.{leave_older_on, leave_older_plan, older_off_plan}
 use Rattle.hp_views.specs.View.{sight, split_of}
-use Rattle.hp_views.proofs.Carrying.{carries_next}
-use Rattle.hp_views.proofs.Resetting.{carries_as}
+use Rattle.hp_views.proofs.Carrying.{carries_as, carries_next}
 use Rattle.hp_views.proofs.view.View.leave_older_form.Goals as goal
 
 pub returns-in_ok-implied-in-PastAll : goal.returns-in_ok-implied-in-PastAll

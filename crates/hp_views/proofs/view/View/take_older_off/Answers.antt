@@ -3,7 +3,7 @@ use Rattle.hp_views.specs.FormPlans.{older_off_plan}
 use Rattle.hp_views.specs.StackPlans.{pop_plan}
 use Rattle.hp_views.specs.View.{sight, split_of}
 use Rattle.hp_views.proofs.AtOnce.{older_popped}
-use Rattle.hp_views.proofs.Resetting.{carries_as}
+use Rattle.hp_views.proofs.Carrying.{carries_as}
 use Rattle.hp_views.proofs.view.View.take_older_off.Goals as goal
 
 pub returns-then-depth-self-2 : goal.returns-then-depth-self-2
