@@ -6,8 +6,7 @@ use Rattle.hp_control.specs.declared.element.OpenElement.{OpenElement}
 use Rattle.hp_control.specs.Walks.{open_at}
 use Rattle.hp_views.specs.declared.walks.Walk.{Walk}
 use Rattle.hp_views.specs.declared.walks.Walk.TheVariants.{Found, Stopped, PastAll}
-use Rattle.hp_views.specs.Walks.{deeper, id_walk}
-use Rattle.hp_adoption.specs.ReconPlans.{is_found}
+use Rattle.hp_views.specs.Walks.{deeper, id_walk, is_found}
 
 some_still : (o : Option ℕ) → is_some (option_map suc o) ≡ is_some o
 some_still None = refl
