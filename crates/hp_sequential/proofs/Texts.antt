@@ -1,5 +1,5 @@
 -- A text that is handled as one run.
-use Rattle.std.proofs.Common.{◌≡◌, ℕ, ◌<◌, List, [], ◌∷◌, ◌++◌, map, length, Bool, true, false, refl, ap, ◌∙◌, sym, subst, arith, Option, None, Some}
+use Rattle.std.proofs.Common.{◌≡◌, ℕ, ◌<◌, List, [], ◌∷◌, ◌++◌, map, length, true, refl, ap, ◌∙◌, sym, subst, arith, Option, None, Some}
 use Rattle.std.specs.Prelude.{not, ◌&&◌, drop}
 use Rattle.std.specs.List.{list_all}
 use Rattle.std.proofs.lemmas.Bool.{and_parts, not-true}
