@@ -1,9 +1,9 @@
 -- Each act leads from its track to the track after it, or touches something older, and never pops the only element.
-use Rattle.std.proofs.Common.{◌≡◌, ℕ, List, Bool, true, false, ◌||◌, ◌&&◌, not, refl, sym, ap, ◌∙◌, Option, None, Some}
+use Rattle.std.proofs.Common.{◌≡◌, ℕ, List, Bool, true, false, ◌||◌, not, refl, sym, ap, ◌∙◌, Option, None, Some}
 use Rattle.std.specs.Prelude.{if◌then◌else◌}
 use Rattle.std.specs.List.{list_all}
 use Rattle.std.specs.Option.{is_some}
-use Rattle.std.proofs.lemmas.Bool.{and_parts, and_from, true≢false}
+use Rattle.std.proofs.lemmas.Bool.{and_parts, and_from, true≢false, false_from_ne_true, not-true, and_right}
 use Rattle.hp_elements.specs.Names.{is_among, known_of, text_of, words}
 use Rattle.hp_elements.specs.Tokens.{kind_of}
 use Rattle.hp_elements.specs.declared.act.Which.{Which}
@@ -17,7 +17,7 @@ use Rattle.hp_control.specs.declared.element.OpenElement.{OpenElement}
 use Rattle.hp_control.specs.States.{ControlState, is_html, is_rooted}
 use Rattle.hp_model.specs.Tokens.{name_for}
 use Rattle.hp_older.specs.GoesOn.{IsFree, is_new}
-use Rattle.hp_older.proofs.Keys.{among-all, named_in, not-true, was-not}
+use Rattle.hp_older.proofs.Keys.{among-all, named_in}
 use Rattle.hp_older.proofs.Levels.{core_names, key_names, template_names}
 use Rattle.hp_older.proofs.Pushing.{push_cell, push_common, push_frames, push_select, push_template, with_top}
 use Rattle.hp_older.proofs.Steps.{is_common}
@@ -27,11 +27,7 @@ use Rattle.hp_older.proofs.Track.{On, Track, can_push, name_told, pushed, sort_o
 pub disjoint : (these those : List (List ℕ)) → list_all (λ x. not (is_among those x)) these ≡ true → (e : OpenElement) → named_in these e ≡ true → named_in those e ≡ false
 disjoint these those h e k =
     let parts = and_parts (is_html e) (is_among these e.name) k in
-    and_off (is_html e) (is_among those e.name) (was-not (is_among those e.name) (among-all (λ x. not (is_among those x)) these e.name h parts.1))
-  where
-    and_off : (a b : Bool) → b ≡ false → (a && b) ≡ false
-    and_off true b x = x
-    and_off false b x = refl
+    and_right (is_html e) (is_among those e.name) (not-true (is_among those e.name) (among-all (λ x. not (is_among those x)) these e.name h parts.1))
 
 -- a name that is none of the parts is none at all
 five : (a b c d e : Bool) → a ≡ false → b ≡ false → c ≡ false → d ≡ false → e ≡ false → (a || (b || (c || (d || e)))) ≡ false
@@ -48,7 +44,7 @@ abbrev parts_of_key : List ℕ → Bool
 parts_of_key x = is_among (words "template") x || (is_among (words "td th") x || (is_among (words "select") x || (is_among (words "frameset") x || is_among (words "html") x)))
 
 pub common-name : (name : List ℕ) → is_among (words "template") name ≡ false → is_among (words "td th") name ≡ false → is_among (words "select") name ≡ false → is_among (words "frameset") name ≡ false → is_among (words "html") name ≡ false → is_among key_names name ≡ false
-common-name name a b c d e = not-true (is_among key_names name)
+common-name name a b c d e = false_from_ne_true (is_among key_names name)
     (λ h. true≢false (sym (among-all parts_of_key key_names name refl h) ∙ five (is_among (words "template") name) (is_among (words "td th") name) (is_among (words "select") name) (is_among (words "frameset") name) (is_among (words "html") name) a b c d e))
 
 -- a name of the common sort
@@ -63,10 +59,6 @@ common-sort name h = go (is_among (words "template") name) refl (is_among (words
     go false x false y false z true u e v k = absurd (true≢false (sym k))
     go false x false y false z false u true v k = absurd (true≢false (sym k))
     go false x false y false z false u false v k = common-name name x y z u v
-
-and_off : (a b : Bool) → b ≡ false → (a && b) ≡ false
-and_off true b h = h
-and_off false b h = refl
 
 -- an HTML element of any sort
 pub push_sorted : (w : Track) (s c : ControlState) (e : OpenElement) → On w s c → is_rooted c.stack ≡ true → is_new s e ≡ true → is_html e ≡ true → IsFree c.formatting c.form e → can_push (sort_of e.name) w ≡ true → On (pushed (sort_of e.name) w) s (with_top e c)
@@ -91,12 +83,12 @@ push_sorted w s c e g r n h f = go (is_among (words "template") e.name) refl (is
         let one = is_one (words "frameset") u in
         push_frames w s c e g (disjoint (words "frameset") core_names refl e one) (disjoint (words "frameset") template_names refl e one) (disjoint (words "frameset") (words "template select") refl e one) (disjoint (words "frameset") (words "html") refl e one)
     go false x false y false z false u true q k = absurd (true≢false (sym k))
-    go false x false y false z false u false q k = push_common w s c e g r n (and_off (is_html e) (is_among key_names e.name) (common-name e.name x y z u q))
+    go false x false y false z false u false q k = push_common w s c e g r n (and_right (is_html e) (is_among key_names e.name) (common-name e.name x y z u q))
 
 -- a name that isn't known is none of the known ones
 pub unknown-name : (name : List ℕ) → known_of name ≡ None → is_among key_names name ≡ false
 unfolding known_of
-unknown-name name h = not-true (is_among key_names name) (λ k. true≢false (sym (among-all (λ x. is_some (known_of x)) key_names name refl k) ∙ ap is_some h))
+unknown-name name h = false_from_ne_true (is_among key_names name) (λ k. true≢false (sym (among-all (λ x. is_some (known_of x)) key_names name refl k) ∙ ap is_some h))
 
 -- the name that a kind tells is the token's
 pub name-told : (t : Token) (which : Which) (name : List ℕ) → name_told (kind_of t) which ≡ Some name → name_for t which ≡ name

@@ -3,7 +3,8 @@ use Rattle.std.proofs.Common.{◌≡◌, ℕ, zero, suc, ◌+◌, ◌<◌, ◌==
 use Rattle.std.specs.Prelude.{if◌then◌else◌, All, IfSome}
 use Rattle.std.specs.List.{list_all}
 use Rattle.std.specs.Option.{option_map}
-use Rattle.std.proofs.lemmas.Bool.{true≢false, eqb-true}
+use Rattle.std.proofs.lemmas.Bool.{true≢false, eqb-true, false_from_ne_true, and_right}
+use Rattle.std.proofs.lemmas.Option.{none-some, same_Some}
 use Rattle.std.proofs.lemmas.List.{length-drop}
 use Rattle.std.proofs.lemmas.List.Elements.{All-nil, All-cons, All-head, All-tail}
 use Rattle.hp_elements.specs.Names.{is_among, words}
@@ -28,7 +29,7 @@ use Rattle.hp_model.proofs.Thinning.{edited-formatting, not_root, one_entry}
 use Rattle.hp_model.proofs.Thins.{Ready, Thins, entry_is, ready_after, tally-entries}
 use Rattle.hp_older.specs.GoesOn.{IsFree, is_new}
 use Rattle.hp_older.proofs.Kept.{kept-append, kept-no}
-use Rattle.hp_older.proofs.Keys.{named-within, named_in, not-true}
+use Rattle.hp_older.proofs.Keys.{named-within, named_in}
 use Rattle.hp_older.proofs.Effects.{Leaves, leaves_then, nothing_leaves, pops-by, walk-weak}
 use Rattle.hp_older.proofs.Levels.{Weak, core_names, own_of, weak_all, weak_pop}
 use Rattle.hp_older.proofs.Tracking.{below-kept, free-later}
@@ -36,12 +37,6 @@ use Rattle.hp_older.proofs.Tracking.{below-kept, free-later}
 -- none of them has this id
 abbrev pub Apart : ℕ → List OpenElement → Type 0
 Apart id es = All (λ (e : OpenElement). e.id ≡ id → ⊥) es
-
-none_some : {X : Type 0} (x : X) → None ≡ Some x → ⊥
-none_some x h = cc
-
-same_depth : (a b : ℕ) → Some a ≡ Some b → b ≡ a
-same_depth a b h = cc
 
 -- what is found by its id isn't the root
 pub open-short : (id k : ℕ) (es : List OpenElement) → open_at id es ≡ Some k → (id ≡ 1 → ⊥) → is_rooted es ≡ true → k + 1 < length es
@@ -58,7 +53,7 @@ module _ (s : ControlState) (names : List (List ℕ)) where
 
   -- around an element that isn't one of them
   pub around : (id : ℕ) (es : List OpenElement) → Apart id (own_of s names es) → (k : ℕ) → open_at id es ≡ Some k → own_of s names es ≡ own_of s names (take k es) ++ own_of s names (drop (k + 1) es)
-  around id [] a k h = absurd (none_some k h)
+  around id [] a k h = absurd (none-some k h)
   around id (e ∷ es) a k h = go (p e) refl (e.id == id) refl a h (λ b j f. around id es b j f)
     where
       go : (b : Bool) → p e ≡ b → (i : Bool) → (e.id == id) ≡ i → Apart id (if b then e ∷ own_of s names es else own_of s names es) → (if i then Some 0 else option_map suc (open_at id es)) ≡ Some k
@@ -66,7 +61,7 @@ module _ (s : ControlState) (names : List (List ℕ)) where
           → own_of s names (e ∷ es) ≡ own_of s names (take k (e ∷ es)) ++ own_of s names (drop (k + 1) (e ∷ es))
       go true f true g x m later = absurd (All-head (λ (y : OpenElement). y.id ≡ id → ⊥) e (own_of s names es) x (eqb-true e.id id g))
       go false f true g x m later =
-          subst (λ j. own_of s names (e ∷ es) ≡ own_of s names (take j (e ∷ es)) ++ own_of s names (drop (j + 1) (e ∷ es))) (sym (same_depth 0 k m)) (kept-no p e es f)
+          subst (λ j. own_of s names (e ∷ es) ≡ own_of s names (take j (e ∷ es)) ++ own_of s names (drop (j + 1) (e ∷ es))) (same_Some 0 k m) (kept-no p e es f)
       go b f false g x m later =
           let (j, there) = deeper (open_at id es) k m in
           let more : suc (j + 1) ≡ suc j + 1 = omega arith in
@@ -87,7 +82,7 @@ module _ (s : ControlState) (names : List (List ℕ)) where
 
   module _ (special : (e : OpenElement) → named_in names e ≡ true → within (kinds.Set sets.Special) e ≡ true) (plain : (id : ℕ) (tag : Tag) → in_set sets.Formatting tag.namespace tag.name ≡ true → named_in names (element_for id tag) ≡ false) where
     not_special : (e : OpenElement) → within (kinds.Set sets.Special) e ≡ false → p e ≡ false
-    not_special e h = go (is_new s e) (not-true (named_in names e) (λ k. true≢false (sym (special e k) ∙ h)))
+    not_special e h = go (is_new s e) (false_from_ne_true (named_in names e) (λ k. true≢false (sym (special e k) ∙ h)))
       where
         go : (b : Bool) → named_in names e ≡ false → (b && named_in names e) ≡ false
         go true k = k
@@ -114,7 +109,7 @@ module _ (s : ControlState) (names : List (List ℕ)) where
 
     -- behind the furthest special element there is none of them
     pub to-furthest : (es : List OpenElement) (seat : Seat) → furthest es ≡ Some seat → own_of s names es ≡ own_of s names (take seat.depth es) ++ own_of s names (seat.element ∷ [])
-    to-furthest [] seat h = absurd (none_some seat h)
+    to-furthest [] seat h = absurd (none-some seat h)
     to-furthest (e ∷ es) seat h = go (furthest es) refl h (λ x f. to-furthest es x f)
       where
         joined : (b : Bool) (xs ys : List OpenElement) → own_of s names es ≡ xs ++ ys → (if b then e ∷ own_of s names es else own_of s names es) ≡ (if b then e ∷ xs else xs) ++ ys
@@ -123,7 +118,7 @@ module _ (s : ControlState) (names : List (List ℕ)) where
 
         here : (b : Bool) → (if b then Some (first_seat e) else None) ≡ Some seat → own_of s names es ≡ [] → own_of s names (e ∷ es) ≡ own_of s names (take seat.depth (e ∷ es)) ++ own_of s names (seat.element ∷ [])
         here true k r = subst (λ x. own_of s names (e ∷ es) ≡ own_of s names (take x.depth (e ∷ es)) ++ own_of s names (x.element ∷ [])) (some_seat (first_seat e) seat k) (ap (λ l. if p e then e ∷ l else l) r)
-        here false k r = absurd (none_some seat k)
+        here false k r = absurd (none-some seat k)
 
         go : (o : Option Seat) → furthest es ≡ o → nearer e o ≡ Some seat → ((x : Seat) → furthest es ≡ Some x → own_of s names es ≡ own_of s names (take x.depth es) ++ own_of s names (x.element ∷ []))
             → own_of s names (e ∷ es) ≡ own_of s names (take seat.depth (e ∷ es)) ++ own_of s names (seat.element ∷ [])
@@ -182,13 +177,9 @@ module _ (s : ControlState) (names : List (List ℕ)) where
 abbrev pub core_special : (e : OpenElement) → named_in core_names e ≡ true → within (kinds.Set sets.Special) e ≡ true
 core_special = named-within core_names sets.Special refl
 
-and_off : (a b : Bool) → b ≡ false → (a && b) ≡ false
-and_off true b h = h
-and_off false b h = refl
-
 -- no formatting element has a name outside of the set
 pub formatting_plain : (names : List (List ℕ)) → list_all (λ x. not (is_among names x.1)) (members sets.Formatting) ≡ true → (id : ℕ) (tag : Tag) → in_set sets.Formatting tag.namespace tag.name ≡ true → named_in names (element_for id tag) ≡ false
-formatting_plain names h id tag k = and_off (is_html (element_for id tag)) (is_among names tag.name) (refused (is_among names) (members sets.Formatting) tag.namespace tag.name h k)
+formatting_plain names h id tag k = and_right (is_html (element_for id tag)) (is_among names tag.name) (refused (is_among names) (members sets.Formatting) tag.namespace tag.name h k)
 
 nil_apart : (id : ℕ) (es : List OpenElement) → es ≡ [] → Apart id es
 nil_apart id es h = subst (λ xs. Apart id xs) (sym h) (All-nil (λ (e : OpenElement). e.id ≡ id → ⊥))
@@ -208,8 +199,8 @@ listed-apart c id l (e ∷ es) h =
 
 -- nor the form
 form_apart : (o : Option ℕ) (id : ℕ) (e : OpenElement) → o ≡ Some id → IfSome o (λ i. i ≡ e.id → ⊥) → e.id ≡ id → ⊥
-form_apart None id e h f k = none_some id h
-form_apart (Some i) id e h f k = f (same_depth id i (sym h) ∙ sym k)
+form_apart None id e h f k = none-some id h
+form_apart (Some i) id e h f k = f (same_Some i id h ∙ sym k)
 
 pub pointed-apart : (c : ControlState) (id : ℕ) → c.form ≡ Some id → (es : List OpenElement) → All (IsFree c.formatting c.form) es → Apart id es
 pointed-apart c id l [] h = All-nil (λ (e : OpenElement). e.id ≡ id → ⊥)

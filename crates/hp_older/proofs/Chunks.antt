@@ -1,6 +1,6 @@
 -- From a state that goes on from an older one each token is told up to the first act that touches something older, and where
 -- nothing is touched what is left goes on.
-use Rattle.std.proofs.Common.{◌≡◌, ℕ, zero, suc, ◌+◌, ◌<◌, List, [], ◌∷◌, length, Bool, true, false, ◌||◌, ◌&&◌, not, refl, sym, ap, ◌∙◌, subst, arith, inl, inr, Option, None, Some}
+use Rattle.std.proofs.Common.{◌≡◌, ℕ, zero, suc, ◌<◌, List, [], ◌∷◌, length, Bool, true, false, ◌||◌, ◌&&◌, not, refl, sym, ap, ◌∙◌, subst, arith, inl, inr, Option, None, Some}
 use Rattle.std.specs.Prelude.{if◌then◌else◌, ◌⊎◌}
 use Rattle.std.specs.Option.{unwrap_or}
 use Rattle.std.proofs.Math.Bool.{or-true}
@@ -43,7 +43,8 @@ use Rattle.hp_older.proofs.Listing.{knows-fits}
 use Rattle.hp_older.proofs.Rows.{or_rest, plan_leads, plan_told, rules_lead, rules_told}
 use Rattle.hp_older.proofs.Steps.{foreign_goes, is_ending, mode_goes, plan_goes, rules_go, well}
 use Rattle.hp_older.proofs.Table.{each_foreign_goes, each_mode_goes}
-use Rattle.hp_older.proofs.Track.{Balance, even, BackIs, BalanceIs, On, PlaceIs, Top, unknown, high, plain, made, TopIs, Track, Where, at, fitted, lost, begin, ends_at, ends_well, is_even, is_mode_between, is_mode_cell, is_mode_frames, is_mode_select, is_mode_text, is_plain_one}
+use Rattle.hp_older.proofs.Track.{BackIs, On, PlaceIs, Top, unknown, high, plain, made, TopIs, Track, Where, at, fitted, lost, begin, ends_at, ends_well, is_even, is_mode_between, is_mode_cell, is_mode_frames, is_mode_select, is_mode_text, is_plain_one}
+use Rattle.hp_older.proofs.Tracking.{even_modes}
 
 -- where a turn begins
 text_top : (s : ControlState) (st : List OpenElement) → is_tall st ≡ true → is_plain_top s st ≡ true → TopIs plain s st
@@ -140,15 +141,11 @@ fit_end s c w (at m) on h k = subst (λ x. Fit s c x) (sym k) (at_end s c w m on
 fit_end s c w fitted on h k = settled_end s c c.mode k.0 k.1
 fit_end s c w lost on h k = absurd (true≢false (sym h))
 
-even_end : (b : Balance) (templates modes older : ℕ) → is_even b ≡ true → BalanceIs b templates modes older → modes ≡ older + templates
-even_end even templates modes older h k = k
-even_end _ templates modes older h k = absurd (true≢false (sym h))
-
 on_end : (s c : ControlState) (w : Track) → On w s c → ends_well w ≡ true → GoesOn s c
 on_end s c w on h =
     let parts = and_parts (is_even w.balance) (ends_at w.place w) h in
     let fit = fit_end s c w w.place on parts.1 on.place in
-    record { html = on.html; together = even_end w.balance (length (own s (is_a "template") c.stack)) (length c.templates) (length s.templates) parts.0 on.balance; free = on.free; mode = fit.0; top = fit.1 }
+    record { html = on.html; together = even_modes w.balance (length (own s (is_a "template") c.stack)) (length c.templates) (length s.templates) parts.0 on.balance; free = on.free; mode = fit.0; top = fit.1 }
 
 -- a state that a view stands for, and that goes on
 pub record Chunk (s c : ControlState) : Type 0 where

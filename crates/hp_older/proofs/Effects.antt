@@ -4,7 +4,7 @@ use Rattle.std.specs.Prelude.{if◌then◌else◌}
 use Rattle.std.specs.List.{list_all}
 use Rattle.std.specs.Option.{is_some}
 use Rattle.std.specs.Str.{bytes_eq}
-use Rattle.std.proofs.lemmas.Bool.{and_parts, and_from, true≢false, lt-leb}
+use Rattle.std.proofs.lemmas.Bool.{and_parts, and_from, true≢false, lt-leb, false_from_ne_true, or_from}
 use Rattle.hp_elements.specs.Names.{is_among, lowered, text_of, words}
 use Rattle.hp_elements.specs.Sets.{members}
 use Rattle.hp_elements.specs.declared.act.Scope.TheVariants as scope
@@ -28,7 +28,7 @@ use Rattle.hp_elements.proofs.FindLemmas.{equal_bytes}
 use Rattle.hp_model.proofs.Courses.{bytes_eq-same}
 use Rattle.hp_model.proofs.Stacks.{rooted-drop}
 use Rattle.hp_older.specs.GoesOn.{is_new}
-use Rattle.hp_older.proofs.Keys.{apart-foreign, apart-name, apart-set, named-named, named-within, named_in, not-true}
+use Rattle.hp_older.proofs.Keys.{apart-foreign, apart-name, apart-set, named-named, named-within, named_in}
 use Rattle.hp_older.proofs.Popping.{all-popped, kept-run, kept-through, kept-to, reach-root, reach-short, run-short, shown-reach, shown-run}
 use Rattle.hp_older.proofs.Levels.{Strong, Thin, Weak, core_names, key_names, strong-weak, strong_pop, template_names, thin_pop, weak-thin, weak_all, weak_pop, weak_then}
 
@@ -43,11 +43,11 @@ root-html e r =
 
 -- kinds without html don't have the root
 pub root-apart : (goals : Kinds) → ((e : OpenElement) → within goals e ≡ true → named_in (words "html") e ≡ false) → (e : OpenElement) → is_rooted (e ∷ []) ≡ true → within goals e ≡ false
-root-apart goals h e r = not-true (within goals e) (λ k. true≢false (sym (root-html e r) ∙ h e k))
+root-apart goals h e r = false_from_ne_true (within goals e) (λ k. true≢false (sym (root-html e r) ∙ h e k))
 
 -- what has none of many names has none of fewer
 pub apart-fewer : (few many : List (List ℕ)) → list_all (is_among many) few ≡ true → (e : OpenElement) → named_in many e ≡ false → named_in few e ≡ false
-apart-fewer few many h e k = not-true (named_in few e) (λ f. true≢false (sym (named-named few many h e f) ∙ k))
+apart-fewer few many h e k = false_from_ne_true (named_in few e) (λ f. true≢false (sym (named-named few many h e f) ∙ k))
 
 new_apart : (s : ControlState) (names : List (List ℕ)) (e : OpenElement) → named_in names e ≡ false → (is_new s e && named_in names e) ≡ false
 new_apart s names e h = go (is_new s e)
@@ -112,7 +112,7 @@ through-leaves L goals stops c r h all f = go (reach goals stops c.stack) refl
     go (Some k) e = let l = reach-short goals stops c.stack k e r (root-apart goals h) in pops-by L (k + 1) c l (f k e l)
 
 contra : (stops : Kinds) (names : List (List ℕ)) → ((e : OpenElement) → named_in names e ≡ true → within stops e ≡ true) → (e : OpenElement) → within stops e ≡ false → named_in names e ≡ false
-contra stops names h e k = not-true (named_in names e) (λ f. true≢false (sym (h e f) ∙ k))
+contra stops names h e k = false_from_ne_true (named_in names e) (λ f. true≢false (sym (h e f) ∙ k))
 
 -- where the stops have the names and the goals don't
 pub through-weak : (s : ControlState) (goals stops : Kinds) (c : ControlState) → is_rooted c.stack ≡ true → ((e : OpenElement) → within goals e ≡ true → named_in (words "html") e ≡ false)
@@ -153,7 +153,7 @@ to_point-strong s c r = go (reach kinds.HtmlOrPoint kinds.Nothing c.stack) refl 
     point e h = rw h refl
 
     foreign_one : (e : OpenElement) → within kinds.HtmlOrPoint e ≡ false → is_html e ≡ false
-    foreign_one e h = not-true (is_html e) (λ k. true≢false (sym (point e k) ∙ h))
+    foreign_one e h = false_from_ne_true (is_html e) (λ k. true≢false (sym (point e k) ∙ h))
 
     go : (o : Option ℕ) → reach kinds.HtmlOrPoint kinds.Nothing c.stack ≡ o → above o c.stack < length c.stack → Leaves (Strong s c.stack) (pop_by (above o c.stack)) c
     go None e l = absurd (omega arith)
@@ -171,18 +171,11 @@ foreign-strong s name c r = through-leaves (Strong s c.stack) (kinds.Foreign nam
     (λ k e l. strong_pop s (k + 1) c.stack l (kept-through (λ x. is_new s x && named_in key_names x) (kinds.Foreign name) kinds.AnyHtml c.stack (λ x m. new_apart s key_names x (apart-foreign key_names x (not_html name x m))) (λ x m. new_apart s key_names x (apart-foreign key_names x m)) k e))
 
 -- an element in scope, with what its end implies
-or_false : (a b : Bool) → a ≡ false → b ≡ false → (a || b) ≡ false
-or_false true b h k = h
-or_false false b h k = k
-
 pub leaves_then : (s : ControlState) (f g : Act) (c : ControlState) → Leaves (Weak s c.stack) f c → Leaves (Weak s (f c).control.stack) g (f c).control → Leaves (Weak s c.stack) (and_then f g) c
-leaves_then s f g c h k = (weak_then s c.stack (f c).control.stack (g (f c).control).control.stack h.0 k.0, or_false (f c).spared (g (f c).control).spared h.1 k.1)
+leaves_then s f g c h k = (weak_then s c.stack (f c).control.stack (g (f c).control).control.stack h.0 k.0, or_from (f c).spared (g (f c).control).spared h.1 k.1)
 
 pub strong_leaves : (s : ControlState) (f : Act) (c : ControlState) → Leaves (Strong s c.stack) f c → Leaves (Weak s c.stack) f c
 strong_leaves s f c h = (strong-weak s c.stack (f c).control.stack h.0, h.1)
-
-pub weak_leaves : (s : ControlState) (f : Act) (c : ControlState) → Leaves (Weak s c.stack) f c → Leaves (Thin s c.stack) f c
-weak_leaves s f c h = (weak-thin s c.stack (f c).control.stack h.0, h.1)
 
 pub run_rooted : (names : Kinds) (c : ControlState) → is_rooted c.stack ≡ true → run_of names c.stack < length c.stack → is_rooted (pop_run names c).control.stack ≡ true
 run_rooted names c r l = subst (λ es. is_rooted es ≡ true) (sym (all-popped (run_of names c.stack) c.stack l)) (rooted-drop (run_of names c.stack) c.stack l r)
@@ -213,7 +206,7 @@ named-of name e h =
 
 -- a set without the name has no element of it
 pub other_name : (name : List ℕ) (e : OpenElement) → named_in (name ∷ []) e ≡ false → within (kinds.Html name) e ≡ false
-other_name name e h = not-true (within (kinds.Html name) e) (λ k. true≢false (sym (named-of name e k) ∙ h))
+other_name name e h = false_from_ne_true (within (kinds.Html name) e) (λ k. true≢false (sym (named-of name e k) ∙ h))
 
 button_core : (e : OpenElement) → named_in core_names e ≡ true → within (kinds.Set sets.ButtonScopeEnds) e ≡ true
 button_core = named-within core_names sets.ButtonScopeEnds refl

@@ -4,7 +4,8 @@ use Rattle.std.specs.Prelude.{if◌then◌else◌}
 use Rattle.std.specs.List.{list_all}
 use Rattle.std.specs.Option.{is_some, option_map}
 use Rattle.std.specs.Str.{bytes_eq}
-use Rattle.std.proofs.lemmas.Bool.{and_parts, and_from, true≢false}
+use Rattle.std.proofs.lemmas.Bool.{and_parts, and_from, true≢false, false_from_ne_true, not-true, and_right}
+use Rattle.std.proofs.lemmas.Option.{none-some, same_Some}
 use Rattle.hp_elements.specs.Names.{is_among, known_of, text_of, words}
 use Rattle.hp_elements.specs.Sets.{in_set, is_member, members}
 use Rattle.hp_elements.specs.Tokens.{kind_of}
@@ -39,7 +40,7 @@ use Rattle.hp_model.proofs.Stacks.{deeper, refused, rooted-drop}
 use Rattle.hp_model.proofs.Thinning.{thinning_implied, thinning_pop_to, thinning_through, thinning_through_named}
 use Rattle.hp_older.specs.GoesOn.{is_key, is_new}
 use Rattle.hp_older.proofs.Acting.{name-told}
-use Rattle.hp_older.proofs.Keys.{among-all, apart-name, apart-set, html_space, named-named, named-within, named_in, not-true, was-not}
+use Rattle.hp_older.proofs.Keys.{among-all, apart-name, apart-set, html_space, named-named, named-within, named_in, either_of}
 use Rattle.hp_older.proofs.Popping.{all-popped, reach-root, run-short, shown-run}
 use Rattle.hp_older.proofs.Effects.{apart-fewer, but-apart, but_for-strong, implied-strong, other_name, root-apart, root-html, shown-thin, shown-weak, to-thin}
 use Rattle.hp_older.proofs.Levels.{core_names, key_names, template_names}
@@ -50,16 +51,6 @@ use Rattle.hp_older.proofs.Steps.{can_through, can_through_first, is_cells, is_c
 use Rattle.hp_older.proofs.Steps as steps
 use Rattle.hp_older.proofs.Track.{On, There, nowhere, named, among, ThereIs, unknown, plain, TopIs, Track, can_pass, is_even, is_there_named, name_told, passed_named, strongly, thinly, under, weakly}
 use Rattle.hp_older.proofs.Turning.{through_template}
-
-none_some : (k : ℕ) → None ≡ Some k → ⊥
-none_some k h = cc
-
-same_depth : (a b : ℕ) → Some a ≡ Some b → b ≡ a
-same_depth a b h = cc
-
-either_of : (a b : Bool) → (a || b) ≡ true → a ≡ false → b ≡ true
-either_of true b h k = absurd (true≢false k)
-either_of false b h k = h
 
 or_one : (b : Bool) → (b || false) ≡ true → b ≡ true
 or_one true h = refl
@@ -112,7 +103,7 @@ through_did s t which w v n c srt g on h k = go (name_told (kind_of t) which) re
     by_name name false false e f q =
         let parts = and_parts (can_pass (words "template") name) (is_there_named w.there name) q in
         let passes = and_parts (not (is_among (words "template") name)) (not (is_among (words "html") name)) parts.0 in
-        through_shown s name w v n c g on h (was-not (is_among (words "template") name) passes.0) (was-not (is_among (words "html") name) passes.1) parts.1
+        through_shown s name w v n c g on h (not-true (is_among (words "template") name) passes.0) (not-true (is_among (words "html") name) passes.1) parts.1
 
     go : (o : Option (List ℕ)) → name_told (kind_of t) which ≡ o → can_through o w ≡ true → Did s (through_named (name_for t which)) (steps.through o w) c
     go None e q = absurd (true≢false (sym q))
@@ -141,10 +132,6 @@ through_first_did s sets.Cells w v n c g on h k = celled w.cell refl
     celled false y = shown_one w.there (either_of w.cell (is_cells w.there) k y) on.there
 through_first_did s _ w v n c g on h k = absurd (true≢false (sym k))
 
-and_off : (a b : Bool) → b ≡ false → (a && b) ≡ false
-and_off true b h = h
-and_off false b h = refl
-
 -- a member of a set of HTML names has one of them
 html_members : (names : List (List ℕ)) (name : List ℕ) → is_member (map (λ n. (Html, n)) names) Html name ≡ is_among names name
 html_members [] name = refl
@@ -171,7 +158,7 @@ KeyFree (e ∷ es) = named_in key_names e ≡ false
 module _ (inner ends goals : Kinds) (is_goal : (e : OpenElement) → within inner e ≡ true → within goals e ≡ true) (plain_one : (e : OpenElement) → within inner e ≡ true → named_in key_names e ≡ false)
     (others : (e : OpenElement) → within goals e ≡ true → within ends e ≡ false → named_in key_names e ≡ false) where
   narrow : (st : List OpenElement) → seen inner ends st ≡ true → (k : ℕ) → reach goals kinds.Nothing st ≡ Some k → KeyFree (drop k st)
-  narrow [] h k e = absurd (none_some k e)
+  narrow [] h k e = absurd (none-some k e)
   narrow (y ∷ ys) h k e = go (within goals y) refl (within inner y) refl (within ends y) refl e h (λ z j q. narrow ys z j q)
     where
       mapped : (o : Option ℕ) → is_some (option_map suc o) ≡ is_some o
@@ -180,9 +167,9 @@ module _ (inner ends goals : Kinds) (is_goal : (e : OpenElement) → within inne
 
       go : (a : Bool) → within goals y ≡ a → (b : Bool) → within inner y ≡ b → (d : Bool) → within ends y ≡ d → (if a then Some 0 else option_map suc (reach goals kinds.Nothing ys)) ≡ Some k → is_some (if b then Some 0 else (if d then None else option_map suc (reach inner ends ys))) ≡ true
           → (seen inner ends ys ≡ true → (j : ℕ) → reach goals kinds.Nothing ys ≡ Some j → KeyFree (drop j ys)) → KeyFree (drop k (y ∷ ys))
-      go true f true i d j p q later = subst (λ x. KeyFree (drop x (y ∷ ys))) (sym (same_depth 0 k p)) (plain_one y i)
+      go true f true i d j p q later = subst (λ x. KeyFree (drop x (y ∷ ys))) (same_Some 0 k p) (plain_one y i)
       go true f false i true j p q later = absurd (true≢false (sym q))
-      go true f false i false j p q later = subst (λ x. KeyFree (drop x (y ∷ ys))) (sym (same_depth 0 k p)) (others y f j)
+      go true f false i false j p q later = subst (λ x. KeyFree (drop x (y ∷ ys))) (same_Some 0 k p) (others y f j)
       go false f true i d j p q later = absurd (true≢false (sym (is_goal y i) ∙ f))
       go false f false i true j p q later = absurd (true≢false (sym q))
       go false f false i false j p q later =
@@ -191,11 +178,11 @@ module _ (inner ends goals : Kinds) (is_goal : (e : OpenElement) → within inne
 
 plain_of : (s : ControlState) (st : List OpenElement) → is_rooted st ≡ true → KeyFree st → TopIs plain s st
 plain_of s [] r h = absurd h
-plain_of s (e ∷ es) r h = let l : 1 < length (e ∷ es) = top-short e es r (apart-fewer (words "html") key_names refl e h) in (omega arith, ap not (and_off (is_new s e) (is_key e) h))
+plain_of s (e ∷ es) r h = let l : 1 < length (e ∷ es) = top-short e es r (apart-fewer (words "html") key_names refl e h) in (omega arith, ap not (and_right (is_new s e) (is_key e) h))
 
 -- goals that are no ends are not kept track of
 goal_plain : (goals ends : SetName) → list_all (λ x. not (is_among key_names x.1 && not (in_set ends Html x.1))) (members goals) ≡ true → (e : OpenElement) → is_member (members goals) e.namespace e.name ≡ true → within (kinds.Set ends) e ≡ false → named_in key_names e ≡ false
-goal_plain goals ends h e k m = not-true (named_in key_names e) (λ q. contradiction q)
+goal_plain goals ends h e k m = false_from_ne_true (named_in key_names e) (λ q. contradiction q)
   where
     no : (is_among key_names e.name && not (in_set ends Html e.name)) ≡ false
     no = refused (λ name. is_among key_names name && not (in_set ends Html name)) (members goals) e.namespace e.name h k
@@ -239,7 +226,7 @@ to_did s names w v n c g on h k = go names k
         f e (and_from (is_html e) (is_among names2 e.name) parts.0 (subst (λ z. is_among names2 z ≡ true) (equal_bytes true name e.name (sym parts.1) refl) m))
 
     key_of : (names2 : List (List ℕ)) (name : List ℕ) → list_all (λ z. not (is_among key_names z)) names2 ≡ true → is_among names2 name ≡ true → (e : OpenElement) → within (kinds.Html name) e ≡ true → named_in key_names e ≡ false
-    key_of names2 name a m = apart-name key_names name (was-not (is_among key_names name) (among-all (λ z. not (is_among key_names z)) names2 name a m))
+    key_of names2 name a m = apart-name key_names name (not-true (is_among key_names name) (among-all (λ z. not (is_among key_names z)) names2 name a m))
 
     go : (x : SetName) → is_context x ≡ true → Did s (pop_to (kinds.Set x)) (record (thinly w) { top = if narrows x w.there then plain else unknown }) c
     go sets.TableContext q = thinned sets.TableContext (named-within template_names sets.TableContext refl) (named-within (words "html") sets.TableContext refl)
@@ -297,7 +284,7 @@ implied_there nowhere c r h = tt
 implied_there (named where_ name) c r h = go (in_set sets.Implied Html name) refl
   where
     other : (e : OpenElement) → in_set sets.Implied Html name ≡ false → within (kinds.Set sets.Implied) e ≡ true → within (kinds.Html name) e ≡ false
-    other e f m = not-true (within (kinds.Html name) e) (λ q.
+    other e f m = false_from_ne_true (within (kinds.Html name) e) (λ q.
         let parts = and_parts (is_html e) (bytes_eq name e.name) q in
         let one : in_set sets.Implied Html e.name ≡ true = subst (λ space. in_set sets.Implied space e.name ≡ true) (html_space e.namespace parts.0) m in
         true≢false (sym one ∙ (ap (in_set sets.Implied Html) (sym (equal_bytes true name e.name (sym parts.1) refl)) ∙ f)))
@@ -308,11 +295,11 @@ implied_there (named where_ name) c r h = go (in_set sets.Implied Html name) ref
 implied_there (among where_ sets.Headings) c r h = still_set sets.Headings where_ (kinds.Set sets.Implied) c r implied_key headings_off h
   where
     headings_off : (e : OpenElement) → within (kinds.Set sets.Implied) e ≡ true → within (kinds.Set sets.Headings) e ≡ false
-    headings_off e m = not-true (within (kinds.Set sets.Headings) e) (λ q. true≢false (sym (set-named (words "h1 h2 h3 h4 h5 h6") e q) ∙ apart-set (words "h1 h2 h3 h4 h5 h6") (members sets.Implied) refl e m))
+    headings_off e m = false_from_ne_true (within (kinds.Set sets.Headings) e) (λ q. true≢false (sym (set-named (words "h1 h2 h3 h4 h5 h6") e q) ∙ apart-set (words "h1 h2 h3 h4 h5 h6") (members sets.Implied) refl e m))
 implied_there (among where_ sets.Cells) c r h = still_set sets.Cells where_ (kinds.Set sets.Implied) c r implied_key cells_off h
   where
     cells_off : (e : OpenElement) → within (kinds.Set sets.Implied) e ≡ true → within (kinds.Set sets.Cells) e ≡ false
-    cells_off e m = not-true (within (kinds.Set sets.Cells) e) (λ q. true≢false (sym (set-named (words "td th") e q) ∙ apart-set (words "td th") (members sets.Implied) refl e m))
+    cells_off e m = false_from_ne_true (within (kinds.Set sets.Cells) e) (λ q. true≢false (sym (set-named (words "td th") e q) ∙ apart-set (words "td th") (members sets.Implied) refl e m))
 implied_there (among where_ _) c r h = tt
 
 -- below the implied end tags but its own

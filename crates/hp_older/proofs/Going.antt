@@ -5,7 +5,7 @@ use Rattle.std.specs.Prelude.{if◌then◌else◌, ◌⊎◌, Result, Ok, Err, s
 use Rattle.std.specs.List.{list_any}
 use Rattle.std.specs.Str.{bytes_eq}
 use Rattle.std.proofs.Math.Bool.{or-true}
-use Rattle.std.proofs.lemmas.Bool.{and_parts, and_from, true≢false}
+use Rattle.std.proofs.lemmas.Bool.{and_parts, and_from, true≢false, false_from_ne_true, and_right}
 use Rattle.hp_elements.specs.Names.{is_among, text_of, words}
 use Rattle.hp_elements.specs.Sets.{members}
 use Rattle.hp_elements.specs.Tokens.{kind_of}
@@ -42,7 +42,7 @@ use Rattle.hp_model.specs.Steps.{holds, step}
 use Rattle.hp_model.specs.Tokens.{name_for}
 use Rattle.hp_model.specs.Turns.{Handled, Turn, goes_on, done, again, before, and_then, as_part, left_by}
 use Rattle.hp_model.specs.Whole.{IsRead}
-use Rattle.hp_model.proofs.Course.{Course, Along, fits, is_standing}
+use Rattle.hp_model.proofs.Course.{Course, Along, fits}
 use Rattle.hp_model.proofs.Course as course
 use Rattle.hp_model.proofs.Following.{act_along}
 use Rattle.hp_model.proofs.Thins.{ids_of}
@@ -54,7 +54,7 @@ use Rattle.hp_acts.proofs.OlderMatches.{acts_older}
 use Rattle.hp_acts.proofs.RowMatches.{is_row_act}
 use Rattle.hp_older.specs.GoesOn.{is_key, is_new}
 use Rattle.hp_older.proofs.Acting.{common-sort, name-told}
-use Rattle.hp_older.proofs.Keys.{apart-name, apart-set, named_in, not-true}
+use Rattle.hp_older.proofs.Keys.{apart-name, apart-set, named_in}
 use Rattle.hp_older.proofs.Effects.{apart-fewer}
 use Rattle.hp_older.proofs.Leading.{Over, act_did, act_reads}
 use Rattle.hp_older.proofs.Levels.{key_names}
@@ -174,10 +174,6 @@ module _ (s : ControlState) (first : 0 < s.next) (n : ℕ) where
         subst (λ x. (is_act_told s fostering t a x ≡ true) × ((touches_any s (step fostering t a x) ≡ true) ⊎ Here s n next (step fostering t a x).control)) p.is
         (act_here a p.course p.track p.view next p.stands (subst (λ x. Along p.course n x) (sym p.is) p.along) (subst (λ x. On p.track s x) (sym p.is) p.on) parts.0 inner.0 inner.1)
 
-and_off : (a b : Bool) → b ≡ false → (a && b) ≡ false
-and_off true b z = z
-and_off false b z = refl
-
 -- what a test says, on a track
 plain_still : (s : ControlState) (tp : Top) (e : OpenElement) (es : List OpenElement) → TopIs tp s (e ∷ es) → 0 < length es → not (is_new s e && is_key e) ≡ true → TopIs (plainer tp) s (e ∷ es)
 plain_still s made e es y l m = y
@@ -190,7 +186,7 @@ current_plain s goals tp [] r k h q = absurd (true≢false (sym h))
 current_plain s goals tp (e ∷ es) r k h q =
     let off = k e h in
     let short : 1 < length (e ∷ es) = top-short e es r (apart-fewer (words "html") key_names refl e off) in
-    plain_still s tp e es q (omega arith) (ap not (and_off (is_new s e) (is_key e) off))
+    plain_still s tp e es q (omega arith) (ap not (and_right (is_new s e) (is_key e) off))
 
 high_still : (s : ControlState) (tp : Top) (st : List OpenElement) → 1 < length st → TopIs tp s st → TopIs (highly tp) s st
 high_still s unknown st l q = l
@@ -200,7 +196,7 @@ high_still s made st l q = q
 
 not_root : (st : List OpenElement) → is_rooted st ≡ true → is_one (kinds.Html (text_of known.Html)) (slice_get st 0) ≡ false → 1 < length st
 not_root [] r h = absurd (true≢false (sym r))
-not_root (e ∷ es) r h = top-short e es r (not-true (named_in (words "html") e) (λ k. true≢false (sym (back k) ∙ h)))
+not_root (e ∷ es) r h = top-short e es r (false_from_ne_true (named_in (words "html") e) (λ k. true≢false (sym (back k) ∙ h)))
   where
     or_one : (b : Bool) → (b || false) ≡ true → b ≡ true
     or_one true z = refl

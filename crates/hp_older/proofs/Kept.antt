@@ -1,9 +1,8 @@
 -- The elements of a stack that pass a test.
 use Rattle.std.proofs.Common.{◌≡◌, ℕ, zero, suc, List, [], ◌∷◌, ◌++◌, drop, length, Bool, true, false, ◌||◌, ◌&&◌, refl, sym, ap, ◌∙◌, arith, nat_lt}
-use Rattle.std.specs.Prelude.{if◌then◌else◌, All}
+use Rattle.std.specs.Prelude.{if◌then◌else◌}
 use Rattle.std.specs.List.{list_any}
 use Rattle.std.proofs.lemmas.Bool.{true≢false, lt-leb, lt-ltb}
-use Rattle.std.proofs.lemmas.List.Elements.{All-nil, All-cons}
 use Rattle.hp_control.specs.declared.element.OpenElement.{OpenElement}
 use Rattle.hp_control.specs.States.{ControlState, AreIds}
 use Rattle.hp_model.specs.Finding.{is_empty}
@@ -23,21 +22,6 @@ kept-append p (x ∷ xs) ys = go (p x) (kept-append p xs ys)
     go : (b : Bool) → kept p (xs ++ ys) ≡ kept p xs ++ kept p ys → (if b then x ∷ kept p (xs ++ ys) else kept p (xs ++ ys)) ≡ (if b then x ∷ kept p xs else kept p xs) ++ kept p ys
     go true e = ap (λ l. x ∷ l) e
     go false e = e
-
--- of those that pass one test, those that pass a narrower one
-pub kept-of : (p q : OpenElement → Bool) → ((e : OpenElement) → p e ≡ true → q e ≡ true) → (es : List OpenElement) → kept p (kept q es) ≡ kept p es
-kept-of p q h [] = refl
-kept-of p q h (e ∷ es) = go (q e) refl (p e) refl (kept-of p q h es)
-  where
-    go : (b : Bool) → q e ≡ b → (a : Bool) → p e ≡ a → kept p (kept q es) ≡ kept p es → kept p (if b then e ∷ kept q es else kept q es) ≡ (if a then e ∷ kept p es else kept p es)
-    go true f true g r = ap (λ b. if b then e ∷ kept p (kept q es) else kept p (kept q es)) g ∙ ap (λ l. e ∷ l) r
-    go true f false g r = ap (λ b. if b then e ∷ kept p (kept q es) else kept p (kept q es)) g ∙ r
-    go false f true g r = absurd (true≢false (sym (h e g) ∙ f))
-    go false f false g r = r
-
-pub kept-none : (p : OpenElement → Bool) (es : List OpenElement) → ((e : OpenElement) → p e ≡ false) → kept p es ≡ []
-kept-none p [] h = refl
-kept-none p (e ∷ es) h = kept-no p e es (h e) ∙ kept-none p es h
 
 cons_nil : (e : OpenElement) (es : List OpenElement) → e ∷ es ≡ [] → ⊥
 cons_nil e es h = cc
@@ -67,14 +51,6 @@ kept-part p (suc n) (e ∷ es) = go (p e) (kept-part p n es)
 pub kept-alike : (p q : OpenElement → Bool) → ((e : OpenElement) → p e ≡ q e) → (es : List OpenElement) → kept p es ≡ kept q es
 kept-alike p q h [] = refl
 kept-alike p q h (e ∷ es) = ap (λ b. if b then e ∷ kept p es else kept p es) (h e) ∙ ap (λ l. if q e then e ∷ l else l) (kept-alike p q h es)
-
-pub all-kept : (P : OpenElement → Type 0) (p : OpenElement → Bool) → ((e : OpenElement) → p e ≡ true → P e) → (es : List OpenElement) → All P (kept p es)
-all-kept P p h [] = All-nil P
-all-kept P p h (e ∷ es) = go (p e) refl (all-kept P p h es)
-  where
-    go : (b : Bool) → p e ≡ b → All P (kept p es) → All P (if b then e ∷ kept p es else kept p es)
-    go true f r = All-cons P e (kept p es) (h e f) r
-    go false f r = r
 
 pub any-kept : (p : OpenElement → Bool) (es : List OpenElement) → list_any p es ≡ nat_lt 0 (length (kept p es))
 any-kept p [] = refl

@@ -2,7 +2,7 @@
 use Rattle.std.proofs.Common.{◌≡◌, ℕ, List, [], ◌∷◌, Bool, true, false, ◌||◌, ◌&&◌, not, refl, sym, ap, ◌∙◌, subst}
 use Rattle.std.specs.List.{list_all}
 use Rattle.std.specs.Str.{bytes_eq}
-use Rattle.std.proofs.lemmas.Bool.{and_parts, and_from, true≢false}
+use Rattle.std.proofs.lemmas.Bool.{and_parts, and_from, true≢false, and_right}
 use Rattle.hp_elements.specs.Kinds.{is_html as is_html_space}
 use Rattle.hp_elements.specs.Names.{is_among}
 use Rattle.hp_elements.specs.Sets.{in_set, is_member}
@@ -24,14 +24,6 @@ pub html_space : (space : Namespace) → is_html_space space ≡ true → space 
 html_space Html h = refl
 html_space MathMl h = absurd (true≢false (sym h))
 html_space Svg h = absurd (true≢false (sym h))
-
-second : (a b : Bool) → b ≡ false → (a && b) ≡ false
-second true b h = h
-second false b h = refl
-
-or-same : (b : Bool) → b ≡ false → b ≡ true → ⊥
-or-same true h k = true≢false h
-or-same false h k = true≢false (sym k)
 
 -- what holds of each name of a list holds of a name among them
 pub among-all : (q : List ℕ → Bool) (names : List (List ℕ)) (name : List ℕ) → list_all q names ≡ true → is_among names name ≡ true → q name ≡ true
@@ -56,22 +48,19 @@ named-named names more h e k =
 
 -- none is in a set that has none of the names
 pub apart-set : (names : List (List ℕ)) (elements : List (Namespace × List ℕ)) → list_all (λ x. not (is_among names x.1)) elements ≡ true → (e : OpenElement) → is_member elements e.namespace e.name ≡ true → named_in names e ≡ false
-apart-set names elements h e k = second (is_html e) (is_among names e.name) (refused (is_among names) elements e.namespace e.name h k)
+apart-set names elements h e k = and_right (is_html e) (is_among names e.name) (refused (is_among names) elements e.namespace e.name h k)
 
 -- nor has another name
 pub apart-name : (names : List (List ℕ)) (name : List ℕ) → is_among names name ≡ false → (e : OpenElement) → within (kinds.Html name) e ≡ true → named_in names e ≡ false
 apart-name names name h e k =
     let parts = and_parts (is_html e) (bytes_eq name e.name) k in
-    second (is_html e) (is_among names e.name) (ap (is_among names) (sym (equal_bytes true name e.name (sym parts.1) refl)) ∙ h)
+    and_right (is_html e) (is_among names e.name) (ap (is_among names) (sym (equal_bytes true name e.name (sym parts.1) refl)) ∙ h)
 
 -- nor is foreign
 pub apart-foreign : (names : List (List ℕ)) (e : OpenElement) → is_html e ≡ false → named_in names e ≡ false
 apart-foreign names e h = ap (λ b. b && is_among names e.name) h
 
-pub not-true : (b : Bool) → (b ≡ true → ⊥) → b ≡ false
-not-true true h = absurd (h refl)
-not-true false h = refl
-
-pub was-not : (b : Bool) → not b ≡ true → b ≡ false
-was-not true h = sym h
-was-not false h = refl
+-- of two tests the and_right holds where the first doesn't
+pub either_of : (a b : Bool) → (a || b) ≡ true → a ≡ false → b ≡ true
+either_of true b h k = absurd (true≢false k)
+either_of false b h k = h

@@ -2,7 +2,7 @@
 use Rattle.std.proofs.Common.{◌≡◌, ℕ, zero, suc, ◌+◌, ◌≤◌, ◌<◌, List, [], ◌∷◌, length, Bool, true, false, ◌||◌, ◌&&◌, not, refl, sym, ap, ◌∙◌, subst, arith, inr, Option, None, Some, nat_lt}
 use Rattle.std.specs.Prelude.{if◌then◌else◌}
 use Rattle.std.specs.List.{list_all}
-use Rattle.std.proofs.lemmas.Bool.{and_parts, and_from, true≢false, lt-ltb, le-ltb, le-leb}
+use Rattle.std.proofs.lemmas.Bool.{and_parts, and_from, true≢false, lt-ltb, le-ltb, le-leb, false_from_ne_true, not-true, and_right}
 use Rattle.hp_elements.specs.Kinds.{is_html as is_html_space}
 use Rattle.hp_elements.specs.Names.{is_among, known_of, text_of, words}
 use Rattle.hp_elements.specs.Tokens.{kind_of}
@@ -42,8 +42,8 @@ use Rattle.hp_older.proofs.Acting.{common-sort, name-told, push_sorted, unknown-
 use Rattle.hp_older.proofs.Effects.{description-weak, foreign-strong, item-weak, paragraph-weak, thoroughly-thin, to_point-strong, walk-thin, walk-weak}
 use Rattle.hp_older.proofs.Found.{except_did, implied_did, through_did, through_first_did, to_did}
 use Rattle.hp_older.proofs.Kept.{any-kept, kept-alike}
-use Rattle.hp_older.proofs.Keys.{among-all, named_in, not-true, was-not}
-use Rattle.hp_older.proofs.Tracking.{on_strong}
+use Rattle.hp_older.proofs.Keys.{among-all, named_in}
+use Rattle.hp_older.proofs.Tracking.{on_strong, even_modes}
 use Rattle.hp_older.proofs.Levels.{core_names, key_names, template_names}
 use Rattle.hp_older.proofs.Links.{adopt-weak, flushed-strong, foreign_made-strong, form-weak, link-weak, reconstruct-strong}
 use Rattle.hp_older.proofs.Listing.{append_did, clear_did, form_did, keep_did, marker_did, original_did, pop_mode_did, push_did, replace_did, reset_did, switch_did}
@@ -51,7 +51,7 @@ use Rattle.hp_older.proofs.Moves.{Did, did_strong, did_thin, did_weak, pop_did, 
 use Rattle.hp_older.proofs.Pushing.{next-free, push_common}
 use Rattle.hp_older.proofs.Resets.{is_sorted, named-a}
 use Rattle.hp_older.proofs.Steps.{can_adopt, can_walk, is_common, touches, track_after, track_fits, walked}
-use Rattle.hp_older.proofs.Track.{Balance, even, over, under, BalanceIs, On, Top, made, TopIs, Track, can_pass, can_push, is_even, is_made, name_told, pushed, common, sort_of, sort_told, strongly, thinly, weakly}
+use Rattle.hp_older.proofs.Track.{On, Top, made, TopIs, Track, can_pass, can_push, is_even, is_made, name_told, pushed, common, sort_of, sort_told, strongly, thinly, weakly}
 
 -- a state over an older one: its new elements stand above the older ones
 pub record Over (s c : ControlState) : Type 0 where
@@ -76,22 +76,18 @@ module _ (s : ControlState) (fostering : Bool) where
             inr (subst (λ name. On (pushed (sort_of name) w) s (insert fostering tag c).control) (sym same)
                 (push_sorted w s c e on (rooted_on v n c g r) (le-leb s.next c.next o.later) (ap is_html_space read) (next-free c e refl g.list_ids g.form) (subst (λ name. can_push (sort_of name) w ≡ true) same m))),
           )
-      go None q m = (refl, inr (push_common w s c e on (rooted_on v n c g r) (le-leb s.next c.next o.later) (and_off (is_html e) (is_among key_names tag.name) (unknown-name tag.name q))))
-        where
-          and_off : (a b : Bool) → b ≡ false → (a && b) ≡ false
-          and_off true b z = z
-          and_off false b z = refl
+      go None q m = (refl, inr (push_common w s c e on (rooted_on v n c g r) (le-leb s.next c.next o.later) (and_right (is_html e) (is_among key_names tag.name) (unknown-name tag.name q))))
   insert_did t read v n w c o g on h k = absurd (true≢false (sym (and_parts (is_start (kind_of t)) (not (kind_is_template (kind_of t)) || has_room v.room) (and_parts (is_standing v.base) (is_start (kind_of t) && (not (kind_is_template (kind_of t)) || has_room v.room)) h).1).0))
 
   bare_did : (x : Known) (v : Course) (n : ℕ) (w : Track) (c : ControlState) → Over s c → Along v n c → On w s c → is_standing v.base ≡ true → is_common (sort_of (text_of x)) ≡ true → Did s (insert fostering (bare (text_of x))) (pushed common w) c
   bare_did x v n w c o g on r k = (refl, inr (push_common w s c (element_for c.next (bare (text_of x))) on (rooted_on v n c g r) (le-leb s.next c.next o.later) (common-sort (text_of x) k)))
 
 few_off : (few : List (List ℕ)) (name : List ℕ) → list_all (is_among key_names) few ≡ true → is_among key_names name ≡ false → is_among few name ≡ false
-few_off few name a b = not-true (is_among few name) (λ z. true≢false (sym (among-all (is_among key_names) few name a z) ∙ b))
+few_off few name a b = false_from_ne_true (is_among few name) (λ z. true≢false (sym (among-all (is_among key_names) few name a z) ∙ b))
 
 -- neither a template nor a cell
 core_off : (name : List ℕ) → is_among (words "template") name ≡ false → is_among (words "td th") name ≡ false → is_among core_names name ≡ false
-core_off name a b = not-true (is_among core_names name) (λ z. true≢false (sym (among-all (λ x. is_among (words "template") x || is_among (words "td th") x) core_names name refl z) ∙ both_off (is_among (words "template") name) (is_among (words "td th") name) a b))
+core_off name a b = false_from_ne_true (is_among core_names name) (λ z. true≢false (sym (among-all (λ x. is_among (words "template") x || is_among (words "td th") x) core_names name refl z) ∙ both_off (is_among (words "template") name) (is_among (words "td th") name) a b))
   where
     both_off : (x y : Bool) → x ≡ false → y ≡ false → (x || y) ≡ false
     both_off true y p q = p
@@ -105,7 +101,7 @@ walk_known s name x same v n w c g on r nt nh false f = did_weak s (walk name) w
 walk_named : (s : ControlState) (name : List ℕ) (p : Option Known) → known_of name ≡ p → (v : Course) (n : ℕ) (w : Track) (c : ControlState) → Along v n c → On w s c → is_standing v.base ≡ true → can_walk (End p) ≡ true → Did s (walk name) (walked (End p) w) c
 walk_named s name (Some x) q v n w c g on r m =
     let parts = and_parts (not (is_among (words "template") (text_of x))) (not (is_among (words "html") (text_of x))) m in
-    walk_known s name x (found_text name x q) v n w c g on r (was-not (is_among (words "template") (text_of x)) parts.0) (was-not (is_among (words "html") (text_of x)) parts.1) (is_among (words "td th") (text_of x)) refl
+    walk_known s name x (found_text name x q) v n w c g on r (not-true (is_among (words "template") (text_of x)) parts.0) (not-true (is_among (words "html") (text_of x)) parts.1) (is_among (words "td th") (text_of x)) refl
 walk_named s name None q v n w c g on r m =
     did_weak s (walk name) w v n c g on (thinning_walk name c (ready v n c r g)) (walk-weak s name c (rooted_on v n c g r) (few_off (words "html") name refl (unknown-name name q)) (few_off core_names name refl (unknown-name name q)))
 
@@ -122,7 +118,7 @@ adopt_did : (s : ControlState) (fostering : Bool) (name : List ℕ) (v : Course)
 adopt_did s fostering name v n w c g on r k =
     let parts = and_parts (not (is_among (words "template td th") name)) (not (is_among (words "html") name)) k in
     did_weak s (adopt fostering name) w v n c g on (thinning_adopt fostering name c (ready v n c r g))
-    (adopt-weak s fostering name c (was-not (is_among (words "html") name) parts.1) (was-not (is_among (words "template td th") name) parts.0) (record { ready = ready v n c r g; free = on.free }))
+    (adopt-weak s fostering name c (not-true (is_among (words "html") name) parts.1) (not-true (is_among (words "template td th") name) parts.0) (record { ready = ready v n c r g; free = on.free }))
 
 adopt_told : (s : ControlState) (fostering : Bool) (t : Token) (which : Which) (p : Option (List ℕ)) → name_told (kind_of t) which ≡ p → (v : Course) (n : ℕ) (w : Track) (c : ControlState) → Along v n c → On w s c → is_standing v.base ≡ true → can_adopt p ≡ true → Did s (adopt fostering (name_for t which)) (weakly w) c
 adopt_told s fostering t which None q v n w c g on r k = absurd (true≢false (sym k))
@@ -217,11 +213,6 @@ more_than older (suc few) = lt-ltb older (older + suc few) (omega arith) ∙ sym
 same_self : (b : Bool) → is_same b b ≡ true
 same_self true = refl
 same_self false = refl
-
-even_modes : (b : Balance) (templates modes older : ℕ) → is_even b ≡ true → BalanceIs b templates modes older → modes ≡ older + templates
-even_modes even templates modes older h k = k
-even_modes over templates modes older h k = absurd (true≢false (sym h))
-even_modes under templates modes older h k = absurd (true≢false (sym h))
 
 pub together-told : (s : ControlState) (w : Track) (c : ControlState) → On w s c → is_even w.balance ≡ true → are_together s c ≡ true
 together-told s w c on h =

@@ -2,7 +2,7 @@
 use Rattle.std.proofs.Common.{◌≡◌, ℕ, ◌+◌, ◌<◌, List, [], ◌∷◌, drop, length, Bool, true, false, ◌||◌, ◌&&◌, refl, sym, ap, subst, arith, inl, inr, Option, None, Some, nat_le, nat_lt}
 use Rattle.std.specs.Prelude.{if◌then◌else◌, All, ◌⊎◌}
 use Rattle.std.specs.Option.{is_some, unwrap_or}
-use Rattle.std.proofs.lemmas.Bool.{and_parts, and_from, true≢false, lt-ltb, le-leb}
+use Rattle.std.proofs.lemmas.Bool.{and_parts, and_from, true≢false, lt-ltb, le-leb, not-true}
 use Rattle.std.proofs.lemmas.List.Elements.{All-nil, All-cons, All-head, All-tail}
 use Rattle.hp_elements.specs.declared.tag.Tag.{Tag}
 use Rattle.hp_elements.specs.declared.token.Mode.{Mode}
@@ -22,7 +22,7 @@ use Rattle.hp_model.proofs.Resetting.{reset-settled}
 use Rattle.hp_model.proofs.Thins.{Thins, ids_of, thins_all}
 use Rattle.hp_older.specs.GoesOn.{IsFree, comes, fits_mode, is_a, is_key, is_new, kept, own}
 use Rattle.hp_older.proofs.Kept.{kept-no}
-use Rattle.hp_older.proofs.Keys.{named_in, was-not}
+use Rattle.hp_older.proofs.Keys.{named_in}
 use Rattle.hp_older.proofs.Levels.{core_names, fewer, key_names, own_of}
 use Rattle.hp_older.proofs.Moves.{Did}
 use Rattle.hp_older.proofs.Resets.{is_sorted, reset-fits}
@@ -87,7 +87,7 @@ apart_below p x (e ∷ es) h = go (p e) (apart_below p x es h.1)
 apart_top : (s : ControlState) (tp : Top) (next : ℕ) (st : List OpenElement) → is_made tp ≡ true → TopIs tp s st → AreIds 0 next (ids_of st) → All (λ (e : OpenElement). current_id st ≡ e.id → ⊥) (own s (is_a "template td th") st)
 apart_top s made next [] h k a = absurd k
 apart_top s made next (e ∷ es) h k a =
-    let same : own_of s key_names (e ∷ es) ≡ own_of s key_names es = kept-no (λ x. is_new s x && named_in key_names x) e es (was-not (is_new s e && is_key e) k.1) in
+    let same : own_of s key_names (e ∷ es) ≡ own_of s key_names es = kept-no (λ x. is_new s x && named_in key_names x) e es (not-true (is_new s e && is_key e) k.1) in
     subst (λ l. All (λ (y : OpenElement). e.id ≡ y.id → ⊥) l) (sym (fewer s core_names key_names es (e ∷ es) refl same)) (apart_below (λ x. is_new s x && is_a "template td th" x) e.id es a.2)
 apart_top s _ next st h k a = absurd (true≢false (sym h))
 

@@ -1,8 +1,9 @@
 -- Acts that pop, on their tracks.
-use Rattle.std.proofs.Common.{◌≡◌, ℕ, suc, ◌+◌, ◌<◌, List, [], ◌∷◌, drop, length, Bool, true, false, ◌||◌, ◌&&◌, not, refl, sym, ap, ◌∙◌, subst, arith, inl, inr, None, Some}
+use Rattle.std.proofs.Common.{◌≡◌, ℕ, suc, ◌+◌, ◌<◌, List, [], ◌∷◌, drop, length, Bool, true, false, ◌||◌, ◌&&◌, not, refl, sym, ap, ◌∙◌, subst, arith, inl, inr, Some}
 use Rattle.std.specs.Prelude.{if◌then◌else◌, ◌⊎◌}
 use Rattle.std.specs.Option.{option_map}
-use Rattle.std.proofs.lemmas.Bool.{and_parts, true≢false}
+use Rattle.std.proofs.lemmas.Bool.{and_parts, true≢false, false_from_ne_true, not-true, and_right}
+use Rattle.std.proofs.lemmas.Option.{none-some, same_Some}
 use Rattle.hp_elements.specs.Names.{is_among, words}
 use Rattle.hp_elements.specs.declared.act.Scope.{Scope}
 use Rattle.hp_elements.specs.declared.act.Scope.TheVariants as scope
@@ -24,10 +25,10 @@ use Rattle.hp_model.proofs.Thinning.{thinning_pop, thinning_through, thinning_th
 use Rattle.hp_model.proofs.Thins.{Thins}
 use Rattle.hp_older.specs.GoesOn.{comes, is_a, is_key, is_new}
 use Rattle.hp_older.proofs.Kept.{kept-drop, kept-no}
-use Rattle.hp_older.proofs.Keys.{apart-name, named-within, named_in, not-true, was-not}
+use Rattle.hp_older.proofs.Keys.{apart-name, named-within, named_in, either_of}
 use Rattle.hp_older.proofs.Effects.{Leaves, pops-by, shown-thin, shown-weak, through-leaves}
 use Rattle.hp_older.proofs.Levels.{Strong, Thin, Weak, core_names, key_names, own_of, strong_pop, template_names, thin_pop, weak-thin, weak_all}
-use Rattle.hp_older.proofs.Track.{On, There, nowhere, named, among, ThereIs, Top, unknown, high, plain, made, TopIs, Track, can_pass, ends_at_cells, is_high, is_plain_one, is_there_named, passed_named, scope_weak, strongly, thinly, weakly}
+use Rattle.hp_older.proofs.Track.{On, There, nowhere, named, among, ThereIs, Top, unknown, high, plain, made, TopIs, Track, ends_at_cells, is_high, is_plain_one, is_there_named, passed_named, scope_weak, strongly, thinly, weakly}
 use Rattle.hp_older.proofs.Tracking.{on_strong, on_thin, on_weak}
 
 -- what an act did: nothing was spared, and a track is met or something older was touched
@@ -51,9 +52,9 @@ pub plain-top : (s : ControlState) (tp : Top) (st : List OpenElement) → is_pla
 plain-top s unknown st h k = absurd (true≢false (sym h))
 plain-top s high st h k = absurd (true≢false (sym h))
 plain-top s plain [] h k = absurd k
-plain-top s plain (e ∷ st) h k = let l : 0 < length st = k.0 in (omega arith, sym (kept-no (λ x. is_new s x && named_in key_names x) e st (was-not (is_new s e && is_key e) k.1)))
+plain-top s plain (e ∷ st) h k = let l : 0 < length st = k.0 in (omega arith, sym (kept-no (λ x. is_new s x && named_in key_names x) e st (not-true (is_new s e && is_key e) k.1)))
 plain-top s made [] h k = absurd k
-plain-top s made (e ∷ st) h k = let l : 0 < length st = k.0 in (omega arith, sym (kept-no (λ x. is_new s x && named_in key_names x) e st (was-not (is_new s e && is_key e) k.1)))
+plain-top s made (e ∷ st) h k = let l : 0 < length st = k.0 in (omega arith, sym (kept-no (λ x. is_new s x && named_in key_names x) e st (not-true (is_new s e && is_key e) k.1)))
 
 pub high-top : (s : ControlState) (tp : Top) (st : List OpenElement) → is_high tp ≡ true → TopIs tp s st → 1 < length st
 high-top s unknown st h k = absurd (true≢false (sym h))
@@ -62,20 +63,6 @@ high-top s plain [] h k = absurd k
 high-top s plain (e ∷ st) h k = let l : 0 < length st = k.0 in omega arith
 high-top s made [] h k = absurd k
 high-top s made (e ∷ st) h k = let l : 0 < length st = k.0 in omega arith
-
-and_off : (a b : Bool) → b ≡ false → (a && b) ≡ false
-and_off true b h = h
-and_off false b h = refl
-
-none_some : (k : ℕ) → None ≡ Some k → ⊥
-none_some k h = cc
-
-same_depth : (a b : ℕ) → Some a ≡ Some b → b ≡ a
-same_depth a b h = cc
-
-either_of : (a b : Bool) → (a || b) ≡ true → a ≡ false → b ≡ true
-either_of true b h k = absurd (true≢false k)
-either_of false b h k = h
 
 pub pop_did : (s : ControlState) (w : Track) (v : Course) (n : ℕ) (c : ControlState) → Along v n c → On w s c → is_standing v.base ≡ true → (is_plain_one w.top || (is_high w.top && w.bare)) ≡ true → Did s pop (if is_plain_one w.top then strongly w else thinly w) c
 pop_did s w v n c g on h k = go (is_plain_one w.top) refl
@@ -97,10 +84,6 @@ with_there there w s c on h = record { html = on.html; balance = on.balance; fre
 
 pub with_top : (tp : Top) (w : Track) (s c : ControlState) → On w s c → TopIs tp s c.stack → On (record w { top = tp }) s c
 with_top tp w s c on h = record { html = on.html; balance = on.balance; free = on.free; top = h; there = on.there; cell = on.cell; select = on.select; bare = on.bare; still = on.still; back = on.back; place = on.place }
-
--- the names of a scope's goal
-name_pass : (names : List (List ℕ)) (name : List ℕ) → can_pass names name ≡ true → (is_among names name ≡ false) × (is_among (words "html") name ≡ false)
-name_pass names name h = let parts = and_parts (not (is_among names name)) (not (is_among (words "html") name)) h in (was-not (is_among names name) parts.0, was-not (is_among (words "html") name) parts.1)
 
 -- the ends of each scope have templates, and those of most cells too
 scope_templates : (where_ : Scope) (e : OpenElement) → named_in template_names e ≡ true → within (kinds.Set (ends_of where_)) e ≡ true
@@ -144,11 +127,11 @@ through_shown s name w v n c g on h nt nh k = go w.there k on.there
 pub comes-through : (s : ControlState) (names all : List (List ℕ)) (goals : Kinds) (st : List OpenElement) → ((e : OpenElement) → named_in names e ≡ true → within goals e ≡ true) → ((e : OpenElement) → within goals e ≡ true → named_in template_names e ≡ false)
     → ((e : OpenElement) → named_in template_names e ≡ true → named_in all e ≡ true) → ((e : OpenElement) → named_in names e ≡ true → named_in all e ≡ true) → comes (named_in names) (own_of s all st) ≡ true
     → (k : ℕ) → reach goals kinds.Nothing st ≡ Some k → own_of s template_names (drop (k + 1) st) ≡ own_of s template_names st
-comes-through s names all goals [] h g m o x k e = absurd (none_some k e)
+comes-through s names all goals [] h g m o x k e = absurd (none-some k e)
 comes-through s names all goals (y ∷ ys) h g m o x k e = go (within goals y) refl (is_new s y) refl (named_in all y) refl e x (λ z j q. comes-through s names all goals ys h g m o z j q)
   where
     stays : (named_in template_names y ≡ false) ⊎ (is_new s y ≡ false) → own_of s template_names (y ∷ ys) ≡ own_of s template_names ys
-    stays (inl q) = kept-no (λ z. is_new s z && named_in template_names z) y ys (and_off (is_new s y) (named_in template_names y) q)
+    stays (inl q) = kept-no (λ z. is_new s z && named_in template_names z) y ys (and_right (is_new s y) (named_in template_names y) q)
     stays (inr q) = kept-no (λ z. is_new s z && named_in template_names z) y ys (ap (λ b. b && named_in template_names y) q)
 
     deep : (named_in template_names y ≡ false) ⊎ (is_new s y ≡ false) → option_map suc (reach goals kinds.Nothing ys) ≡ Some k → ((j : ℕ) → reach goals kinds.Nothing ys ≡ Some j → own_of s template_names (drop (j + 1) ys) ≡ own_of s template_names ys) → own_of s template_names (drop (k + 1) (y ∷ ys)) ≡ own_of s template_names (y ∷ ys)
@@ -160,12 +143,12 @@ comes-through s names all goals (y ∷ ys) h g m o x k e = go (within goals y) r
     go : (a : Bool) → within goals y ≡ a → (b : Bool) → is_new s y ≡ b → (d : Bool) → named_in all y ≡ d → (if a then Some 0 else option_map suc (reach goals kinds.Nothing ys)) ≡ Some k → comes (named_in names) (if b && d then y ∷ own_of s all ys else own_of s all ys) ≡ true
         → (comes (named_in names) (own_of s all ys) ≡ true → (j : ℕ) → reach goals kinds.Nothing ys ≡ Some j → own_of s template_names (drop (j + 1) ys) ≡ own_of s template_names ys)
         → own_of s template_names (drop (k + 1) (y ∷ ys)) ≡ own_of s template_names (y ∷ ys)
-    go true f b i d j p z later = subst (λ i. own_of s template_names (drop (i + 1) (y ∷ ys)) ≡ own_of s template_names (y ∷ ys)) (sym (same_depth 0 k p)) (sym (stays (inl (g y f))))
+    go true f b i d j p z later = subst (λ i. own_of s template_names (drop (i + 1) (y ∷ ys)) ≡ own_of s template_names (y ∷ ys)) (same_Some 0 k p) (sym (stays (inl (g y f))))
     go false f true i true j p z later =
-        let not_one : named_in names y ≡ false = not-true (named_in names y) (λ q. true≢false (sym (h y q) ∙ f)) in
+        let not_one : named_in names y ≡ false = false_from_ne_true (named_in names y) (λ q. true≢false (sym (h y q) ∙ f)) in
         let parts = and_parts (not (is_a "template" y)) (comes (named_in names) (own_of s all ys)) (either_of (named_in names y) (not (is_a "template" y) && comes (named_in names) (own_of s all ys)) z not_one) in
-        deep (inl (was-not (is_a "template" y) parts.0)) p (later parts.1)
-    go false f true i false j p z later = deep (inl (not-true (named_in template_names y) (λ q. true≢false (sym (m y q) ∙ j)))) p (later z)
+        deep (inl (not-true (is_a "template" y) parts.0)) p (later parts.1)
+    go false f true i false j p z later = deep (inl (false_from_ne_true (named_in template_names y) (λ q. true≢false (sym (m y q) ∙ j)))) p (later z)
     go false f false i d j p z later = deep (inr i) p (later z)
 
 -- through what comes before any new template

@@ -3,6 +3,7 @@ use Rattle.std.proofs.Common.{◌≡◌, ℕ, suc, ◌+◌, ◌-◌, ◌<◌, Li
 use Rattle.std.specs.Prelude.{if◌then◌else◌}
 use Rattle.std.specs.Option.{is_some, option_map}
 use Rattle.std.proofs.lemmas.Bool.{true≢false}
+use Rattle.std.proofs.lemmas.Option.{none-some, same_Some}
 use Rattle.hp_elements.specs.declared.kinds.Kinds.{Kinds}
 use Rattle.hp_elements.specs.declared.kinds.Kinds.TheVariants as kinds
 use Rattle.hp_control.specs.declared.element.OpenElement.{OpenElement}
@@ -18,12 +19,6 @@ use Rattle.hp_older.proofs.Kept.{kept-no}
 pub all-popped : (k : ℕ) (es : List OpenElement) → k < length es → popped_by k es ≡ drop k es
 all-popped k es h = let e : min k (length es - 1) ≡ k = omega arith in ap (λ n. drop n es) e
 
-none_some : {X : Type 0} (x : X) → None ≡ Some x → ⊥
-none_some x h = cc
-
-same_depth : (a b : ℕ) → Some a ≡ Some b → b ≡ a
-same_depth a b h = cc
-
 -- a root that these kinds don't have ends a run of them
 pub run-short : (names : Kinds) (es : List OpenElement) → is_rooted es ≡ true → ((e : OpenElement) → is_rooted (e ∷ []) ≡ true → within names e ≡ false) → run_of names es < length es
 run-short names [] r h = absurd (true≢false (sym r))
@@ -36,17 +31,17 @@ run-short names (e ∷ f ∷ es) r h = go (within names e) (run-short names (f �
 
 -- what is found isn't the root, where the goals don't have it; and in any case it is in the stack
 pub reach-short : (goals stops : Kinds) (es : List OpenElement) (k : ℕ) → reach goals stops es ≡ Some k → is_rooted es ≡ true → ((e : OpenElement) → is_rooted (e ∷ []) ≡ true → within goals e ≡ false) → k + 1 < length es
-reach-short goals stops [] k e r h = absurd (none_some k e)
+reach-short goals stops [] k e r h = absurd (none-some k e)
 reach-short goals stops (x ∷ []) k e r h = go (within stops x) (sym (ap (λ b. if b then Some 0 else (if within stops x then None else None)) (h x r)) ∙ e)
   where
     go : (b : Bool) → (if b then None else None) ≡ Some k → k + 1 < 1
-    go true m = absurd (none_some k m)
-    go false m = absurd (none_some k m)
+    go true m = absurd (none-some k m)
+    go false m = absurd (none-some k m)
 reach-short goals stops (x ∷ y ∷ ys) k e r h = go (within goals x) (within stops x) e (λ j f. reach-short goals stops (y ∷ ys) j f r h)
   where
     go : (a b : Bool) → (if a then Some 0 else (if b then None else option_map suc (reach goals stops (y ∷ ys)))) ≡ Some k → ((j : ℕ) → reach goals stops (y ∷ ys) ≡ Some j → j + 1 < length (y ∷ ys)) → k + 1 < length (x ∷ y ∷ ys)
-    go true b m later = let z : k ≡ 0 = same_depth 0 k m in omega arith
-    go false true m later = absurd (none_some k m)
+    go true b m later = let z : 0 ≡ k = same_Some 0 k m in omega arith
+    go false true m later = absurd (none-some k m)
     go false false m later =
         let (j, there) = deeper (reach goals stops (y ∷ ys)) k m in
         let s : j + 1 < length (y ∷ ys) = later j there.0 in
@@ -77,13 +72,13 @@ module _ (p : OpenElement → Bool) where
   -- through a goal that none of the stops hides, where such elements are stops and no goals
   pub kept-through : (goals stops : Kinds) (es : List OpenElement) → ((e : OpenElement) → within goals e ≡ true → p e ≡ false) → ((e : OpenElement) → within stops e ≡ false → p e ≡ false)
       → (k : ℕ) → reach goals stops es ≡ Some k → kept p (drop (k + 1) es) ≡ kept p es
-  kept-through goals stops [] h g k e = absurd (none_some k e)
+  kept-through goals stops [] h g k e = absurd (none-some k e)
   kept-through goals stops (x ∷ xs) h g k e = go (within goals x) refl (within stops x) refl e (kept-through goals stops xs h g)
     where
       go : (a : Bool) → within goals x ≡ a → (b : Bool) → within stops x ≡ b → (if a then Some 0 else (if b then None else option_map suc (reach goals stops xs))) ≡ Some k
           → ((j : ℕ) → reach goals stops xs ≡ Some j → kept p (drop (j + 1) xs) ≡ kept p xs) → kept p (drop (k + 1) (x ∷ xs)) ≡ kept p (x ∷ xs)
-      go true f b q m later = subst (λ j. kept p (drop (j + 1) (x ∷ xs)) ≡ kept p (x ∷ xs)) (sym (same_depth 0 k m)) (sym (kept-no p x xs (h x f)))
-      go false f true q m later = absurd (none_some k m)
+      go true f b q m later = subst (λ j. kept p (drop (j + 1) (x ∷ xs)) ≡ kept p (x ∷ xs)) (same_Some 0 k m) (sym (kept-no p x xs (h x f)))
+      go false f true q m later = absurd (none-some k m)
       go false f false q m later =
           let (j, there) = deeper (reach goals stops xs) k m in
           let more : suc (j + 1) ≡ k + 1 = omega (arith, there.1) in
@@ -92,12 +87,12 @@ module _ (p : OpenElement → Bool) where
   -- down to a goal, where such elements are goals
   pub kept-to : (goals : Kinds) (es : List OpenElement) → ((e : OpenElement) → within goals e ≡ false → p e ≡ false)
       → (k : ℕ) → reach goals kinds.Nothing es ≡ Some k → kept p (drop k es) ≡ kept p es
-  kept-to goals [] g k e = absurd (none_some k e)
+  kept-to goals [] g k e = absurd (none-some k e)
   kept-to goals (x ∷ xs) g k e = go (within goals x) refl e (kept-to goals xs g)
     where
       go : (a : Bool) → within goals x ≡ a → (if a then Some 0 else option_map suc (reach goals kinds.Nothing xs)) ≡ Some k
           → ((j : ℕ) → reach goals kinds.Nothing xs ≡ Some j → kept p (drop j xs) ≡ kept p xs) → kept p (drop k (x ∷ xs)) ≡ kept p (x ∷ xs)
-      go true f m later = subst (λ j. kept p (drop j (x ∷ xs)) ≡ kept p (x ∷ xs)) (sym (same_depth 0 k m)) refl
+      go true f m later = subst (λ j. kept p (drop j (x ∷ xs)) ≡ kept p (x ∷ xs)) (same_Some 0 k m) refl
       go false f m later =
           let (j, there) = deeper (reach goals kinds.Nothing xs) k m in
           subst (λ i. kept p (drop i (x ∷ xs)) ≡ kept p (x ∷ xs)) (sym there.1) (later j there.0 ∙ sym (kept-no p x xs (g x f)))

@@ -1,7 +1,7 @@
 -- What a new element on the stack does to a track.
 use Rattle.std.proofs.Common.{◌≡◌, ℕ, suc, ◌+◌, ◌<◌, List, ◌∷◌, length, Bool, true, false, ◌||◌, ◌&&◌, not, refl, sym, ap, ◌∙◌, subst, arith, Option, None, Some}
 use Rattle.std.specs.Prelude.{All, IfSome}
-use Rattle.std.proofs.lemmas.Bool.{and_from, true≢false}
+use Rattle.std.proofs.lemmas.Bool.{and_from, true≢false, and_right}
 use Rattle.std.proofs.lemmas.List.Elements.{All-cons}
 use Rattle.hp_elements.specs.Names.{words}
 use Rattle.hp_control.specs.declared.element.OpenElement.{OpenElement}
@@ -19,12 +19,8 @@ use Rattle.hp_older.proofs.Tracking.{back-strong, place-loose}
 pub own-more : (s : ControlState) (names : List (List ℕ)) (e : OpenElement) (es : List OpenElement) → is_new s e ≡ true → named_in names e ≡ true → own_of s names (e ∷ es) ≡ e ∷ own_of s names es
 own-more s names e es n h = kept-yes (λ x. is_new s x && named_in names x) e es (and_from (is_new s e) (named_in names e) n h)
 
-and_no : (a b : Bool) → b ≡ false → (a && b) ≡ false
-and_no true b h = h
-and_no false b h = refl
-
 pub own-same : (s : ControlState) (names : List (List ℕ)) (e : OpenElement) (es : List OpenElement) → named_in names e ≡ false → own_of s names (e ∷ es) ≡ own_of s names es
-own-same s names e es h = kept-no (λ x. is_new s x && named_in names x) e es (and_no (is_new s e) (named_in names e) h)
+own-same s names e es h = kept-no (λ x. is_new s x && named_in names x) e es (and_right (is_new s e) (named_in names e) h)
 
 -- the element that is made next is free
 pub next-free : (c : ControlState) (e : OpenElement) → e.id ≡ c.next → AreIds 1 c.next (entry_ids c.formatting) → IfSome c.form (IsId c.next) → IsFree c.formatting c.form e
@@ -48,7 +44,7 @@ push_common w s c e g r n h =
       html = fewer s (words "html") key_names c.stack (e ∷ c.stack) refl k ∙ g.html;
       balance = subst (λ es. BalanceIs w.balance (length es) (length c.templates) (length s.templates)) (sym few) g.balance;
       free = subst (λ es. All (IsFree c.formatting c.form) es) (sym core) g.free;
-      top = (rooted-some c.stack r, ap not (and_no (is_new s e) (is_key e) h), n);
+      top = (rooted-some c.stack r, ap not (and_right (is_new s e) (is_key e) h), n);
       there = tt;
       cell = λ z. ap (comes (is_a "td th")) core ∙ g.cell z;
       select = λ z. ap (comes (is_a "select")) (fewer s (words "template select") key_names c.stack (e ∷ c.stack) refl k) ∙ g.select z;

@@ -3,7 +3,8 @@ use Rattle.std.proofs.Common.{◌≡◌, ℕ, ◌+◌, List, [], ◌∷◌, ◌+
 use Rattle.std.specs.Prelude.{if◌then◌else◌, All}
 use Rattle.std.specs.Option.{unwrap_or}
 use Rattle.std.specs.Str.{bytes_eq}
-use Rattle.std.proofs.lemmas.Bool.{and_parts, and_from, true≢false, lt-leb, le-leb}
+use Rattle.std.proofs.lemmas.Bool.{and_parts, and_from, true≢false, lt-leb, le-leb, false_from_ne_true}
+use Rattle.std.proofs.lemmas.Option.{none-some}
 use Rattle.std.proofs.lemmas.List.Elements.{All-head}
 use Rattle.hp_elements.specs.Names.{text_of, words}
 use Rattle.hp_elements.specs.declared.kinds.Kinds.TheVariants as kinds
@@ -20,7 +21,7 @@ use Rattle.hp_model.specs.Finding.{is_empty}
 use Rattle.hp_model.proofs.Thins.{ids_of}
 use Rattle.hp_older.specs.GoesOn.{comes, fits_mode, is_a, is_new, kept, no_new, own}
 use Rattle.hp_older.proofs.Kept.{kept-tail}
-use Rattle.hp_older.proofs.Keys.{named-named, named_in, not-true}
+use Rattle.hp_older.proofs.Keys.{named-named, named_in}
 use Rattle.hp_older.proofs.Levels.{core_names, own_of, template_names}
 use Rattle.hp_older.proofs.Pushing.{comes-one, own-more, own-same}
 use Rattle.hp_older.proofs.Tracking.{fits-alike}
@@ -150,10 +151,7 @@ of_fits s e es m srt f false false false false false false true h k = subst (λ 
   where
     some_mode : (a b : Mode) → Some b ≡ Some a → a ≡ b
     some_mode a b q = cc
-of_fits s e es m srt f false false false false false false false h k = absurd (none_some m k)
-  where
-    none_some : (a : Mode) → None ≡ Some a → ⊥
-    none_some a q = cc
+of_fits s e es m srt f false false false false false false false h k = absurd (none-some m k)
 
 no_frames : (tr sec cap col tab bod fra : Bool)
     → (if tr then Some mode.InRow else if sec then Some mode.InTableBody else if cap then Some mode.InCaption else if col then Some mode.InColumnGroup else if tab then Some mode.InTable else if bod then Some mode.InBody else if fra then Some mode.InFrameset else None) ≡ None → fra ≡ false
@@ -204,8 +202,8 @@ and_first a b h = (and_parts a b h).0
 passed_fits : (s : ControlState) (e : OpenElement) (es : List OpenElement) (m : Mode) → named_in template_names e ≡ false → named_in (words "select") e ≡ false → named_in (words "frameset") e ≡ false
     → (named_in (words "td th") e ≡ false) → fits_mode s m es ≡ true → fits_mode s m (e ∷ es) ≡ true
 passed_fits s e es m nt ns nf nc h =
-    let core : named_in core_names e ≡ false = not-true (named_in core_names e) (λ k. neither k) in
-    let choice : named_in (words "template select") e ≡ false = not-true (named_in (words "template select") e) (λ k. either_one k) in
+    let core : named_in core_names e ≡ false = false_from_ne_true (named_in core_names e) (λ k. neither k) in
+    let choice : named_in (words "template select") e ≡ false = false_from_ne_true (named_in (words "template select") e) (λ k. either_one k) in
     fits-alike s m es (e ∷ es) (own-same s core_names e es core) (own-same s (words "template select") e es choice) (own-same s template_names e es nt) (own-same s (words "frameset") e es nf) ∙ h
   where
     split : (x a b c : Bool) → (x && (a || (b || (c || false)))) ≡ true → (x && (a || false)) ≡ false → (x && (b || (c || false))) ≡ true

@@ -14,7 +14,13 @@ use Rattle.hp_model.proofs.Tally.{tally}
 use Rattle.hp_model.proofs.Thins.{Thins, entry_is, ids_of, tally-entries}
 use Rattle.hp_older.specs.GoesOn.{IsFree, comes, fits_mode, is_a, is_new, kept, no_new, own}
 use Rattle.hp_older.proofs.Levels.{Strong, Thin, Weak, core_names, fewer, key_names, own_of, template_names}
-use Rattle.hp_older.proofs.Track.{BackIs, BalanceIs, On, PlaceIs, Track, Where, at, fitted, lost, loose, strongly, thinly, weakly}
+use Rattle.hp_older.proofs.Track.{BackIs, BalanceIs, On, PlaceIs, Track, Where, at, fitted, lost, loose, strongly, thinly, weakly, Balance, even, over, under, is_even}
+
+-- on an even track there are as many new modes as new templates
+pub even_modes : (b : Balance) (templates modes older : ℕ) → is_even b ≡ true → BalanceIs b templates modes older → modes ≡ older + templates
+even_modes even templates modes older h k = k
+even_modes over templates modes older h k = absurd (true≢false (sym h))
+even_modes under templates modes older h k = absurd (true≢false (sym h))
 
 -- the ids of a stack's elements are used
 pub below-kept : (p : OpenElement → Bool) (low next : ℕ) (st : List OpenElement) → AreIds low next (ids_of st) → All (λ e. e.id < next) (kept p st)

@@ -3,7 +3,8 @@ use Rattle.std.proofs.Common.{◌≡◌, ℕ, suc, ◌+◌, ◌<◌, List, [], �
 use Rattle.std.specs.Prelude.{if◌then◌else◌, All}
 use Rattle.std.specs.Option.{is_some, option_map}
 use Rattle.std.specs.Str.{bytes_eq}
-use Rattle.std.proofs.lemmas.Bool.{and_parts, and_from, true≢false, lt-leb}
+use Rattle.std.proofs.lemmas.Bool.{and_parts, and_from, true≢false, lt-leb, false_from_ne_true}
+use Rattle.std.proofs.lemmas.Option.{none-some, same_Some}
 use Rattle.std.proofs.lemmas.List.Elements.{All-drop}
 use Rattle.hp_elements.specs.Names.{is_among, text_of, words}
 use Rattle.hp_elements.specs.declared.kinds.Kinds.TheVariants as kinds
@@ -22,7 +23,7 @@ use Rattle.hp_model.proofs.Thinning.{thinning_through_named}
 use Rattle.hp_model.proofs.Thins.{Thins}
 use Rattle.hp_older.specs.GoesOn.{IsFree, is_a, is_new, own}
 use Rattle.hp_older.proofs.Kept.{kept-drop, kept-part}
-use Rattle.hp_older.proofs.Keys.{apart-name, named_in, not-true}
+use Rattle.hp_older.proofs.Keys.{apart-name, named_in}
 use Rattle.hp_older.proofs.Popping.{all-popped, reach-short}
 use Rattle.hp_older.proofs.Effects.{named-of, root-apart}
 use Rattle.hp_older.proofs.Levels.{core_names, own_of, template_names}
@@ -32,23 +33,13 @@ use Rattle.hp_older.proofs.Resets.{below-older, is_sorted}
 use Rattle.hp_older.proofs.Track.{BalanceIs, On, Track, even, is_even, loose, over, thinly, under, PlaceIs}
 use Rattle.hp_older.proofs.Tracking.{below-kept, free-later, place-loose}
 
-none_some : (k : ℕ) → None ≡ Some k → ⊥
-none_some k h = cc
-
-same_depth : (a b : ℕ) → Some a ≡ Some b → b ≡ a
-same_depth a b h = cc
-
-and_off : (a b : Bool) → b ≡ false → (a && b) ≡ false
-and_off true b h = h
-and_off false b h = refl
-
 or_left_false : (b : Bool) → (b || false) ≡ true → b ≡ true
 or_left_false true h = refl
 or_left_false false h = absurd (true≢false (sym h))
 
 -- a template's name
 template_goal : (e : OpenElement) → within (kinds.Html (text_of known.Template)) e ≡ false → named_in template_names e ≡ false
-template_goal e h = not-true (named_in template_names e) (λ k. true≢false (sym (back k) ∙ h))
+template_goal e h = false_from_ne_true (named_in template_names e) (λ k. true≢false (sym (back k) ∙ h))
   where
     back : named_in template_names e ≡ true → within (kinds.Html (text_of known.Template)) e ≡ true
     back k =
@@ -58,7 +49,7 @@ template_goal e h = not-true (named_in template_names e) (λ k. true≢false (sy
 
 -- past the nearest template: the first of the new ones, or none is new
 pub past-template : (s : ControlState) (st : List OpenElement) → is_sorted s st ≡ true → (k : ℕ) → reach (kinds.Html (text_of known.Template)) kinds.Nothing st ≡ Some k → own_of s template_names (drop (k + 1) st) ≡ drop 1 (own_of s template_names st)
-past-template s [] srt k e = absurd (none_some k e)
+past-template s [] srt k e = absurd (none-some k e)
 past-template s (y ∷ ys) srt k e = go (within (kinds.Html (text_of known.Template)) y) refl e (λ j q. past-template s ys (and_parts _ (is_sorted s ys) srt).1 j q)
   where
     here : (b : Bool) → is_new s y ≡ b → named_in template_names y ≡ true → own_of s template_names ys ≡ drop 1 (own_of s template_names (y ∷ ys))
@@ -73,7 +64,7 @@ past-template s (y ∷ ys) srt k e = go (within (kinds.Html (text_of known.Templ
     go : (a : Bool) → within (kinds.Html (text_of known.Template)) y ≡ a → (if a then Some 0 else option_map suc (reach (kinds.Html (text_of known.Template)) kinds.Nothing ys)) ≡ Some k
         → ((j : ℕ) → reach (kinds.Html (text_of known.Template)) kinds.Nothing ys ≡ Some j → own_of s template_names (drop (j + 1) ys) ≡ drop 1 (own_of s template_names ys))
         → own_of s template_names (drop (k + 1) (y ∷ ys)) ≡ drop 1 (own_of s template_names (y ∷ ys))
-    go true f p later = subst (λ i. own_of s template_names (drop (i + 1) (y ∷ ys)) ≡ drop 1 (own_of s template_names (y ∷ ys))) (sym (same_depth 0 k p)) (here (is_new s y) refl (named-of (text_of known.Template) y f))
+    go true f p later = subst (λ i. own_of s template_names (drop (i + 1) (y ∷ ys)) ≡ drop 1 (own_of s template_names (y ∷ ys))) (same_Some 0 k p) (here (is_new s y) refl (named-of (text_of known.Template) y f))
     go false f p later =
         let (j, there) = deeper (reach (kinds.Html (text_of known.Template)) kinds.Nothing ys) k p in
         let more : suc (j + 1) ≡ k + 1 = omega (arith, there.1) in

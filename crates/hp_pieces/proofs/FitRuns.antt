@@ -20,7 +20,7 @@ use Rattle.hp_control.specs.States.{ControlState, IsValid, LexFits, StackFits, l
 use Rattle.hp_lexer.specs.Table.{table}
 use Rattle.hp_model.proofs.Running.{runs-valid}
 use Rattle.hp_model.specs.Handling.{handle}
-use Rattle.hp_model.specs.Runs.{Parser, Step, rests, goes, Goes, here, onward, at_lexing, built, followed_by, step, step_by, switched, told}
+use Rattle.hp_model.specs.Runs.{Parser, RunsTo, Step, rests, goes, Goes, here, onward, at_lexing, built, followed_by, step, step_by, switched, told}
 use Rattle.hp_run.proofs.TableRows.{table_read}
 use Rattle.hp_run.specs.Pages.{Runs}
 use Rattle.hp_pieces.specs.Running.{parser_in, state_at}
@@ -55,13 +55,16 @@ goes_keep here h = h
 goes_keep {p} (onward {q = q} {es = es} e g) h =
     goes_keep g (subst StepKeeps e (step_keeps p (move (table built_in) p.lexing) p.lexing.machine.state p.lexing.unread (move_keeps p.lexing h)))
 
--- where no step is made, what is unread decides nothing yet
-rest_ahead : (p : Parser) (m : Move) (s : State) (text : List ℕ) → MoveKeeps s text m → ((q : Parser) (es : List Edit) → step_by p m ≡ goes q es → ⊥) → may_be_ahead s text ≡ true
-rest_ahead p needs_more s text k n = k
-rest_ahead p (asks_cdata f h) s text k n = absurd (n _ _ refl)
-rest_ahead p asks_last_tag s text k n = absurd k
-rest_ahead p (makes l es) s text k n = absurd (n _ _ refl)
-rest_ahead p (ends es) s text k n = absurd k
+-- where no step is made, more text is needed
+needs : (p : Parser) (m : Move) (s : State) (text : List ℕ) → MoveKeeps s text m → ((q : Parser) (es : List Edit) → step_by p m ≡ goes q es → ⊥) → m ≡ needs_more
+needs p needs_more s text k n = refl
+needs p (asks_cdata f h) s text k n = absurd (n _ _ refl)
+needs p asks_last_tag s text k n = absurd k
+needs p (makes l es) s text k n = absurd (n _ _ refl)
+needs p (ends es) s text k n = absurd k
+
+needs_there : {p there : Parser} {es : List Edit} → RunsTo (table built_in) p es there → Fits there.lexing.machine → move (table built_in) there.lexing ≡ needs_more
+needs_there {p} {there} run h = needs there (move (table built_in) there.lexing) there.lexing.machine.state there.lexing.unread (move_keeps there.lexing h) run.rests.no_step
 
 -- the parts, one by one
 from_parts : (m : Machine) → enter m.state m ≡ m → IsSome m.last_tag → Fits m
@@ -108,9 +111,7 @@ lex_fits : (s : ControlState) (text : List ℕ) (es : List Edit) (there : Parser
 lex_fits s text es there run f =
     let h : Fits there.lexing.machine = goes_keep run.goes (from_parts s.lex.machine f.parts f.last_tag) in record {
       parts = to_parts there.lexing.machine h;
-      ahead =
-          rest_ahead there (move (table built_in) there.lexing) there.lexing.machine.state there.lexing.unread (move_keeps there.lexing h)
-          (λ q fs e. run.rests.no_step q fs e);
+      ahead = subst (MoveKeeps there.lexing.machine.state there.lexing.unread) (needs_there run h) (move_keeps there.lexing h);
       last_tag = h.told;
     }
 
@@ -125,6 +126,10 @@ pub never_asked : (text : List ℕ) (s : ControlState) (p : Parser) (es : List E
     → move (table built_in) p.lexing ≡ asks_last_tag → ⊥
 never_asked text s p es v g e =
     subst (MoveKeeps p.lexing.machine.state p.lexing.unread) e (move_keeps p.lexing (goes_keep g (from_parts s.lex.machine v.lex.parts v.lex.last_tag)))
+
+-- it rests only where more text is needed
+pub rests_for_more : (text : List ℕ) (s : ControlState) (p : Parser) (es : List Edit) → IsValid s → Runs built_in (parser_in s) text es p → move (table built_in) p.lexing ≡ needs_more
+rests_for_more text s p es v run = needs_there run (goes_keep run.goes (from_parts s.lex.machine v.lex.parts v.lex.last_tag))
 
 -- where more text is needed, what was read ahead may go on
 pub rests-ahead : (text : List ℕ) (s : ControlState) (p : Parser) (es : List Edit) (l : Lexing) → IsValid s → Goes (step (table built_in)) (followed_by (parser_in s) text) es p

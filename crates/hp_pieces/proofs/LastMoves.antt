@@ -1,8 +1,7 @@
 -- The moves at the end of input, where what was read ahead has no `>`: but for the last they emit characters alone.
 use Rattle.std.proofs.Common.{◌≡◌, ℕ, zero, suc, List, [], ◌∷◌, Bool, true, false, ◌&&◌, cond, drop, refl, ap, ◌∙◌, subst, sym, Option, None, Some, ◌⊎◌, inl, inr}
 use Rattle.std.specs.Prelude.{◌==◌, IsTrue, not}
-use Rattle.std.proofs.lemmas.Bool.{and_parts, both_ways, eqb-true, eq-eqb, not-true}
-use Rattle.hp_elements.specs.declared.token.Token.{Token}
+use Rattle.std.proofs.lemmas.Bool.{and_parts, both_ways, eq-eqb, not-true}
 use Rattle.hp_names.specs.References.{Reference}
 use Rattle.hp_names.specs.Longest.{longest}
 use Rattle.hp_names.specs.declared.names.Found.{Found}
@@ -11,7 +10,7 @@ use Rattle.hp_tokens.specs.declared.rows.Reads.TheVariants.{Consume, Again, End}
 use Rattle.hp_tokens.specs.declared.state.State.{State}
 use Rattle.hp_tokens.specs.declared.state.State.TheVariants.{NamedCharacterReference, MarkupDeclarationOpen, AfterDoctypeName}
 use Rattle.hp_tokens.specs.Advancing.{tokens_of}
-use Rattle.hp_tokens.specs.Moves.{Lexing, Move, needs_more, makes, ends, after_row, after_end, all_began, after_pair, end_move_on, end_move, read_as, row_end}
+use Rattle.hp_tokens.specs.Moves.{Lexing, Move, needs_more, makes, ends, after_row, after_end, after_pair, end_move_on, end_move, read_as, row_end}
 use Rattle.hp_tokens.specs.Rows.{Row, flushed_tokens}
 use Rattle.hp_lex_tags.specs.Named.{reference_move, with_found}
 use Rattle.hp_lex_tags.specs.Tags as tags
@@ -24,13 +23,14 @@ use Rattle.hp_lex_markup.specs.Words.{count, word}
 use Rattle.hp_lex_markup.specs.declared.words.Word.{Word}
 use Rattle.hp_lexer.specs.Table.{table}
 use Rattle.hp_model.specs.Runs.{AreRead}
-use Rattle.hp_run.proofs.ReadRows.{AllRead, IsHtml, flushed-read}
+use Rattle.hp_run.proofs.ReadRows.{IsHtml, flushed-read}
 use Rattle.hp_run.proofs.TagRows as tag_read
 use Rattle.hp_run.proofs.RawRows as raw_read
 use Rattle.hp_run.proofs.MarkupRows as markup_read
+use Rattle.hp_run.proofs.TableRows.{began_read}
 use Rattle.hp_steps.specs.Closing.{AreCharacters}
-use Rattle.hp_steps.proofs.Began.{tokens-began}
 use Rattle.hp_steps.proofs.ClosingRows.{Closes, flushed-alone}
+use Rattle.hp_steps.proofs.ClosingTable.{began_alone, is_greater}
 use Rattle.hp_steps.proofs.ClosingTags as tag_closes
 use Rattle.hp_steps.proofs.ClosingRaw as raw_closes
 use Rattle.hp_steps.proofs.ClosingMarkup as markup_closes
@@ -43,21 +43,10 @@ Last u (makes m es) = AreRead es × (has_none u ≡ true → (has_none m.unread 
 Last u (ends es) = AreRead es
 Last u _ = Unit {0}
 
-began_read : (place : ℕ) (ts : List Token) → AllRead ts → AreRead (all_began place ts)
-began_read place [] h = tt
-began_read place (t ∷ ts) h = (h.0, began_read place ts h.1)
-
-began_alone : (place : ℕ) (ts : List Token) → AreCharacters ts → AreCharacters (tokens_of (all_began place ts))
-began_alone place ts h = subst AreCharacters (sym (tokens-began place ts)) h
-
 none_dropped : (n : ℕ) (u : List ℕ) → has_none u ≡ true → has_none (drop n u) ≡ true
 none_dropped zero u h = h
 none_dropped (suc n) [] h = refl
 none_dropped (suc n) (c ∷ cs) h = none_dropped n cs (and_parts (not (c == 62)) (has_none cs) h).1
-
-is_greater : (c : ℕ) (b : Bool) → (cond b 10 c == 62) ≡ true → c ≡ 62
-is_greater c true h = cc
-is_greater c false h = eqb-true c 62 h
 
 -- the code point is no `>`
 no_greater : (c : ℕ) (cs : List ℕ) → has_none (c ∷ cs) ≡ true → (read_as c == 62) ≡ true → ⊥

@@ -13,11 +13,12 @@ use Rattle.hp_lexer.specs.Table.{table}
 use Rattle.hp_model.specs.Handling.{handle}
 use Rattle.hp_model.specs.Runs.{AreRead, EndsWith, last, before_it}
 use Rattle.hp_steps.specs.Closing.{EndsAtTag}
-use Rattle.hp_steps.specs.Handling.{AllRead, AreQuiet, left_after, made_after}
+use Rattle.hp_run.specs.Tokens.{AllRead}
+use Rattle.hp_steps.specs.Handling.{AreQuiet, left_after, made_after}
 use Rattle.hp_steps.proofs.Batches.{at, built-made, made-append, quiet-step}
 use Rattle.hp_steps.proofs.Began.{tokens-append}
 use Rattle.hp_steps.proofs.Quiet.{characters-quiet}
-use Rattle.hp_steps.proofs.Together.{runs-read}
+use Rattle.hp_steps.proofs.Together.{runs-read, read-join}
 use Rattle.hp_pieces.proofs.Ahead.{ahead-ends, has_none}
 use Rattle.hp_pieces.proofs.LastMoves.{Last, end_move-last}
 
@@ -36,10 +37,6 @@ none-before (x ∷ xs) h = none-here x xs (x == 62) refl h.0 (none-before xs h.1
 
 pub ahead-none : (s : State) (xs : List ℕ) → may_be_ahead s xs ≡ true → has_none xs ≡ true
 ahead-none s xs h = none-before xs (ahead-ends s xs (62 ∷ []) h (λ e. refl, tt))
-
-read-join : (es fs : List Emitted) → AreRead es → AreRead fs → AreRead (es ++ fs)
-read-join [] fs h k = k
-read-join (e ∷ es) fs h k = (h.0, read-join es fs h.1 k)
 
 module _ (names : List Reference) where
   leads-read : {l k : Lexing} {es : List Emitted} → Leads (end_move (table names)) l es k → AreRead es

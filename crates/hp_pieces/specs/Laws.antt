@@ -12,8 +12,9 @@ use Rattle.hp_lexer.specs.Table.{table}
 use Rattle.hp_model.specs.AtOnce.{MakeSame}
 use Rattle.hp_model.specs.Handling.{handle}
 use Rattle.hp_model.specs.Runs.{EndsWith, Goes, Parser, followed_by, step}
-use Rattle.hp_run.specs.Pages.{IsTreeOf}
-use Rattle.hp_steps.specs.Handling.{AllRead, made_after}
+use Rattle.hp_run.specs.Pages.{IsTreeOf, Runs}
+use Rattle.hp_run.specs.Tokens.{AllRead}
+use Rattle.hp_steps.specs.Handling.{made_after}
 use Rattle.hp_pieces.specs.Running.{Ends, Leads, parser_in}
 
 -- from each state there is a run over each text
@@ -40,6 +41,10 @@ PageBuilt = (page : List ℕ) (t : ControlState) (es fs : List Edit) → Leads p
 abbrev pub NeverAsked : Type 0
 NeverAsked = (text : List ℕ) (s : ControlState) (p : Parser) (es : List Edit) → IsValid s → Goes (step (table built_in)) (followed_by (parser_in s) text) es p
     → move (table built_in) p.lexing ≡ asks_last_tag → ⊥
+
+-- it rests only where more text is needed
+abbrev pub RestsForMore : Type 0
+RestsForMore = (text : List ℕ) (s : ControlState) (p : Parser) (es : List Edit) → IsValid s → Runs built_in (parser_in s) text es p → move (table built_in) p.lexing ≡ needs_more
 
 -- Where the lexer of such a run needs more text, what it read ahead is the front of a word or of a reference's name that may go on.
 abbrev pub RestsAhead : Type 0

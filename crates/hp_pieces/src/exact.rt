@@ -40,7 +40,7 @@ impl<'p> Exact<'p> {
         }
     }
 
-    /// The text.
+    /// The text, in bytes.
     pub fn text(&self) -> &'p [u8]
         ensures text { result.now ≡ self.now.text }
         ensures run { IsRun self.now }

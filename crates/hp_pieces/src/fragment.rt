@@ -13,7 +13,7 @@ pub enum Fragment<'p> {
 impl<'p> Fragment<'p> {
     ghost use Rattle.hp_pieces.specs.Texts.{covered_of, text_of};
 
-    /// The text of which it is a fragment.
+    /// The text of which it is a fragment, in bytes.
     pub fn text(&self) -> &'p [u8]
         ensures { result.now ≡ text_of self.now }
     {

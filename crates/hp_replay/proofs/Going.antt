@@ -1,5 +1,5 @@
 -- A step is followed by another.
-use Rattle.std.proofs.Common.{◌≡◌, ℕ, ◌<◌, ◌≤◌, List, true, ap, ◌∙◌, arith, subst, sym}
+use Rattle.std.proofs.Common.{◌≡◌, ℕ, ◌<◌, ◌≤◌, List, true, ap, ◌∙◌, subst, sym}
 use Rattle.hp_elements.specs.declared.token.Token.{Token}
 use Rattle.hp_tokens.specs.Advancing.{held}
 use Rattle.hp_tokens.specs.Reading.{Unread}
@@ -7,12 +7,9 @@ use Rattle.hp_lexer.specs.declared.lexer.Lexer.{Lexer}
 use Rattle.hp_lexer.specs.declared.lexer.Step.TheVariants as steps
 use Rattle.hp_lexer.specs.Standing.{StepsFall, Stepped, SwitchesFall, is_answered, load}
 use Rattle.hp_model.specs.AtOnce.{handle_at_once}
-use Rattle.hp_steps.proofs.Lexers.{asked-after, held-after, load-after, names-after}
+use Rattle.hp_steps.proofs.Lexers.{asked-after, held-after, load-after, names-after, fits-on}
 use Rattle.hp_replay.specs.Reading.{IsReady, StepsOn, Took, control_in}
 use Rattle.hp_replay.specs.declared.running.Running.{Running}
-
-fits-on : (a b c d : ℕ) → b ≤ d → c ≡ d → a ≡ b → a ≤ c
-fits-on a b c d h e f = omega (arith, h, e, f)
 
 pub steps-took : StepsFall → SwitchesFall → (old mid new : Running) (began : ℕ) (tokens : List Token) → Stepped old.lexer old.input mid.lexer mid.input (steps.Tokens began tokens) → IsReady old → mid.lexer.names ≡ old.lexer.names
     → held mid.lexer.lex ≤ mid.input.place → Took mid new tokens → StepsOn old new true

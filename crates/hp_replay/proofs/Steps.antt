@@ -5,7 +5,6 @@ use Rattle.hp_names.specs.BuiltIn.{built_in}
 use Rattle.hp_names.specs.References.{Reference}
 use Rattle.hp_tokens.specs.Advancing.{AreRuns}
 use Rattle.hp_tokens.specs.Moves.{Lexing, Move, needs_more, asks_cdata, asks_last_tag, move}
-use Rattle.hp_tokens.specs.Reading.{Unread}
 use Rattle.hp_tokens.specs.Runs.{Leads, followed_by as more_unread}
 use Rattle.hp_control.specs.Composed.{is_foreign_now}
 use Rattle.hp_control.specs.Faithful.{Split}
@@ -14,8 +13,6 @@ use Rattle.hp_control.specs.Tree.{Tree, applied_all}
 use Rattle.hp_control.specs.declared.edit.Edit.{Edit}
 use Rattle.hp_views.specs.View.{split_of}
 use Rattle.hp_lexer.specs.declared.lexer.Asked.TheVariants as asked
-use Rattle.hp_lexer.specs.declared.lexer.Lexer.{Lexer}
-use Rattle.hp_lexer.specs.declared.lexer.Step.{Step}
 use Rattle.hp_lexer.specs.declared.lexer.Step.TheVariants as steps
 use Rattle.hp_lexer.specs.Standing.{stands, stands_answered, ReachesCdata, ReachesCut, Stepped}
 use Rattle.hp_lexer.specs.Table.{table}
@@ -23,13 +20,14 @@ use Rattle.hp_model.specs.AtOnce.{MakeSame, RunsAtOnce, handle_at_once}
 use Rattle.hp_model.specs.Runs.{Parser, followed_by}
 use Rattle.hp_steps.specs.Alike.{Alike, SameMove}
 use Rattle.hp_steps.specs.Closing.{EndsAtTag}
-use Rattle.hp_steps.specs.Handling.{AllRead, left_after, lexer_after, made_after, turned_by}
+use Rattle.hp_run.specs.Tokens.{AllRead}
+use Rattle.hp_steps.specs.Handling.{left_after, lexer_after, made_after, turned_by}
 use Rattle.hp_steps.specs.Standing.{HasGone}
 use Rattle.hp_steps.proofs.Batches.{at}
 use Rattle.hp_steps.proofs.ClosingTable.{Leads-close, MoveCloses, move-closes}
 use Rattle.hp_steps.proofs.Shifting.{move-same}
 use Rattle.hp_steps.proofs.Standing.{AnsweredFrom, asks-from, like-from, silent-from}
-use Rattle.hp_steps.proofs.Lexers.{alike-after, unread-after}
+use Rattle.hp_steps.proofs.Lexers.{alike-after, unread-after, same-alike}
 use Rattle.hp_steps.proofs.Stepping.{Further, Moved, batch-further, moved-so, silent-moves, stepped-read}
 use Rattle.hp_steps.proofs.Together.{applied-append}
 use Rattle.hp_pieces.specs.Laws.{NeverAsked}
@@ -38,10 +36,6 @@ use Rattle.hp_replay.specs.Collecting.{control_of, edits_of}
 use Rattle.hp_replay.specs.Reading.{HasEnded, IsReady, IsWithin, Reads, ReadsOn, Took, control_in, edits_in}
 use Rattle.hp_replay.specs.declared.running.Running.{Running}
 
--- what a step is
-pub told-step : (old : Lexer) (old_input : Unread) (new : Lexer) (new_input : Unread) (step other : Step) → step ≡ other → Stepped old old_input new new_input step → Stepped old old_input new new_input other
-told-step old old_input new new_input step other is h = subst (Stepped old old_input new new_input) is h
-
 -- the piece goes on, or it is used up
 pub reads-more : (piece : List ℕ) (from : ControlState) (before : List Edit) (r : Running) (more : Bool) → more ≡ false → ReadsOn piece from before r more → HasEnded piece from before r
 reads-more piece from before r more is h = subst (ReadsOn piece from before r) is h
@@ -49,12 +43,6 @@ reads-more piece from before r more is h = subst (ReadsOn piece from before r) i
 -- the parser before the piece
 abbrev start : List ℕ → ControlState → Parser
 start piece from = followed_by (parser_in from) piece
-
-same-alike : (a b : Lexer) (x y : Unread) → a ≡ b → x ≡ y → Alike (stands a x) (stands b y)
-same-alike a b x y e f = record { machine = ap (λ (l : Lexing). l.machine) both; unread = ap (λ (l : Lexing). l.unread) both }
-  where
-    both : stands a x ≡ stands b y
-    both = ap (λ (l : Lexer). stands l x) e ∙ ap (λ (u : Unread). stands b u) f
 
 -- edits behind the ones of the piece, which stand behind those before it
 made-behind : (new old before edits more made : List Edit) → MakeSame new (old ++ made) → MakeSame old (before ++ edits) → MakeSame more made → MakeSame new (before ++ (edits ++ more))

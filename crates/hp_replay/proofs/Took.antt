@@ -9,11 +9,13 @@ use Rattle.hp_control.specs.declared.edit.Edit.{Edit}
 use Rattle.hp_views.specs.View.{split_of}
 use Rattle.hp_model.specs.AtOnce.{MakeSame, RunsAtOnce, handle_at_once}
 use Rattle.hp_model.specs.Turns.{left_by}
-use Rattle.hp_steps.specs.Handling.{AllRead, left_after, lexer_after, made_after, turned}
+use Rattle.hp_run.specs.Tokens.{AllRead}
+use Rattle.hp_steps.specs.Handling.{left_after, lexer_after, made_after, turned}
+use Rattle.hp_steps.proofs.Together.{at_once-valid}
 use Rattle.hp_replay.specs.Collecting.{Collects, IsKnown}
 use Rattle.hp_replay.specs.Reading.{Took, TookOne, control_in, edits_in}
 use Rattle.hp_replay.specs.declared.running.Running.{Running}
-use Rattle.hp_replay.proofs.Toward.{at_once-valid, same-behind}
+use Rattle.hp_replay.proofs.Toward.{same-behind}
 
 -- one token
 pub took_one : (old new : Running) (t : Token) (to : Option Rest) → Collects (split_of old.view) (split_of new.view) t to → new.input ≡ old.input → new.lexer ≡ turned to old.lexer → TookOne old new t

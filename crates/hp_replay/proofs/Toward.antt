@@ -7,12 +7,11 @@ use Rattle.hp_control.specs.Faithful.{Split}
 use Rattle.hp_control.specs.States.{ControlState, IsValid}
 use Rattle.hp_control.specs.Tree.{Tree, applied_all}
 use Rattle.hp_control.specs.declared.edit.Edit.{Edit}
-use Rattle.hp_model.proofs.Handled.{handle-valid}
 use Rattle.hp_model.specs.AtOnce.{MakeSame, RunsAtOnce, handle_at_once}
 use Rattle.hp_model.specs.Turns.{left_by}
-use Rattle.hp_model.specs.Whole.{IsRead}
-use Rattle.hp_steps.specs.Handling.{AllRead, left_after, made_after}
-use Rattle.hp_steps.proofs.Together.{applied-append}
+use Rattle.hp_run.specs.Tokens.{AllRead}
+use Rattle.hp_steps.specs.Handling.{left_after, made_after}
+use Rattle.hp_steps.proofs.Together.{applied-append, at_once-valid}
 use Rattle.hp_replay.specs.Collecting.{Collects, CollectsAll, IsKnown, control_of, edits_of}
 
 -- what is left to do leads to what all tokens do
@@ -25,10 +24,6 @@ pub record Toward (start now : Split) (tokens rest : List Token) : Type 0 where
 
 pub toward_start : (v : Split) (tokens : List Token) → IsKnown v → AllRead tokens → AreRuns tokens → Toward v v tokens tokens
 toward_start v tokens h read runs = record { read = read; runs = runs; known = h; control = refl; edits = λ t. refl }
-
--- a token at once leaves a valid state
-pub at_once-valid : RunsAtOnce → (t : Token) (c : ControlState) → IsRead t → AreRuns (t ∷ []) → IsValid c → IsValid (left_by (handle_at_once c t))
-at_once-valid law t c read runs v = subst IsValid (law t c read runs.0 v).control (handle-valid t c read v)
 
 -- edits of the same effect, with more behind them
 pub same-behind : (es fs gs : List Edit) → MakeSame es fs → MakeSame (es ++ gs) (fs ++ gs)
@@ -71,7 +66,3 @@ pub told_on : (f : Edit → Edit) (old new before rest all : List Edit) (edit to
 told_on f old new before rest all edit told h is same made =
     ap (λ (es : List Edit). es ++ map f rest) (made ∙ ap (λ (e : Edit). old ++ e ∷ []) same)
     ∙ (append_assoc old (f edit ∷ []) (map f rest) ∙ (sym (ap (λ (es : List Edit). old ++ map f es) is) ∙ h))
-
--- the next of tokens as the lexer reads them
-pub next_read : (before rest : List Token) (t : Token) → AllRead before → before ≡ t ∷ rest → IsRead t × AllRead rest
-next_read before rest t h is = subst AllRead is h

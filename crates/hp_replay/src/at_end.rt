@@ -1,4 +1,4 @@
-// The end of input.
+//! The end of input.
 ghost use Rattle.std.specs.Prelude.{◌≡◌, [], map, IfOk, OnOk};
 ghost use Rattle.hp_control.specs.Apply.{named_edit};
 ghost use Rattle.hp_control.specs.Nothing.{nothing};

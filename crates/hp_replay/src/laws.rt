@@ -1,4 +1,4 @@
-// The laws of runs from known states that a run cites, each apart from the others.
+//! The laws of runs from known states that a run cites, each apart from the others.
 ghost use Rattle.hp_pieces.specs.Laws.{LeadsJoin, LeadsValid, NeverAsked};
 
 /// The run over two texts in a row is that over the first and then that over the second.

@@ -1,4 +1,4 @@
-// What a fault leaves behind is given back here, one function for each type, so that its drop stands in one place.
+//! What a fault leaves behind is given back here, one function for each type, so that its drop stands in one place.
 ghost use Rattle.std.specs.Prelude.{◌≡◌};
 
 use hp_control::{Change, Control, Edits, Nothing};

@@ -1,4 +1,4 @@
-// The run over a chunk.
+//! The run over a chunk.
 ghost use Rattle.std.specs.Prelude.{◌≡◌, IfOk, slice_range};
 ghost use Rattle.hp_text.specs.Page.{text_of as page_text};
 ghost use Rattle.hp_control.specs.States.{IsValid};

@@ -1,4 +1,4 @@
-// The run of the sequential parser over a text from a known state.
+//! The run of the sequential parser over a text from a known state.
 ghost use Rattle.std.specs.Prelude.{◌≡◌, ◌≢◌, ℕ, List, [], true, false, IfOk, OnOk};
 ghost use Rattle.std.specs.Str.{chars};
 ghost use Rattle.hp_tokens.specs.Advancing.{AreRuns};
@@ -9,7 +9,7 @@ ghost use Rattle.hp_views.specs.View.{split_of};
 ghost use Rattle.hp_lexer.specs.declared.lexer.Asked.TheVariants as asked;
 ghost use Rattle.hp_model.specs.Whole.{IsRead};
 ghost use Rattle.hp_steps.specs.Closing.{EndsAtTag};
-ghost use Rattle.hp_steps.specs.Handling.{AllRead};
+ghost use Rattle.hp_run.specs.Tokens.{AllRead};
 ghost use Rattle.hp_replay.specs.Collecting.{control_of, edits_of, IsKnown};
 ghost use Rattle.hp_replay.specs.Reading.{edits_in, state_of, HasEnded, IsAtEnd, IsBetween, IsReady, IsWithin, RanOver, Reads, ReadsOn, StepsOn, Took, TookOne};
 

@@ -1,4 +1,4 @@
-// Edits in which each element is told by its id.
+//! Edits in which each element is told by its id.
 ghost use Rattle.std.specs.Prelude.{◌≡◌, map, IfOk};
 ghost use Rattle.hp_control.specs.Apply.{named_edit};
 ghost use Rattle.hp_control.specs.Nothing.{nothing};

@@ -10,8 +10,3 @@ pub mod SparseRawRows
 pub mod SparseMarkupRows
 pub mod SparseTable
 pub mod Bounded
-pub mod ToldRows
-pub mod ToldTagRows
-pub mod ToldRawRows
-pub mod ToldMarkupRows
-pub mod ToldTable

@@ -9,11 +9,7 @@ use Rattle.hp_tokens.specs.declared.machine.Machine.{Machine}
 use Rattle.hp_tokens.specs.States.{return_state, is_in_value}
 use Rattle.hp_tokens.specs.Parts.{built, put}
 use Rattle.hp_tokens.specs.Rows.{Row, character, go, again, stay, plus, ended, back, without_built, emitting_built, emitting_buffer, flushing, flushed_tokens}
-use Rattle.hp_model.specs.Whole.{IsRead}
-
-abbrev pub AllRead : List Token → Type 0
-AllRead [] = Unit {0}
-AllRead (t ∷ ts) = IsRead t × AllRead ts
+use Rattle.hp_run.specs.Tokens.{AllRead}
 
 pub record IsHtml (r : Row) : Type 0 where
   pub read : AllRead r.emits

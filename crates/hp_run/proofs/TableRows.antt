@@ -22,7 +22,8 @@ use Rattle.hp_lex_markup.specs.Words.{asks, count, is_open, word}
 use Rattle.hp_lex_markup.specs.declared.words.Word.{Word}
 use Rattle.hp_lexer.specs.Table.{table}
 use Rattle.hp_model.specs.Runs.{AreRead, ReadsHtml}
-use Rattle.hp_run.proofs.ReadRows.{AllRead, IsHtml, flushed-read}
+use Rattle.hp_run.specs.Tokens.{AllRead}
+use Rattle.hp_run.proofs.ReadRows.{IsHtml, flushed-read}
 use Rattle.hp_run.proofs.TagRows as tag_read
 use Rattle.hp_run.proofs.RawRows as raw_read
 use Rattle.hp_run.proofs.MarkupRows as markup_read
@@ -31,7 +32,7 @@ abbrev MoveReads : Move → Type 0
 MoveReads (makes l es) = AreRead es
 MoveReads _ = Unit {0}
 
-began_read : (place : ℕ) (ts : List Token) → AllRead ts → AreRead (all_began place ts)
+pub began_read : (place : ℕ) (ts : List Token) → AllRead ts → AreRead (all_began place ts)
 began_read place [] h = tt
 began_read place (t ∷ ts) h = (h.0, began_read place ts h.1)
 

@@ -1,17 +1,19 @@
 -- The sequential parser by the rules of the standard's 80 states of the lexer (13.2.5), over any table of reference names.
 use Rattle.std.specs.Prelude.{◌≡◌, ℕ, ◌≤◌, ◌^◌, List, ◌++◌, length}
 use Rattle.hp_names.specs.References.{Reference}
-use Rattle.hp_tokens.specs.Moves.{asks_last_tag, move, needs_more}
 use Rattle.hp_control.specs.declared.edit.Edit.{Edit}
 use Rattle.hp_control.specs.States.{Fits, IsValid}
 use Rattle.hp_control.specs.Tree.{Tree}
 use Rattle.hp_lexer.specs.Table.{table}
-use Rattle.hp_model.specs.Runs.{Goes, Parser, Parses, RunsOver, at_start, followed_by, step}
+use Rattle.hp_model.specs.Runs.{Parser, Parses, RunsOver, at_start}
 
--- the run over a text, and the tree of a page
+-- The run over a text: the parser steps through it until no step is made.
 abbrev pub Runs : List Reference → Parser → List ℕ → List Edit → Parser → Type 0
 Runs names old text edits new = RunsOver (table names) old text edits new
 
+-- The tree of a page (13.2): the parser steps through the page from its start until no step is made, which over the built-in names
+-- is where it needs more text (RestsForMore of hp_pieces), then takes the end of input, and the edits of both, applied to the
+-- document alone, give the tree.
 abbrev pub IsTreeOf : List Reference → List ℕ → Tree → Type 0
 IsTreeOf names page tree = Parses (table names) page tree
 
@@ -42,10 +44,3 @@ TreesExist = (names : List Reference) (page : List ℕ) → (tree : Tree) × IsT
 abbrev pub PagesFit : Type 0
 PagesFit = (names : List Reference) (new : Parser) (text : List ℕ) (es : List Edit) → Runs names at_start text es new
     → (length new.control.formatting ≤ length text) × (length text ≤ 2 ^ 24 → Fits new.control)
-
--- along a run over a page the last start tag's name is never asked, and the run rests only where more text is needed
-abbrev pub NeverAsked : Type 0
-NeverAsked = (names : List Reference) (page : List ℕ) (p : Parser) (es : List Edit) → Goes (step (table names)) (followed_by at_start page) es p → move (table names) p.lexing ≡ asks_last_tag → ⊥
-
-abbrev pub RestsForMore : Type 0
-RestsForMore = (names : List Reference) (page : List ℕ) (new : Parser) (es : List Edit) → Runs names at_start page es new → move (table names) new.lexing ≡ needs_more

@@ -2,7 +2,7 @@
 //! and laws on contracts whose bodies do nothing.
 #![tactic(auto)]
 
-ghost use Rattle.hp_run.specs.Pages.{Joined, NeverAsked, OneTree, PagesFit, PagesStayValid, RestsForMore, RunsExist, StayValid, TreesExist};
+ghost use Rattle.hp_run.specs.Pages.{Joined, OneTree, PagesFit, PagesStayValid, RunsExist, StayValid, TreesExist};
 
 /// The run over two texts in a row is the run over the second from where the first led; runs keep states valid, and so each
 /// state that a run over a page leads to is valid, and fits: at most an entry a code point, and ids below 2^60; there is a run over
@@ -15,10 +15,4 @@ pub fn pages()
     ensures tree { OneTree }
     ensures run_exists { RunsExist }
     ensures tree_exists { TreesExist }
-{}
-
-/// Along a run over a page the last start tag's name is never asked, and the run rests only where more text is needed.
-pub fn resting()
-    ensures asked { NeverAsked }
-    ensures rests { RestsForMore }
 {}

@@ -20,7 +20,8 @@ use Rattle.hp_model.specs.Handling.{handle}
 use Rattle.hp_model.specs.Runs.{Parser, rests, goes, step_by}
 use Rattle.hp_run.specs.Pages.{IsTreeOf}
 use Rattle.hp_steps.specs.Alike.{SameMove}
-use Rattle.hp_steps.specs.Handling.{AllRead, made_after}
+use Rattle.hp_run.specs.Tokens.{AllRead}
+use Rattle.hp_steps.specs.Handling.{made_after}
 use Rattle.hp_steps.specs.Standing.{HasRead}
 use Rattle.hp_steps.proofs.Shifting.{move-same}
 use Rattle.hp_steps.proofs.Turning.{Does, all-together}

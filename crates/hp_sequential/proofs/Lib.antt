@@ -1,6 +1,5 @@
 pub mod Toward
 pub mod Steps
-pub mod Numbers
 pub mod Pieces
 pub mod Ways
 pub mod Straight

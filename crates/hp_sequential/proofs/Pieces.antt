@@ -12,11 +12,11 @@ use Rattle.hp_lexer.specs.declared.lexer.Lexer.{Lexer}
 use Rattle.hp_lexer.specs.Standing.{is_answered, opened, stands}
 use Rattle.hp_steps.specs.Closing.{EndsAtTag}
 use Rattle.hp_steps.specs.Standing.{HasRead}
+use Rattle.hp_steps.proofs.Lexers.{fits-on}
 use Rattle.hp_pieces.proofs.Ahead.{ahead-ends}
 use Rattle.hp_pieces.specs.Laws.{RestsAhead}
 use Rattle.hp_sequential.specs.Building.{control_of, grown, IsBuilder}
 use Rattle.hp_sequential.specs.Reading.{HasEnded, IsAtEnd, IsBehind, IsInPiece, IsOnPage, IsReady, Joined, PieceRead, Reads, ReadsPiece}
-use Rattle.hp_sequential.proofs.Numbers.{fits-on}
 use Rattle.hp_sequential.specs.declared.parsing.Parsing.{Parsing}
 
 -- the lexer may be called over another text

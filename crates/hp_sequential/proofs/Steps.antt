@@ -8,7 +8,6 @@ use Rattle.hp_names.specs.BuiltIn.{built_in}
 use Rattle.hp_tokens.specs.Advancing.{singles}
 use Rattle.hp_tokens.specs.Rows.{character}
 use Rattle.hp_tokens.specs.Moves.{Lexing, Emitted, Move, needs_more, asks_cdata, move}
-use Rattle.hp_tokens.specs.Reading.{Unread}
 use Rattle.hp_tokens.specs.Runs.{Leads}
 use Rattle.hp_control.specs.declared.edit.Edit.{Edit}
 use Rattle.hp_control.specs.Composed.{is_foreign_now}
@@ -16,7 +15,6 @@ use Rattle.hp_control.specs.States.{ControlState}
 use Rattle.hp_control.specs.Tree.{Tree, applied_all, document}
 use Rattle.hp_lexer.specs.declared.lexer.Asked.TheVariants as asked
 use Rattle.hp_lexer.specs.declared.lexer.Lexer.{Lexer}
-use Rattle.hp_lexer.specs.declared.lexer.Step.{Step}
 use Rattle.hp_lexer.specs.declared.lexer.Step.TheVariants as steps
 use Rattle.hp_lex_tags.specs.Tags.{EmitsLast as EmitsTag}
 use Rattle.hp_lexer.specs.Standing.{stands, stands_answered, Reaches, ReachesCdata, ReachesCut, Stepped, TagStepped}
@@ -28,7 +26,7 @@ use Rattle.hp_steps.specs.Closing.{AreCharacters, EndsAtTag}
 use Rattle.hp_steps.specs.Handling.{left_after, lexer_after, made_after, turned_by}
 use Rattle.hp_steps.specs.Standing.{HasRead}
 use Rattle.hp_steps.proofs.ClosingTable.{move-closes, Leads-close, MoveCloses}
-use Rattle.hp_steps.proofs.Lexers.{alike-after, names-after}
+use Rattle.hp_steps.proofs.Lexers.{alike-after, names-after, same-alike}
 use Rattle.hp_steps.proofs.Quiet.{characters-quiet}
 use Rattle.hp_steps.proofs.Shifting.{move-same}
 use Rattle.hp_steps.proofs.Standing.{Answered, asks-on, like-on, silent-on}
@@ -40,10 +38,6 @@ use Rattle.hp_sequential.proofs.Closed.{closed-tokens}
 use Rattle.hp_sequential.proofs.Straight.{loud-further, quiet-further}
 use Rattle.hp_sequential.specs.declared.builder.Builder.{Builder}
 use Rattle.hp_sequential.specs.declared.parsing.Parsing.{Parsing}
-
--- what a step is
-pub told-step : (old : Lexer) (old_input : Unread) (new : Lexer) (new_input : Unread) (step other : Step) → step ≡ other → Stepped old old_input new new_input step → Stepped old old_input new new_input other
-told-step old old_input new new_input step other is h = subst (Stepped old old_input new new_input) is h
 
 -- the piece goes on, or it is used up
 pub reads-more : (page : List ℕ) (p : Parsing) (more : Bool) → more ≡ false → ReadsOn page p more → HasEnded page p
@@ -66,12 +60,6 @@ stands-new page old new edits c l later control alike h =
     let one = like-on built_in page l (stands new.lexer new.input) (chars old.later.now) c edits h alike in
     let two = subst (λ (x : ControlState). HasRead built_in page (stands new.lexer new.input) (chars old.later.now) x edits) (sym control) one in
     subst (λ (x : List ℕ). HasRead built_in page (stands new.lexer new.input) x (control_of new.builder) edits) (sym later) two
-
-same-alike : (a b : Lexer) (x y : Unread) → a ≡ b → x ≡ y → Alike (stands a x) (stands b y)
-same-alike a b x y e f = record { machine = ap (λ (l : Lexing). l.machine) both; unread = ap (λ (l : Lexing). l.unread) both }
-  where
-    both : stands a x ≡ stands b y
-    both = ap (λ (l : Lexer). stands l x) e ∙ ap (λ (u : Unread). stands b u) f
 
 -- where the parser stands behind the tokens of a step
 alike-new : (old mid new : Parsing) (tokens : List Token) → mid.lexer.asked ≡ asked.Nothing → mid.builder ≡ old.builder → Took mid new tokens

@@ -1,5 +1,5 @@
 -- What is read straight is handled at once, whatever follows it.
-use Rattle.std.proofs.Common.{◌≡◌, ℕ, List, [], ◌∷◌, ◌++◌, refl, ap, ◌∙◌, sym, subst, append-nil, Option}
+use Rattle.std.proofs.Common.{◌≡◌, ℕ, List, [], ◌∷◌, ◌++◌, ap, ◌∙◌, sym, subst, append-nil, Option}
 use Rattle.hp_elements.specs.declared.token.Rest.{Rest}
 use Rattle.hp_elements.specs.declared.token.Token.{Token}
 use Rattle.hp_names.specs.References.{Reference}
@@ -15,16 +15,12 @@ use Rattle.hp_model.specs.Handling.{handle}
 use Rattle.hp_model.specs.Runs.{Parser, switched}
 use Rattle.hp_model.specs.Turns.{left_by}
 use Rattle.hp_model.specs.Whole.{IsRead}
-use Rattle.hp_steps.specs.Handling.{AllRead, AreQuiet, Handler, left_after, made_after, turned_by}
+use Rattle.hp_run.specs.Tokens.{AllRead}
+use Rattle.hp_steps.specs.Handling.{AreQuiet, left_after, made_after, turned_by}
 use Rattle.hp_steps.specs.Standing.{EmitsLast, HasGone}
 use Rattle.hp_steps.proofs.Standing.{loud-from, quiet-from}
 use Rattle.hp_steps.proofs.Stepping.{Further}
-use Rattle.hp_steps.proofs.Turning.{Does, all-together}
-
-turned-quiet : (does : Handler) (c : ControlState) (ts : List Token) (l : Lexing) → AreQuiet does c ts → turned_by does c ts l ≡ l
-turned-quiet does c [] l q = refl
-turned-quiet does c (t ∷ ts) l q =
-    ap (λ (s : Option Rest). turned_by does (left_by (does c t)) ts (switched s l)) q.0 ∙ turned-quiet does (left_by (does c t)) ts l q.1
+use Rattle.hp_steps.proofs.Turning.{Does, all-together, turned-quiet}
 
 module _ (names : List Reference) (from : Parser) where
   -- tokens that switch the lexer nowhere

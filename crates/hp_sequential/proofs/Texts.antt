@@ -1,7 +1,8 @@
 -- A text that is handled as one run.
-use Rattle.std.proofs.Common.{◌≡◌, ℕ, ◌<◌, List, [], ◌∷◌, ◌++◌, map, length, Bool, true, false, refl, ap, ◌∙◌, sym, subst, arith, Option, None, Some}
+use Rattle.std.proofs.Common.{◌≡◌, ℕ, ◌<◌, List, [], ◌∷◌, ◌++◌, map, length, true, refl, ap, ◌∙◌, sym, subst, arith, Option, None, Some}
 use Rattle.std.specs.Prelude.{not, ◌&&◌, drop}
 use Rattle.std.specs.List.{list_all}
+use Rattle.std.proofs.lemmas.Bool.{and_parts, not-true}
 use Rattle.hp_elements.specs.declared.token.Rest.{Rest}
 use Rattle.hp_elements.specs.declared.token.CharClass.TheVariants.{White}
 use Rattle.hp_elements.specs.declared.token.Token.{Token}
@@ -24,17 +25,8 @@ use Rattle.hp_steps.proofs.Quiet.{at_once-quiet}
 use Rattle.hp_steps.specs.Handling.{left_after, made_after}
 use Rattle.hp_acts.specs.Plain.{takes_text}
 use Rattle.hp_sequential.proofs.WhiteRuns.{white_same, white_valid}
-use Rattle.hp_sequential.specs.Building.{control_of, grown, IsBuilder, HandledOne, HandledAll}
+use Rattle.hp_sequential.specs.Building.{control_of, grown, IsBuilder, HandledOne, HandledAll, HasGrown}
 use Rattle.hp_sequential.specs.declared.builder.Builder.{Builder}
-
-both_hold : (a b : Bool) → (a && b) ≡ true → (a ≡ true) × (b ≡ true)
-both_hold true true h = (refl, refl)
-both_hold true false h = absurd (cc)
-both_hold false b h = absurd (cc)
-
-is_false : (a : Bool) → not a ≡ true → a ≡ false
-is_false false h = refl
-is_false true h = absurd (cc)
 
 -- what a view takes, its state takes
 skips : (v : Split) → (state_over v nothing).skip_lf ≡ v.change.skip_lf
@@ -57,10 +49,10 @@ top_over (e ∷ es) more h = h
 
 state-takes : (v : Split) → takes_text v ≡ true → TakesText (state_over v nothing)
 state-takes v h =
-    let both = both_hold (not v.change.skip_lf && is_text_mode v.change.mode) (has_html_top v.change.stack) h in
-    let first = both_hold (not v.change.skip_lf) (is_text_mode v.change.mode) both.0 in
+    let both = and_parts (not v.change.skip_lf && is_text_mode v.change.mode) (has_html_top v.change.stack) h in
+    let first = and_parts (not v.change.skip_lf) (is_text_mode v.change.mode) both.0 in
     record {
-      skips = skips v ∙ is_false v.change.skip_lf first.0;
+      skips = skips v ∙ not-true v.change.skip_lf first.0;
       place = ap is_text_mode (mode_of v) ∙ first.1;
       top = ap has_html_top (full_stack nothing v) ∙ top_over v.change.stack (drop v.change.popped nothing.stack) both.1;
     }
@@ -81,6 +73,10 @@ comes-all old new ts run to comes one = record {
   grown = one.grown ∙ (sym (comes.same.edits (grown old)) ∙ ap (applied_all (grown old)) (each-made (control_of old) ts));
   builder = record { stands = one.stands; valid = subst IsValid (sym one.control) comes.valid };
 }
+
+-- and then edits were applied
+pub grown-handled : (old mid new : Builder) (ts : List Token) → HandledAll old mid ts → HasGrown mid new → HandledAll old new ts
+grown-handled old mid new ts all grows = record { control = grows.control ∙ all.control; grown = grows.grown ∙ all.grown; builder = grows.builder all.builder }
 
 pub text-handled : TextsAtOnce → (old new : Builder) (text : List ℕ) (to : Option Rest) → IsBuilder old → takes_text (split_of old.view) ≡ true → list_all (none_of (0 ∷ [])) text ≡ true → 0 < length text
     → HandledOne old new (as_run text) to → HandledAll old new (map character text)

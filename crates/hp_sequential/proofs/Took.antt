@@ -10,25 +10,24 @@ use Rattle.hp_control.specs.declared.edit.Edit.{Edit}
 use Rattle.hp_model.specs.Whole.{IsRead}
 use Rattle.hp_model.specs.AtOnce.{RunsAtOnce, handle_at_once}
 use Rattle.hp_model.specs.Turns.{left_by}
-use Rattle.hp_steps.specs.Handling.{AllRead, left_after, lexer_after, made_after, turned}
+use Rattle.hp_run.specs.Tokens.{AllRead}
+use Rattle.hp_steps.specs.Handling.{left_after, lexer_after, made_after, turned}
 use Rattle.hp_steps.proofs.Lexers.{characters-after}
-use Rattle.hp_steps.proofs.Together.{applied-append}
-use Rattle.hp_sequential.proofs.Toward.{at_once-valid}
+use Rattle.hp_steps.proofs.Together.{applied-append, at_once-valid}
 use Rattle.hp_sequential.specs.Building.{control_of, grown, IsBuilder, HandledOne, HandledAll, HasGrown}
 use Rattle.hp_sequential.specs.Reading.{Took}
 use Rattle.hp_sequential.specs.declared.builder.Builder.{Builder}
 use Rattle.hp_sequential.specs.declared.parsing.Parsing.{Parsing}
 
 -- a text
-pub took-text : (old new : Parsing) (mid : Builder) (text : List ℕ) → HandledAll old.builder mid (map character text) → HasGrown mid new.builder → new.lexer ≡ old.lexer → new.input ≡ old.input → new.later ≡ old.later
-    → Took old new (map character text)
-took-text old new mid text all grows lexer input later = record {
-  input = input;
-  later = later;
-  lexer = lexer ∙ sym (characters-after (control_of old.builder) text old.lexer);
-  control = grows.control ∙ all.control;
-  grown = grows.grown ∙ all.grown;
-  builder = grows.builder all.builder;
+pub took-text : (old : Parsing) (new : Builder) (text : List ℕ) → HandledAll old.builder new (map character text) → Took old (record old { builder = new }) (map character text)
+took-text old new text all = record {
+  input = refl;
+  later = refl;
+  lexer = sym (characters-after (control_of old.builder) text old.lexer);
+  control = all.control;
+  grown = all.grown;
+  builder = all.builder;
 }
 
 -- one token, whatever it calls for

@@ -5,12 +5,11 @@ use Rattle.hp_elements.specs.declared.token.Token.{Token}
 use Rattle.hp_tokens.specs.Advancing.{AreRuns}
 use Rattle.hp_control.specs.States.{ControlState, IsValid}
 use Rattle.hp_control.specs.Tree.{Tree, applied_all}
-use Rattle.hp_model.proofs.Handled.{handle-valid}
 use Rattle.hp_model.specs.Turns.{left_by}
-use Rattle.hp_model.specs.Whole.{IsRead}
 use Rattle.hp_model.specs.AtOnce.{RunsAtOnce, handle_at_once}
-use Rattle.hp_steps.specs.Handling.{AllRead, left_after, made_after}
-use Rattle.hp_steps.proofs.Together.{applied-append}
+use Rattle.hp_run.specs.Tokens.{AllRead}
+use Rattle.hp_steps.specs.Handling.{left_after, made_after}
+use Rattle.hp_steps.proofs.Together.{applied-append, at_once-valid}
 use Rattle.hp_sequential.specs.declared.builder.Builder.{Builder}
 use Rattle.hp_sequential.specs.Building.{control_of, grown, IsBuilder, HandledAll, HandledOne}
 
@@ -24,10 +23,6 @@ pub record Toward (start now : Builder) (tokens rest : List Token) : Type 0 wher
 
 pub toward_start : (b : Builder) (tokens : List Token) → IsBuilder b → AllRead tokens → AreRuns tokens → Toward b b tokens tokens
 toward_start b tokens h read runs = record { read = read; runs = runs; builder = h; control = refl; grown = refl }
-
--- a token at once leaves a valid state
-pub at_once-valid : RunsAtOnce → (t : Token) (c : ControlState) → IsRead t → AreRuns (t ∷ []) → IsValid c → IsValid (left_by (handle_at_once c t))
-at_once-valid law t c read runs v = subst IsValid (law t c read runs.0 v).control (handle-valid t c read v)
 
 pub toward_on : RunsAtOnce → (start now next : Builder) (tokens before rest : List Token) (t : Token) (to : Option Rest) → Toward start now tokens before → before ≡ t ∷ rest → HandledOne now next t to
     → Toward start next tokens rest
@@ -45,10 +40,6 @@ toward_on law start now next tokens before rest t to h is one = record {
   where
     here : Toward start now tokens (t ∷ rest)
     here = subst (Toward start now tokens) is h
-
--- the next of tokens as the lexer reads them
-pub next_read : (before rest : List Token) (t : Token) → AllRead before → before ≡ t ∷ rest → IsRead t × AllRead rest
-next_read before rest t h is = subst AllRead is h
 
 pub last_end : (start now : Builder) (tokens rest : List Token) → Toward start now tokens rest → rest ≡ [] → HandledAll start now tokens
 last_end start now tokens rest h is = record { control = here.control; grown = here.grown; builder = here.builder }

@@ -6,11 +6,13 @@ use Rattle.hp_names.specs.References.{Reference}
 use Rattle.hp_tokens.specs.Moves.{Move, asks_last_tag, move}
 use Rattle.hp_tokens.specs.Runs.{Leads, Stays, followed_by as more_unread}
 use Rattle.hp_tokens.proofs.Pieces.{move-stays}
+use Rattle.hp_control.proofs.StartLemmas.{start_valid}
+use Rattle.hp_control.specs.States.{start}
 use Rattle.hp_lexer.proofs.Steady.{table_steady}
 use Rattle.hp_lexer.specs.declared.lexer.Step.TheVariants as steps
 use Rattle.hp_lexer.specs.Standing.{stands, Stepped}
 use Rattle.hp_lexer.specs.Table.{table}
-use Rattle.hp_run.specs.Pages.{NeverAsked}
+use Rattle.hp_pieces.specs.Laws.{NeverAsked}
 use Rattle.hp_steps.specs.Alike.{SameMove}
 use Rattle.hp_steps.specs.Standing.{HasRead}
 use Rattle.hp_steps.proofs.Shifting.{move-same}
@@ -25,7 +27,7 @@ within-on old new w on = record { page = w.page; reads = on w.page w.reads }
 
 -- the last start tag's name is not asked
 pub not-asked : NeverAsked → (old new : Parsing) → IsWithin old → Stepped old.lexer old.input new.lexer new.input steps.AskLastTag → ⊥
-not-asked never old new w stepped = never built_in w.page (record { lexing = gone.at; control = control_of old.builder }) w.reads.edits gone.goes asks
+not-asked never old new w stepped = never w.page start (record { lexing = gone.at; control = control_of old.builder }) w.reads.edits start_valid gone.goes asks
   where
     leads : Leads (move (table built_in)) (stands old.lexer old.input) [] (stands new.lexer new.input)
     leads = silent-moves built_in old.lexer.names stepped.0 w.reads.names

@@ -1,4 +1,4 @@
-// Runs of white space, read straight from the page.
+//! Runs of white space, read straight from the page.
 ghost use Rattle.std.specs.Prelude.{◌≡◌, ◌≤◌, ◌<◌, [], map, length, true, IfSome, IfNone};
 ghost use Rattle.std.specs.List.{list_all};
 ghost use Rattle.hp_tokens.specs.Advancing.{held, lexing, Turned};
@@ -30,6 +30,7 @@ fn data_blanks<'p>(
     ensures none { IfNone result ((input.new ≡ input.old) × (rested.new ≡ rested.old)) }
     ensures held { held state.now ≤ input.new.place }
 {
+    // The contract alone speaks of the names.
     let _names = names;
     if state.machine.after_cr || !state.ahead.is_empty() {
         return None;

@@ -1,4 +1,4 @@
-// Tree construction over the tokens of a page: the control state, and the tree so far.
+//! Tree construction over the tokens of a page: the control state, and the tree so far.
 ghost use Rattle.std.specs.Prelude.{◌≡◌, ◌<◌, true, [], ◌∷◌, length, map, IfOk, OnOk};
 ghost use Rattle.std.specs.List.{list_all};
 ghost use Rattle.hp_tokens.specs.Plain.{none_of};
@@ -76,7 +76,8 @@ impl<'p> Builder<'p> {
         takes_text(&self.view)
     }
 
-    /// Puts such a text into the current node. It is the handling of its code points, one by one.
+    /// Puts such a text into the current node, and applies the edits made so far where they are many. It is the handling of the text's
+    /// code points, one by one.
     pub fn put_text(&mut self, alloc: Global, text: Text<'p>) -> Result<(), NoMemory>
         requires builder { IsBuilder self.old }
         requires takes { takes_text (split_of self.old.view) ≡ true }
@@ -86,12 +87,13 @@ impl<'p> Builder<'p> {
     {
         hp_model::texts_at_once();
         match handle_text(alloc, &mut self.view, text) {
-            Ok(_) => Ok(()),
+            Ok(_) => self.grow_by_batch(alloc),
             Err(_) => Err(NoMemory),
         }
     }
 
-    /// Handles white space as one token. It is the handling of its code points, one by one.
+    /// Handles white space as one token, and applies the edits made so far where they are many. It is the handling of its code points,
+    /// one by one.
     pub fn put_blanks(&mut self, alloc: Global, text: Text<'p>) -> Result<(), NoMemory>
         requires builder { IsBuilder self.old }
         requires blank { list_all is_blank text ≡ true }
@@ -100,7 +102,7 @@ impl<'p> Builder<'p> {
     {
         let class = CharClass::White;
         let _ = self.handle_one(alloc, Token::Characters { class, text })?;
-        Ok(())
+        self.grow_by_batch(alloc)
     }
 
     /// Applies the edits made so far to the tree, where they are many.

@@ -1,12 +1,11 @@
-// The laws of runs that the parser cites, each apart from the others.
-ghost use Rattle.hp_run.specs.Pages.{NeverAsked};
-ghost use Rattle.hp_pieces.specs.Laws.{RestsAhead};
+//! The laws of runs that the parser cites, each apart from the others.
+ghost use Rattle.hp_pieces.specs.Laws.{NeverAsked, RestsAhead};
 
-/// Along a run over a page the last start tag's name is never asked.
+/// Along a run from a valid state the last start tag's name is never asked.
 pub(crate) fn never_asked()
     ensures { NeverAsked }
 {
-    hp_run::resting();
+    hp_pieces::runs_between();
 }
 
 /// Where the lexer of a run needs more text, what it read ahead may go on.

@@ -1,4 +1,4 @@
-// What is left of the parser once its tree is taken is given back here, one function for each type, so that its drop stands in one place.
+//! What is left of the parser once its tree is taken is given back here, one function for each type, so that its drop stands in one place.
 
 use hp_control::{Change, Nothing};
 use hp_lexer::Lexer;

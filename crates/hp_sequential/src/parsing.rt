@@ -1,19 +1,16 @@
-// A run of the sequential parser over a page.
-ghost use Rattle.std.specs.Prelude.{◌≡◌, ◌≢◌, ◌^◌, ◌<◌, ◌≤◌, ℕ, List, [], ◌∷◌, length, map, true, false, IfOk, IsUtf8, OnOk};
-ghost use Rattle.std.specs.List.{list_all};
+//! A run of the sequential parser over a page.
+ghost use Rattle.std.specs.Prelude.{◌≡◌, ◌≢◌, ◌^◌, ◌<◌, ◌≤◌, ℕ, List, [], ◌∷◌, length, true, false, IfOk, IsUtf8, OnOk};
 ghost use Rattle.std.specs.Str.{chars};
 ghost use Rattle.hp_names.specs.BuiltIn.{built_in};
 ghost use Rattle.hp_text.specs.Page.{text_of};
 ghost use Rattle.hp_tokens.specs.Advancing.{AreRuns, held};
-ghost use Rattle.hp_tokens.specs.Plain.{none_of};
-ghost use Rattle.hp_tokens.specs.Rows.{character, is_blank};
 ghost use Rattle.hp_views.specs.View.{split_of};
 ghost use Rattle.hp_acts.specs.Plain.{takes_text};
 ghost use Rattle.hp_control.specs.States.{lex_start};
 ghost use Rattle.hp_lexer.specs.declared.lexer.Asked.TheVariants as asked;
 ghost use Rattle.hp_model.specs.Whole.{IsRead};
 ghost use Rattle.hp_run.specs.Pages.{IsTreeOf};
-ghost use Rattle.hp_steps.specs.Handling.{AllRead};
+ghost use Rattle.hp_run.specs.Tokens.{AllRead};
 ghost use Rattle.hp_sequential.specs.Building.{IsBuilder, HandledAll, HandledOne};
 ghost use Rattle.hp_sequential.specs.Reading.{IsReady, IsAtEnd, IsInPiece, IsOnPage, IsWithin, Joined, PieceRead, Reads, ReadsFurther, HasEnded, HasReadAll, StepsOn, ReadsOn, ReadsPiece, Took, TookText, Tried, WentStraight};
 
@@ -183,7 +180,7 @@ impl<'p> Parsing<'p> {
         hp_lexer::steps_fall();
         match self.next_text() {
             Some(text) => {
-                self.put_text(alloc, text)?;
+                self.builder.put_text(alloc, text)?;
                 Ok(true)
             }
             None => Ok(false),
@@ -202,7 +199,7 @@ impl<'p> Parsing<'p> {
         hp_lexer::steps_fall();
         match next_blanks(&mut self.lexer, &mut self.input) {
             Some(text) => {
-                self.put_blanks(alloc, text)?;
+                self.builder.put_blanks(alloc, text)?;
                 Ok(true)
             }
             None => Ok(false),
@@ -266,29 +263,6 @@ impl<'p> Parsing<'p> {
             Step::AskLastTag => unreachable!(),
             Step::AtCut => Ok(false),
         }
-    }
-
-    /// Puts a text into the current node.
-    fn put_text(&mut self, alloc: Global, text: Text<'p>) -> Result<(), NoMemory>
-        requires builder { IsBuilder self.old.builder }
-        requires takes { takes_text (split_of self.old.builder.view) ≡ true }
-        requires no_nul { list_all (none_of (0 ∷ [])) text ≡ true }
-        requires long { 0 < length text }
-        ensures { OnOk result (Took self.old self.new (map character text.entry)) }
-    {
-        self.builder.put_text(alloc, text)?;
-        self.builder.grow_by_batch(alloc)
-    }
-
-    /// Handles white space as one token.
-    fn put_blanks(&mut self, alloc: Global, text: Text<'p>) -> Result<(), NoMemory>
-        requires builder { IsBuilder self.old.builder }
-        requires blank { list_all is_blank text ≡ true }
-        requires long { 0 < length text }
-        ensures { OnOk result (Took self.old self.new (map character text.entry)) }
-    {
-        self.builder.put_blanks(alloc, text)?;
-        self.builder.grow_by_batch(alloc)
     }
 
     /// Handles the tokens of a step, one behind the other.
@@ -367,10 +341,12 @@ impl<'p> Parsing<'p> {
 fn unread_text<'p>(input: &Cursor<'p>) -> &'p str
     ensures { chars result.now ≡ input.now.text }
 {
+    // SAFETY: what a cursor has left is UTF-8 (clause `utf8` of `Cursor::rest`).
     unsafe { std::str::from_utf8_unchecked(input.rest()) }
 }
 
-/// Each `&str` is text. It does nothing; its contract is the fact.
+/// Each `&str` is UTF-8. It does nothing: its contract hands the fact to the proof of `cut_piece`, where fewer bytes are fewer code
+/// points.
 fn is_text(text: &str, later: &str)
     ensures text { IsUtf8 text.now }
     ensures later { IsUtf8 later.now }

@@ -1,5 +1,5 @@
 -- The moves of the whole table emit characters alone, but where they consume `>`; and they read on in the text.
-use Rattle.std.proofs.Common.{◌≡◌, ℕ, zero, suc, List, [], ◌∷◌, ◌++◌, Bool, true, false, ◌&&◌, cond, drop, refl, ap, subst, sym, ◌∙◌, Option, None, Some, ◌⊎◌, inl, inr}
+use Rattle.std.proofs.Common.{◌≡◌, ℕ, zero, suc, List, [], ◌∷◌, Bool, true, false, ◌&&◌, cond, drop, refl, subst, sym, ◌∙◌, Option, None, Some, ◌⊎◌, inl, inr}
 use Rattle.std.specs.Prelude.{◌==◌, IsTrue}
 use Rattle.std.proofs.lemmas.Bool.{eqb-true}
 use Rattle.hp_elements.specs.declared.token.Token.{Token}
@@ -25,7 +25,6 @@ use Rattle.hp_lex_markup.specs.Words.{asks, count, is_open, word}
 use Rattle.hp_lex_markup.specs.declared.words.Word.{Word}
 use Rattle.hp_lexer.specs.Table.{table}
 use Rattle.hp_steps.specs.Closing.{AreCharacters, EndsAtTag}
-use Rattle.hp_steps.specs.Standing.{EmitsLast}
 use Rattle.hp_steps.proofs.Began.{tokens-began}
 use Rattle.hp_steps.proofs.ClosingRows.{Closes, flushed-alone}
 use Rattle.hp_steps.proofs.ClosingTags as tag_closes
@@ -43,11 +42,11 @@ ends_dropped zero u h = h
 ends_dropped (suc n) [] h = tt
 ends_dropped (suc n) (c ∷ cs) h = ends_dropped n cs h.1
 
-is_greater : (c : ℕ) (b : Bool) → (cond b 10 c == 62) ≡ true → c ≡ 62
+pub is_greater : (c : ℕ) (b : Bool) → (cond b 10 c == 62) ≡ true → c ≡ 62
 is_greater c true h = cc
 is_greater c false h = eqb-true c 62 h
 
-began_alone : (place : ℕ) (ts : List Token) → AreCharacters ts → AreCharacters (tokens_of (all_began place ts))
+pub began_alone : (place : ℕ) (ts : List Token) → AreCharacters ts → AreCharacters (tokens_of (all_began place ts))
 began_alone place ts h = subst AreCharacters (sym (tokens-began place ts)) h
 
 after_row-closes : (r : Row) (l : Lexing) (c : ℕ) (cs : List ℕ) (reads : Reads) → r.reads ≡ reads → Closes (read_as c) r → MoveCloses (c ∷ cs) (after_row r l c cs reads)
@@ -129,40 +128,3 @@ Leads-close names here e = e
 Leads-close names {l} (onward {m = m} {es = es} made rest) e =
     let left : EndsAtTag l.unread → EndsAtTag m.unread × (AreCharacters (tokens_of es) ⊎ (m.unread ≡ [])) = subst (MoveCloses l.unread) made (move-closes names l) in
     Leads-close names rest (left e).0
-
-nothing_behind : (names : List Reference) {m k : Lexing} {es : List Emitted} → m.unread ≡ [] → Leads (move (table names)) m es k → k ≡ m
-nothing_behind names u here = refl
-nothing_behind names {m} u (onward {m = n} {es = es} made rest) = let no : needs_more ≡ makes n es = sym (ap (move_on (table names) m) u) ∙ made in cc
-
-alone : (e x : Emitted) (xs ys : List Emitted) → x ∷ (xs ++ ys) ≡ e ∷ [] → (x ≡ e) × (xs ≡ []) × (ys ≡ [])
-alone e x [] [] h = (cc, refl, refl)
-alone e x [] (y ∷ ys) h = cc
-alone e x (y ∷ ys) zs h = cc
-
-pub emits-last : (names : List Reference) {l k : Lexing} {es : List Emitted} (e : Emitted) → (AreCharacters (e.token ∷ []) → ⊥) → EndsAtTag l.unread → es ≡ e ∷ []
-    → Leads (move (table names)) l es k → EmitsLast names l e k
-emits-last names e other u same here = let no : [] ≡ e ∷ [] = same in cc
-emits-last names {l} {k} e other u same (onward {m = m} {es = []} {fs = later} made rest) =
-    let left : EndsAtTag l.unread → EndsAtTag m.unread × (AreCharacters [] ⊎ (m.unread ≡ [])) = subst (MoveCloses l.unread) made (move-closes names l) in
-    let found : EmitsLast names m e k = emits-last names e other (left u).0 same rest in
-    record { mid = found.mid; leads = onward made found.leads; last = found.last }
-emits-last names {l} {k} e other u same (onward {m = m} {es = x ∷ xs} {fs = later} made rest) = by (alone e x xs later same)
-  where
-    left : EndsAtTag l.unread → EndsAtTag m.unread × (AreCharacters (tokens_of (x ∷ xs)) ⊎ (m.unread ≡ []))
-    left = subst (MoveCloses l.unread) made (move-closes names l)
-
-    by : (x ≡ e) × (xs ≡ []) × (later ≡ []) → EmitsLast names l e k
-    by (xe, xs_none, none) = at (left u).1
-      where
-        one : x ∷ xs ≡ e ∷ []
-        one = cc (xe, xs_none)
-
-        at : AreCharacters (tokens_of (x ∷ xs)) ⊎ (m.unread ≡ []) → EmitsLast names l e k
-        at (inl a) = absurd (other (subst (λ (es : List Emitted). AreCharacters (tokens_of es)) one a))
-        at (inr n) =
-            let same_place : k ≡ m = nothing_behind names n rest in
-            record {
-              mid = l;
-              leads = here;
-              last = made ∙ cc (one, same_place);
-            }

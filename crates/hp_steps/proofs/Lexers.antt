@@ -24,6 +24,17 @@ use Rattle.hp_steps.specs.Alike.{Alike}
 use Rattle.hp_steps.specs.Handling.{Handler, lexer_after, turned, turned_by}
 use Rattle.hp_steps.proofs.Quiet.{at_once-quiet}
 
+-- numbers alone
+pub fits-on : (a b c d : ℕ) → b ≤ d → c ≡ d → a ≡ b → a ≤ c
+fits-on a b c d h e f = omega (arith, h, e, f)
+
+-- equal lexers over equal texts
+pub same-alike : (a b : Lexer) (x y : Unread) → a ≡ b → x ≡ y → Alike (stands a x) (stands b y)
+same-alike a b x y e f = record { machine = ap (λ (l : Lexing). l.machine) both; unread = ap (λ (l : Lexing). l.unread) both }
+  where
+    both : stands a x ≡ stands b y
+    both = ap (λ (l : Lexer). stands l x) e ∙ ap (λ (u : Unread). stands b u) f
+
 -- a switch of the lexer is the run's
 turned-alike : (s : Option Rest) (l : Lexer) (input : Unread) → l.asked ≡ asked.Nothing → Alike (stands (turned s l) input) (switched s (stands l input))
 turned-alike None l input e = record { machine = refl; unread = refl }

@@ -9,15 +9,18 @@ use Rattle.hp_tokens.specs.Runs.{Leads}
 use Rattle.hp_control.specs.declared.edit.Edit.{Edit}
 use Rattle.hp_control.specs.States.{ControlState, IsValid}
 use Rattle.hp_lexer.specs.declared.lexer.Lexer.{Lexer}
+use Rattle.hp_lexer.specs.declared.lexer.Step.{Step}
 use Rattle.hp_lexer.specs.declared.lexer.Step.TheVariants as steps
 use Rattle.hp_lexer.specs.Standing.{stands, Stepped}
 use Rattle.hp_lexer.specs.Table.{table}
 use Rattle.hp_model.specs.AtOnce.{MakeSame, RunsAtOnce, handle_at_once}
 use Rattle.hp_model.specs.Handling.{handle}
 use Rattle.hp_model.specs.Runs.{Parser}
+use Rattle.hp_model.specs.Whole.{IsRead}
 use Rattle.hp_run.proofs.TableRows.{table_read}
 use Rattle.hp_steps.specs.Closing.{EndsAtTag}
-use Rattle.hp_steps.specs.Handling.{AllRead, left_after, made_after, turned_by}
+use Rattle.hp_run.specs.Tokens.{AllRead}
+use Rattle.hp_steps.specs.Handling.{left_after, made_after, turned_by}
 use Rattle.hp_steps.specs.Standing.{HasGone}
 use Rattle.hp_steps.proofs.Together.{leads-read, runs-read}
 use Rattle.hp_steps.proofs.Turning.{Does, all-together, batch-from}
@@ -42,6 +45,14 @@ moved-so names old old_input new new_input began tokens same s =
       leads = subst (λ (n : List Reference). Leads (move (table n)) (stands old old_input) a.es (stands new new_input)) same a.leads;
       spelled = ap singles a.appends.appended ∙ a.appends.spelled;
     }
+
+-- what a step is
+pub told-step : (old : Lexer) (old_input : Unread) (new : Lexer) (new_input : Unread) (step other : Step) → step ≡ other → Stepped old old_input new new_input step → Stepped old old_input new new_input other
+told-step old old_input new new_input step other is h = subst (Stepped old old_input new new_input) is h
+
+-- the next of tokens as the lexer reads them
+pub next_read : (before rest : List Token) (t : Token) → AllRead before → before ≡ t ∷ rest → IsRead t × AllRead rest
+next_read before rest t h is = subst AllRead is h
 
 -- the tokens of a step are read ones, and runs
 pub stepped-read : (old : Lexer) (old_input : Unread) (new : Lexer) (new_input : Unread) (began : ℕ) (tokens : List Token) → Stepped old old_input new new_input (steps.Tokens began tokens) → AllRead tokens × AreRuns tokens

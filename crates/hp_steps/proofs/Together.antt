@@ -16,7 +16,8 @@ use Rattle.hp_model.specs.Runs.{AreRead, ReadsHtml}
 use Rattle.hp_model.specs.Turns.{Handled, later, left_by}
 use Rattle.hp_model.specs.Whole.{IsRead}
 use Rattle.hp_model.specs.AtOnce.{LeaveSame, MakeSame, RunsAtOnce, handle_at_once}
-use Rattle.hp_steps.specs.Handling.{AllRead, AreQuiet, left_after, made_after}
+use Rattle.hp_run.specs.Tokens.{AllRead}
+use Rattle.hp_steps.specs.Handling.{AreQuiet, left_after, made_after}
 use Rattle.hp_steps.proofs.Batches.{left-append, made-append, quiet-join}
 
 pub applied-append : (t : Tree) (es fs : List Edit) → applied_all t (es ++ fs) ≡ applied_all (applied_all t es) fs
@@ -28,7 +29,7 @@ read-split : (xs ys : List Token) → AllRead (xs ++ ys) → AllRead xs × AllRe
 read-split [] ys h = (tt, h)
 read-split (x ∷ xs) ys h = let rest = read-split xs ys h.1 in ((h.0, rest.0), rest.1)
 
-read-join : (es fs : List Emitted) → AreRead es → AreRead fs → AreRead (es ++ fs)
+pub read-join : (es fs : List Emitted) → AreRead es → AreRead fs → AreRead (es ++ fs)
 read-join [] fs h k = k
 read-join (e ∷ es) fs h k = (h.0, read-join es fs h.1 k)
 
@@ -89,6 +90,10 @@ left-single c t = refl
 pub made-single : (c : ControlState) (t : Token) → made_after handle c (single t) ≡ (handle c t).outcome.edits
 made-single c (token.Characters class text) = letters-made class text c
 made-single c t = append-nil (handle c t).outcome.edits
+
+-- a token at once leaves a valid state
+pub at_once-valid : RunsAtOnce → (t : Token) (c : ControlState) → IsRead t → AreRuns (t ∷ []) → IsValid c → IsValid (left_by (handle_at_once c t))
+at_once-valid law t c read runs v = subst IsValid (law t c read runs.0 v).control (handle-valid t c read v)
 
 -- the tokens of the table do what the runs do at once
 pub record Comes (c : ControlState) (ts : List Token) : Type 0 where

@@ -21,7 +21,8 @@ use Rattle.hp_model.specs.Runs.{Parser, goes, Goes, here as stays, onward as ste
 use Rattle.hp_model.specs.Turns.{left_by}
 use Rattle.hp_steps.specs.Alike.{Alike, SameMove}
 use Rattle.hp_steps.specs.Closing.{AreCharacters, EndsAtTag}
-use Rattle.hp_steps.specs.Handling.{AllRead, AreQuiet, Handler, left_after, made_after, turned_by}
+use Rattle.hp_run.specs.Tokens.{AllRead}
+use Rattle.hp_steps.specs.Handling.{AreQuiet, Handler, left_after, made_after, turned_by}
 use Rattle.hp_steps.specs.Standing.{HasGone}
 use Rattle.hp_steps.proofs.Batches.{at, built-control, built-made, left-append, made-append}
 use Rattle.hp_steps.proofs.Began.{tokens-append}
@@ -35,7 +36,8 @@ turned-append : (does : Handler) (c : ControlState) (xs ys : List Token) (l : Le
 turned-append does c [] ys l = refl
 turned-append does c (x ∷ xs) ys l = turned-append does (left_by (does c x)) xs ys (switched (does c x).switch l)
 
-turned-quiet : (does : Handler) (c : ControlState) (ts : List Token) (l : Lexing) → AreQuiet does c ts → turned_by does c ts l ≡ l
+-- tokens that switch the lexer nowhere leave it as it is
+pub turned-quiet : (does : Handler) (c : ControlState) (ts : List Token) (l : Lexing) → AreQuiet does c ts → turned_by does c ts l ≡ l
 turned-quiet does c [] l q = refl
 turned-quiet does c (t ∷ ts) l q =
     ap (λ (s : Option Rest). turned_by does (left_by (does c t)) ts (switched s l)) q.0 ∙ turned-quiet does (left_by (does c t)) ts l q.1

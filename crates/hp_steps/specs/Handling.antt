@@ -9,7 +9,6 @@ use Rattle.hp_lexer.specs.declared.lexer.Lexer.{Lexer}
 use Rattle.hp_tokens.specs.Moves.{Lexing}
 use Rattle.hp_model.specs.Runs.{switched}
 use Rattle.hp_model.specs.Turns.{Handled, left_by}
-use Rattle.hp_model.specs.Whole.{IsRead}
 
 abbrev pub Handler : Type 0
 Handler = ControlState → Token → Handled
@@ -41,8 +40,3 @@ lexer_after does c (t ∷ ts) l = lexer_after does (left_by (does c t)) ts (turn
 abbrev pub AreQuiet : Handler → ControlState → List Token → Type 0
 AreQuiet does c [] = Unit {0}
 AreQuiet does c (t ∷ ts) = ((does c t).switch ≡ None) × AreQuiet does (left_by (does c t)) ts
-
--- tokens as the lexer reads them
-abbrev pub AllRead : List Token → Type 0
-AllRead [] = Unit {0}
-AllRead (t ∷ ts) = IsRead t × AllRead ts

@@ -1,6 +1,7 @@
 use Rattle.std.proofs.Common.{rules, sym, subst}
+use Rattle.hp_steps.proofs.Stepping.{next_read}
 use Rattle.hp_views.specs.View.{split_of}
-use Rattle.hp_replay.proofs.Toward.{Toward, next_read, toward_end, toward_on, toward_start}
+use Rattle.hp_replay.proofs.Toward.{Toward, toward_end, toward_on, toward_start}
 use Rattle.hp_replay.proofs.collecting.collect_last.Goals as goal
 
 pub loop-token-init : goal.loop-token-init

@@ -10,4 +10,5 @@ read_all-requires-clause-within c = record { page = chars (text_of c.args.page);
 
 pub returns-in-Ok : goal.returns-in-Ok
 returns-in-Ok c =
-    subst (IsTreeOf built_in (chars (text_of c.args.page))) (sym c.into_tree.ensures) (c.in-Ok.ensures (chars (text_of c.args.page)) c.in_ok-parsing.ensures.reads)
+    let page = chars (text_of c.args.page) in
+    record { tree = subst (IsTreeOf built_in page) (sym c.into_tree.ensures) (c.in-Ok.ensures page c.in_ok-parsing.ensures.reads) }
