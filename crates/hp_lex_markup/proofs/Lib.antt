@@ -2,4 +2,3 @@ pub mod Spelled
 pub mod Compared
 pub mod WordSteps
 pub mod Steady
-pub mod Told

@@ -15,27 +15,17 @@ use Rattle.hp_tokens.specs.Reading.{Unread, first}
 use Rattle.hp_tokens.specs.Rows.{Row, Follows}
 use Rattle.hp_tokens.specs.Moves.{Lexing, Emitted, Move, needs_more, asks_cdata, makes, ends, standing, taking, all_began, read_as, after_row, row_move, after_end, row_end, move_on, move, end_move_on, end_move}
 use Rattle.hp_tokens.specs.Ranks.{rank, symbol_of, Falls, IsFine}
-use Rattle.hp_tokens.specs.Advancing.{held, unread, place_of, lexing, Appends, Goes, ReadsOne, HasRows}
-use Rattle.hp_tokens.proofs.Stepping.{goes_by, stand_same, rank-below, read_smaller, again_smaller, Appends-row}
+use Rattle.hp_tokens.specs.Advancing.{held, unread, place_of, lexing, SameStand, Appends, Goes, ReadsOne, HasRows}
+use Rattle.hp_tokens.proofs.Stepping.{goes_by, stand_same, chosen, passed, rank-below, read_smaller, again_smaller, Appends-row}
+use Rattle.hp_tokens.proofs.Told.{never}
 use Rattle.hp_lex_markup.specs.declared.words.Word.{Word}
 use Rattle.hp_lex_markup.specs.declared.words.Word.TheVariants.{Hyphens, Doctype, Cdata, Public, System}
 use Rattle.hp_lex_markup.specs.Words.{is_open, word, count, asks}
 use Rattle.hp_lex_markup.specs.Rows.{row, is_here, reads_word, has_row}
 use Rattle.hp_lex_markup.specs.Markup.{after_word, in_section, past_word, word_read, word_move, word_read_at_end, word_end, on_state, last_state, markup_rules}
-use Rattle.hp_lex_markup.specs.Held.{SameStand, PastWord, MovesByRow, pair_next}
+use Rattle.hp_lex_markup.specs.Held.{PastWord, MovesByRow}
 use Rattle.hp_lex_markup.specs.Fine.{here_fine}
 use Rattle.hp_lex_markup.proofs.Spelled.{stays}
-
-never : {A : Type 0} → IsTrue false → A
-never h = cc
-
-chosen : (b : Bool) (x y : Move) → IsTrue b → cond b x y ≡ x
-chosen true x y h = refl
-chosen false x y h = never h
-
-passed : (b : Bool) (x y : Move) → b ≡ false → cond b x y ≡ y
-passed true x y h = never (sym h)
-passed false x y h = refl
 
 -- the moves in a state, by whether it may read a word
 on_either : (s : State) (l : Lexing) (c : ℕ) (cs : List ℕ) → on_state s l c cs ≡ cond (reads_word s) (word_move l c cs) (cond (has_row s) (row_move row l c cs) needs_more)
@@ -86,15 +76,6 @@ word_here _ h = never h
 
 pub word_true : (b : Bool) → b ≡ true → IsTrue b
 word_true b e = e
-
--- the LF of a pair comes next, or does not
-pub pair_next_at : (after_cr : Bool) (o : Option ℕ) → pair_next after_cr o ≡ true → (c : ℕ) × (o ≡ Some c) × ((after_cr && c == 10) ≡ true)
-pair_next_at after_cr None h = cc
-pair_next_at after_cr (Some c) h = (c, refl, h)
-
-pub no_pair_at : (after_cr : Bool) (u : List ℕ) → pair_next after_cr (first u) ≡ false → (c : ℕ) (cs : List ℕ) → u ≡ c ∷ cs
-    → (after_cr && c == 10) ≡ false
-no_pair_at after_cr u h c cs e = ap (λ (xs : List ℕ). pair_next after_cr (first xs)) (sym e) ∙ h
 
 -- the move in a state that may read a word
 on_word : (l : Lexing) (c : ℕ) (cs : List ℕ) → IsTrue (reads_word l.machine.state) → on_state l.machine.state l c cs ≡ word_move l c cs

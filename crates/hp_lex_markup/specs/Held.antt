@@ -1,20 +1,13 @@
 -- What is held back while a word is read, and what is done when it is decided.
-use Rattle.std.specs.Prelude.{◌≡◌, ℕ, ◌≤◌, ◌∷◌, Bool, true, false, List, [], length, drop, ◌==◌, ◌&&◌, Option, None, Some}
+use Rattle.std.specs.Prelude.{◌≡◌, ℕ, ◌≤◌, ◌∷◌, Bool, true, false, List, [], length, drop}
 use Rattle.hp_tokens.specs.declared.lexing.LexState.{LexState}
 use Rattle.hp_tokens.specs.Reading.{Unread}
 use Rattle.hp_tokens.specs.Moves.{Lexing, Move, row_move}
-use Rattle.hp_tokens.specs.Advancing.{held, unread, place_of, lexing}
+use Rattle.hp_tokens.specs.Advancing.{unread, lexing, SameStand}
 use Rattle.hp_lex_markup.specs.declared.words.Word.{Word}
 use Rattle.hp_lex_markup.specs.Words.{is_open, count}
 use Rattle.hp_lex_markup.specs.Rows.{row}
 use Rattle.hp_lex_markup.specs.Markup.{after_word}
-
--- the lexer stands where it stood
-pub record SameStand (old : LexState) (old_input : Unread) (new : LexState) (new_input : Unread) : Type 0 where
-  pub machine : new.machine ≡ old.machine
-  pub text : unread new new_input ≡ unread old old_input
-  pub place : place_of new new_input ≡ place_of old old_input
-  pub held : held new ≤ new_input.place
 
 -- what was read ahead decides the word, whatever follows; or nothing more is there to read, and it does not
 pub record Gathers (old : LexState) (old_input : Unread) (new : LexState) (new_input : Unread) (decided : Bool) : Type 0 where
@@ -32,8 +25,3 @@ pub record PastWord (w : Word) (old new : LexState) : Type 0 where
 abbrev pub MovesByRow : (Lexing → Move) → LexState → Unread → ℕ → Type 0
 MovesByRow next s input c =
     (rested : ℕ) (cs : List ℕ) → unread s input ≡ c ∷ cs → next (lexing s input rested) ≡ row_move row (lexing s input rested) c cs
-
--- the LF of a CR LF pair comes next
-abbrev pub pair_next : Bool → Option ℕ → Bool
-pair_next after_cr None = false
-pair_next after_cr (Some c) = after_cr && c == 10

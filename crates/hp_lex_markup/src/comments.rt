@@ -1,4 +1,4 @@
-// The rows of comments, one function a state.
+//! The rows of comments, one function a state.
 ghost use Rattle.std.specs.Prelude.{IfOk};
 ghost use Rattle.hp_tokens.specs.Rows.{Follows};
 ghost use Rattle.hp_lex_markup.specs.Rows as rows;
@@ -8,7 +8,7 @@ use hp_elements::Tokens;
 use hp_tokens::{Machine, NoMemory, Part, Reads, State, again, emitted, emitted_at_end, go, put};
 use std::alloc::Global;
 
-/// Where no word is read behind `<!`, a bogus comment begins.
+/// The markup declaration open state, where no word is read (13.2.5.42): a bogus comment begins.
 pub fn markup_declaration(machine: &mut Machine, symbol: Option<char>, tokens: &Tokens<'_>) -> Reads
     ensures { Follows (rows.markup_declaration machine.old symbol) tokens.now machine.new tokens.now result }
 {
@@ -16,6 +16,7 @@ pub fn markup_declaration(machine: &mut Machine, symbol: Option<char>, tokens: &
     again(machine, State::BogusComment)
 }
 
+/// The bogus comment state (13.2.5.41).
 pub fn bogus_comment(
     alloc: Global,
     machine: &mut Machine,
@@ -31,6 +32,7 @@ pub fn bogus_comment(
     }
 }
 
+/// The comment start state (13.2.5.43).
 pub fn comment_start(
     alloc: Global,
     machine: &mut Machine,
@@ -46,6 +48,7 @@ pub fn comment_start(
     }
 }
 
+/// The comment start dash state (13.2.5.44).
 pub fn comment_start_dash(
     alloc: Global,
     machine: &mut Machine,
@@ -65,6 +68,7 @@ pub fn comment_start_dash(
     }
 }
 
+/// The comment state (13.2.5.45).
 pub fn comment(
     alloc: Global,
     machine: &mut Machine,
@@ -84,7 +88,7 @@ pub fn comment(
     }
 }
 
-/// It emits nothing.
+/// The comment less-than sign state (13.2.5.46). It emits nothing.
 pub fn comment_less_than_sign(
     alloc: Global,
     machine: &mut Machine,
@@ -103,7 +107,8 @@ pub fn comment_less_than_sign(
     }
 }
 
-/// A hyphen leads further, anything else is read again in another state.
+/// The comment less-than sign bang and bang dash states (13.2.5.47, 13.2.5.48): a hyphen leads further, anything else is read
+/// again in another state.
 pub fn comment_bang(
     further: State,
     otherwise: State,
@@ -119,7 +124,7 @@ pub fn comment_bang(
     }
 }
 
-/// It reads no code point.
+/// The comment less-than sign bang dash dash state (13.2.5.49). It reads no code point.
 pub fn comment_bang_dash_dash(
     machine: &mut Machine,
     symbol: Option<char>,
@@ -130,6 +135,7 @@ pub fn comment_bang_dash_dash(
     again(machine, State::CommentEnd)
 }
 
+/// The comment end dash state (13.2.5.50).
 pub fn comment_end_dash(
     alloc: Global,
     machine: &mut Machine,
@@ -148,6 +154,7 @@ pub fn comment_end_dash(
     }
 }
 
+/// The comment end state (13.2.5.51).
 pub fn comment_end(
     alloc: Global,
     machine: &mut Machine,
@@ -168,6 +175,7 @@ pub fn comment_end(
     }
 }
 
+/// The comment end bang state (13.2.5.52).
 pub fn comment_end_bang(
     alloc: Global,
     machine: &mut Machine,

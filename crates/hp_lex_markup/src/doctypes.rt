@@ -1,4 +1,4 @@
-// The rows of doctypes, one function a state.
+//! The rows of doctypes, one function a state.
 ghost use Rattle.std.specs.Prelude.{◌≡◌, IfOk};
 ghost use Rattle.hp_tokens.specs.Rows.{Follows};
 ghost use Rattle.hp_lex_markup.specs.Rows.{double_quoted as spec_double_quoted, single_quoted as spec_single_quoted, unfinished as spec_unfinished, spoiled as spec_spoiled, opened as spec_opened, finished as spec_finished};
@@ -84,6 +84,7 @@ fn opened(
     Ok(go(machine, state))
 }
 
+/// The DOCTYPE state (13.2.5.53).
 pub fn doctype(
     alloc: Global,
     machine: &mut Machine,
@@ -102,6 +103,7 @@ pub fn doctype(
     }
 }
 
+/// The before DOCTYPE name state (13.2.5.54).
 pub fn before_doctype_name(
     alloc: Global,
     machine: &mut Machine,
@@ -128,6 +130,7 @@ pub fn before_doctype_name(
     }
 }
 
+/// The DOCTYPE name state (13.2.5.55).
 pub fn doctype_name(
     alloc: Global,
     machine: &mut Machine,
@@ -144,6 +147,7 @@ pub fn doctype_name(
     }
 }
 
+/// The after DOCTYPE name state, where no word is read (13.2.5.56).
 pub fn after_doctype_name(
     alloc: Global,
     machine: &mut Machine,
@@ -160,7 +164,7 @@ pub fn after_doctype_name(
     }
 }
 
-/// Behind `PUBLIC` or `SYSTEM`; `before` is the state before the identifier.
+/// The after DOCTYPE public keyword and system keyword states (13.2.5.57, 13.2.5.63); `before` is the state before the identifier.
 pub fn after_keyword(
     alloc: Global,
     before: State,
@@ -179,7 +183,7 @@ pub fn after_keyword(
     }
 }
 
-/// Before the public or the system identifier.
+/// The before DOCTYPE public identifier and system identifier states (13.2.5.58, 13.2.5.64).
 pub fn before_identifier(
     alloc: Global,
     part: Part,
@@ -197,7 +201,8 @@ pub fn before_identifier(
     }
 }
 
-/// Within an identifier; its quotation mark leads behind it.
+/// The DOCTYPE public and system identifier states in double and in single quotation marks (13.2.5.59, 13.2.5.60, 13.2.5.65,
+/// 13.2.5.66); the quotation mark leads behind the identifier.
 pub fn quoted_identifier(
     alloc: Global,
     mark: char,
@@ -217,6 +222,7 @@ pub fn quoted_identifier(
     }
 }
 
+/// The after DOCTYPE public identifier state (13.2.5.61).
 pub fn after_public_identifier(
     alloc: Global,
     machine: &mut Machine,
@@ -236,6 +242,7 @@ pub fn after_public_identifier(
     }
 }
 
+/// The between DOCTYPE public and system identifiers state (13.2.5.62).
 pub fn between_identifiers(
     alloc: Global,
     machine: &mut Machine,
@@ -252,6 +259,7 @@ pub fn between_identifiers(
     }
 }
 
+/// The after DOCTYPE system identifier state (13.2.5.67).
 pub fn after_system_identifier(
     alloc: Global,
     machine: &mut Machine,
@@ -268,6 +276,7 @@ pub fn after_system_identifier(
     }
 }
 
+/// The bogus DOCTYPE state (13.2.5.68).
 pub fn bogus_doctype(
     alloc: Global,
     machine: &mut Machine,

@@ -1,4 +1,4 @@
-// The moves of this part of the lexer.
+//! The moves of this part of the lexer.
 ghost use Rattle.std.specs.Prelude.{◌≡◌, ◌≤◌, ◌^◌, ℕ, [], Option, IfOk, IsTrue};
 ghost use Rattle.hp_tokens.specs.declared.machine.Machine.{Machine};
 ghost use Rattle.hp_tokens.specs.declared.state.State.{State};

@@ -1,4 +1,4 @@
-// The rows of CDATA sections, and what other rows have in common.
+//! The rows of CDATA sections, and what other rows have in common.
 ghost use Rattle.std.specs.Prelude.{◌≡◌, IfOk, OnOk, IsTrue};
 ghost use Rattle.std.specs.List.{list_all};
 ghost use Rattle.std.specs.Char.{is_ascii};
@@ -25,6 +25,7 @@ pub fn put_ascii(
     machine.put_text(alloc, part, text)
 }
 
+/// The CDATA section state (13.2.5.69).
 pub fn cdata_section(
     alloc: Global,
     machine: &mut Machine,
@@ -40,6 +41,7 @@ pub fn cdata_section(
     }
 }
 
+/// The CDATA section bracket state (13.2.5.70).
 pub fn cdata_section_bracket(
     alloc: Global,
     machine: &mut Machine,
@@ -78,6 +80,7 @@ fn no_section_end(
     bracket_emitted(alloc, machine, tokens)
 }
 
+/// The CDATA section end state (13.2.5.71).
 pub fn cdata_section_end(
     alloc: Global,
     machine: &mut Machine,

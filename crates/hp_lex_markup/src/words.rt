@@ -1,14 +1,13 @@
-// The words that are read behind `<!` and behind a doctype's name: what is read ahead for them is held back (13.2.5.42,
-// 13.2.5.56).
+//! The words that are read behind `<!` and behind a doctype's name: what is read ahead for them is held back (13.2.5.42,
+//! 13.2.5.56).
 ghost use Rattle.std.specs.Prelude.{◌≡◌, ◌≤◌, ℕ, Bool, List, Option, Some, IfOk, OnOk, IsTrue, true, false, drop, length, []};
-ghost use Rattle.hp_elements.specs.declared.token.Token.{Token};
 ghost use Rattle.hp_tokens.specs.Reading.{first};
 ghost use Rattle.hp_tokens.specs.Moves.{Lexing, Move, move};
-ghost use Rattle.hp_tokens.specs.Advancing.{held, unread, Steps, EndSteps, ReadsOne, MovesByRows};
-ghost use Rattle.hp_lex_markup.specs.Rows.{reads_word, has_row, row as spec_row};
+ghost use Rattle.hp_tokens.specs.Advancing.{held, unread, Steps, EndSteps, ReadsOne};
+ghost use Rattle.hp_lex_markup.specs.Rows.{reads_word};
 ghost use Rattle.hp_lex_markup.specs.Words.{progress as spec_progress, is_open as spec_is_open, word as spec_word, count as spec_count, asks as spec_asks, folded as spec_folded, front_of, begins_of};
 ghost use Rattle.hp_lex_markup.specs.Markup.{markup_rules};
-ghost use Rattle.hp_lex_markup.specs.Held.{Gathers, PastWord, MovesByRow, pair_next};
+ghost use Rattle.hp_lex_markup.specs.Held.{Gathers, PastWord, MovesByRow};
 
 use crate::markup::row;
 use crate::rows::put_ascii;
@@ -166,12 +165,9 @@ fn drop_front(text: &mut OwnedText, count: usize)
     requires { count ≤ length text.old }
     ensures { text.new ≡ drop count text.old }
 {
-    for dropped in 0..count {
-        let _ = dropped;
+    for _turn in 0..count {
         match text.take_first() {
-            Some(first) => {
-                let _ = first;
-            }
+            Some(_) => {}
             None => unreachable!(),
         }
     }
@@ -230,28 +226,6 @@ fn read_row(
     Ok(tokens.len() != before)
 }
 
-/// Whether the LF of a CR LF pair comes next.
-fn is_pair_next(state: &LexState, input: &Cursor<'_>) -> bool
-    ensures { result ≡ pair_next state.now.machine.after_cr (first (unread state.now input.now)) }
-{
-    match state.peek(input) {
-        Some(c) => state.machine.after_cr && c == '\n',
-        None => false,
-    }
-}
-
-/// Drops the LF of a CR LF pair.
-fn drop_line_feed(state: &mut LexState, input: &mut Cursor<'_>)
-    requires held { held state.old ≤ input.old.place }
-    requires pair { pair_next state.old.machine.after_cr (first (unread state.old input.old)) ≡ true }
-    ensures dropped { (next : Lexing → Move) → MovesByRows next has_row spec_row → (tokens : List Token) → ReadsOne next state.old input.old tokens state.new input.new tokens false }
-    ensures held { held state.new ≤ input.new.place }
-    ensures ended { input.old.text ≡ [] → input.new.text ≡ [] }
-{
-    let _ = state.take(input);
-    state.machine.after_cr = false;
-}
-
 /// One step, by the word where one is read, and otherwise by the row.
 pub fn step(
     alloc: Global,
@@ -267,8 +241,8 @@ pub fn step(
     let Some(c) = state.peek(input) else {
         return Ok(Step::NeedsMore);
     };
-    if is_pair_next(state, input) {
-        drop_line_feed(state, input);
+    if state.is_pair_next(input) {
+        state.drop_line_feed(input);
         return Ok(Step::Made { emitted: false });
     }
     let decided = gather(alloc, state, input)?;
@@ -307,8 +281,8 @@ pub fn end(
             Reads::End => Ok(EndStep::Ended),
         };
     };
-    if is_pair_next(state, input) {
-        drop_line_feed(state, input);
+    if state.is_pair_next(input) {
+        state.drop_line_feed(input);
         return Ok(EndStep::Made);
     }
     let Some(word) = first_word(state.machine.state, &state.ahead) else {

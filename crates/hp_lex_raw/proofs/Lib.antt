@@ -1,4 +1,3 @@
 pub mod Reading
 pub mod Steady
 pub mod TextRuns
-pub mod Told

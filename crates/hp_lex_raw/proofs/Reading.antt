@@ -13,18 +13,10 @@ use Rattle.hp_tokens.specs.Rows.{Row, Follows}
 use Rattle.hp_tokens.specs.Moves.{Lexing, Move, Rules, needs_more, makes, all_began, read_as, after_row, row_move, row_end, move_on, move}
 use Rattle.hp_tokens.specs.Ranks.{IsFine, Falls}
 use Rattle.hp_tokens.specs.Advancing.{unread, place_of, lexing, Goes, HasRows, MovesByRows}
-use Rattle.hp_tokens.proofs.Stepping.{goes_by, stand_same, read_smaller, again_smaller}
+use Rattle.hp_tokens.proofs.Stepping.{goes_by, stand_same, chosen, passed, read_smaller, again_smaller}
 use Rattle.hp_lex_raw.specs.Rows.{has_row, row}
 use Rattle.hp_lex_raw.specs.Raw.{asks, raw_rules}
 use Rattle.hp_lex_raw.specs.Fine.{row_fine}
-
-pub chosen : (b : Bool) (x y : Move) → IsTrue b → cond b x y ≡ x
-chosen true x y h = refl
-chosen false x y h = cc
-
-pub passed : (b : Bool) (x y : Move) → b ≡ false → cond b x y ≡ y
-passed true x y h = cc
-passed false x y h = refl
 
 -- where a code point is unread, and nothing is asked
 module _ (old : LexState) (input : Unread) (mid : Machine) (new : LexState) (new_input : Unread) (c rested : ℕ)

@@ -9,10 +9,10 @@ use Rattle.hp_tokens.specs.Moves.{read_as}
 use Rattle.hp_tokens.specs.Advancing.{HasRows}
 use Rattle.hp_tokens.specs.Plain.{none_of, data_stops, raw_stops, whole_data_stops, whole_raw_stops, plaintext_stops, escaped_stops, EmitsPlain}
 use Rattle.hp_tokens.specs.PlainLaws.{apart, blank-apart}
+use Rattle.hp_tokens.proofs.Stepping.{chosen, passed}
 use Rattle.hp_lex_raw.specs.Rows.{has_row, row, row_of, ends_name, rcdata, raw_text, plaintext, escaped, double_escaped}
 use Rattle.hp_lex_raw.specs.Fine.{text_here}
 use Rattle.hp_lex_raw.specs.Raw.{raw_rules, asks, names_end_tag, is_untold, reads_text}
-use Rattle.hp_lex_raw.proofs.Reading.{chosen, passed}
 
 -- the row of the state that the machine is in
 row_there : (m : Machine) (c : ℕ) (s t : State) → m.state ≡ s → s ≡ t → row m (Some c) ≡ row_of t m (Some c)

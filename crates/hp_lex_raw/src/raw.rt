@@ -1,4 +1,4 @@
-// The moves of this part of the lexer.
+//! The moves of this part of the lexer.
 ghost use Rattle.std.specs.Prelude.{◌≡◌, ◌≤◌, ◌^◌, ◌==◌, ◌&&◌, ℕ, [], ◌∷◌, Option, Some, true, false, IfOk, IfSome, IfNone, IsTrue};
 ghost use Rattle.hp_tokens.specs.declared.rows.Turn.TheVariants as turns;
 ghost use Rattle.hp_tokens.specs.declared.machine.Machine.{Machine};
@@ -243,8 +243,7 @@ fn read_one(
         return Ok(Step::NeedsMore);
     };
     if state.machine.after_cr && c == '\n' {
-        let _ = state.take(input);
-        state.machine.after_cr = false;
+        state.drop_line_feed(input);
         return Ok(Step::Made { emitted: false });
     }
     if asks(&state.machine, c) {

@@ -1,4 +1,4 @@
-// The rows of RCDATA, RAWTEXT and PLAINTEXT, and those that script data shares with them, one function a kind of state.
+//! The rows of RCDATA, RAWTEXT and PLAINTEXT, and those that script data shares with them, one function a kind of state.
 ghost use Rattle.std.specs.Prelude.{◌≡◌, IfOk};
 ghost use Rattle.std.specs.Str.{bytes_eq, chars};
 ghost use Rattle.hp_tokens.specs.Rows.{Follows};
@@ -50,7 +50,7 @@ pub fn push_and_again(
     Ok(again(machine, to))
 }
 
-/// RCDATA.
+/// The RCDATA state (13.2.5.2).
 pub fn rcdata(
     alloc: Global,
     machine: &mut Machine,
@@ -70,7 +70,7 @@ pub fn rcdata(
     }
 }
 
-/// RAWTEXT and script data.
+/// The RAWTEXT and the script data state (13.2.5.3, 13.2.5.4).
 pub fn raw_text(
     alloc: Global,
     behind_less_than: State,
@@ -87,7 +87,7 @@ pub fn raw_text(
     }
 }
 
-/// PLAINTEXT.
+/// The PLAINTEXT state (13.2.5.5).
 pub fn plaintext(
     alloc: Global,
     machine: &mut Machine,
@@ -102,7 +102,7 @@ pub fn plaintext(
     }
 }
 
-/// Behind `<` in RCDATA and RAWTEXT.
+/// The less-than sign states of RCDATA and RAWTEXT (13.2.5.9, 13.2.5.12).
 pub fn less_than_sign(
     alloc: Global,
     behind_solidus: State,
@@ -135,7 +135,7 @@ fn no_name(
     push_and_again(alloc, machine, tokens, '/', text)
 }
 
-/// Behind `</`.
+/// The end tag open states of RCDATA, RAWTEXT, script data and its escaped part (13.2.5.10, 13.2.5.13, 13.2.5.16, 13.2.5.24).
 pub fn end_tag_open(
     alloc: Global,
     name: State,
@@ -205,7 +205,7 @@ fn no_end_tag(
     buffer_emitted(alloc, machine, text, tokens)
 }
 
-/// The name of an end tag.
+/// The end tag name states of RCDATA, RAWTEXT, script data and its escaped part (13.2.5.11, 13.2.5.14, 13.2.5.17, 13.2.5.25).
 pub fn end_tag_name(
     alloc: Global,
     text: State,

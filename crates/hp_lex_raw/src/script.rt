@@ -1,4 +1,4 @@
-// The rows of script data that are its own, one function a kind of state.
+//! The rows of script data that are its own, one function a kind of state.
 ghost use Rattle.std.specs.Prelude.{◌≡◌, IfOk};
 ghost use Rattle.hp_tokens.specs.Rows.{Follows};
 ghost use Rattle.hp_lex_raw.specs.Rows as rows;
@@ -10,7 +10,7 @@ use hp_tokens::{
 };
 use std::alloc::Global;
 
-/// Behind `<` in script data.
+/// The script data less-than sign state (13.2.5.15).
 pub fn script_less_than_sign(
     alloc: Global,
     machine: &mut Machine,
@@ -36,7 +36,7 @@ pub fn script_less_than_sign(
     }
 }
 
-/// Behind `<!` and `<!-`.
+/// The script data escape start and escape start dash states (13.2.5.18, 13.2.5.19).
 pub fn escape_start(
     alloc: Global,
     dash: State,
@@ -52,7 +52,7 @@ pub fn escape_start(
     }
 }
 
-/// Escaped script data.
+/// The script data escaped state (13.2.5.20).
 pub fn escaped(
     alloc: Global,
     machine: &mut Machine,
@@ -72,7 +72,7 @@ pub fn escaped(
     }
 }
 
-/// Escaped script data behind one hyphen.
+/// The script data escaped dash state (13.2.5.21).
 pub fn escaped_dash(
     alloc: Global,
     machine: &mut Machine,
@@ -95,7 +95,7 @@ pub fn escaped_dash(
     }
 }
 
-/// Escaped script data behind two hyphens.
+/// The script data escaped dash dash state (13.2.5.22).
 pub fn escaped_dash_dash(
     alloc: Global,
     machine: &mut Machine,
@@ -119,7 +119,7 @@ pub fn escaped_dash_dash(
     }
 }
 
-/// Behind `<` in escaped script data.
+/// The script data escaped less-than sign state (13.2.5.23).
 pub fn escaped_less_than_sign(
     alloc: Global,
     machine: &mut Machine,
@@ -152,7 +152,8 @@ fn is_script(text: &OwnedText) -> bool
     spells(text, "script")
 }
 
-/// The name behind `<` and behind `</` in escaped script data: `script` begins or ends the double escape.
+/// The script data double escape start and double escape end states (13.2.5.26, 13.2.5.31): the name
+/// `script` begins or ends the double escape.
 pub fn double_escape(
     alloc: Global,
     script: State,
@@ -180,7 +181,7 @@ pub fn double_escape(
     }
 }
 
-/// Double escaped script data.
+/// The script data double escaped state (13.2.5.27).
 pub fn double_escaped(
     alloc: Global,
     machine: &mut Machine,
@@ -203,7 +204,7 @@ pub fn double_escaped(
     }
 }
 
-/// Double escaped script data behind one hyphen.
+/// The script data double escaped dash state (13.2.5.28).
 pub fn double_escaped_dash(
     alloc: Global,
     machine: &mut Machine,
@@ -229,7 +230,7 @@ pub fn double_escaped_dash(
     }
 }
 
-/// Double escaped script data behind two hyphens.
+/// The script data double escaped dash dash state (13.2.5.29).
 pub fn double_escaped_dash_dash(
     alloc: Global,
     machine: &mut Machine,
@@ -256,7 +257,7 @@ pub fn double_escaped_dash_dash(
     }
 }
 
-/// Behind `<` in double escaped script data.
+/// The script data double escaped less-than sign state (13.2.5.30).
 pub fn double_escaped_less_than_sign(
     alloc: Global,
     machine: &mut Machine,

@@ -9,4 +9,3 @@ pub mod StraightParts
 pub mod StraightTags
 pub mod UsualReference
 pub mod ValueReferences
-pub mod Told

@@ -22,11 +22,11 @@ use Rattle.hp_tokens.specs.Reading.{Unread, first}
 use Rattle.hp_tokens.specs.Rows.{flushed_tokens, with_buffer}
 use Rattle.hp_tokens.specs.Moves.{Lexing, Move, needs_more, makes, all_began, move_on, move, end_move_on, end_move, row_move, row_end}
 use Rattle.hp_tokens.specs.Ranks.{rank, symbol_of}
-use Rattle.hp_tokens.specs.Advancing.{held, unread, place_of, lexing, Goes, HasRows}
-use Rattle.hp_tokens.proofs.Stepping.{goes_by, stand_same}
+use Rattle.hp_tokens.specs.Advancing.{held, unread, place_of, lexing, pair_next, SameStand, Goes, HasRows}
+use Rattle.hp_tokens.proofs.Stepping.{goes_by, stand_same, chosen, no_pair_at}
 use Rattle.hp_tokens.proofs.FineRows.{flushed-single, returns-rest}
 use Rattle.hp_lex_tags.specs.Named.{reference_move, named_move, named_end, is_no_reference, read_buffer, with_found}
-use Rattle.hp_lex_tags.specs.Held.{SameStand, Decides, pair_next}
+use Rattle.hp_lex_tags.specs.Held.{Decides}
 use Rattle.hp_lex_tags.specs.Rows.{has_row, row}
 use Rattle.hp_lex_tags.specs.Tags.{tag_rules, on_state, last_state, is_here}
 
@@ -69,10 +69,6 @@ longest-within names text f e = found_within names text (longest names text) (lo
 pub fits_of : (names : List Reference) (text : List ℕ) (o : Option Found) → o ≡ longest names text → IfSome o (λ f. f.length ≤ length text)
 fits_of names text None e = tt
 fits_of names text (Some f) e = longest-within names text f (sym e)
-
-chosen : (b : Bool) (x y : Move) → IsTrue b → cond b x y ≡ x
-chosen true x y h = refl
-chosen false x y h = cc
 
 pub tags_rows : (names : List Reference) → HasRows (tag_rules names) has_row row
 tags_rows names = record {
@@ -210,15 +206,6 @@ step_front xs rest i c e =
     let same : get_or xs i 0 ≡ c = cc in
     let later : drop (suc i) xs ≡ rest = cc in
     (take_more xs i 0 less ∙ ap (λ (y : ℕ). take i xs ++ y ∷ []) same, rw add-one later)
-
--- the LF of a CR LF pair is there, or is not
-pub pair_next_at : (after_cr : Bool) (o : Option ℕ) → pair_next after_cr o ≡ true → (c : ℕ) × (o ≡ Some c) × ((after_cr && c == 10) ≡ true)
-pair_next_at after_cr None h = cc
-pair_next_at after_cr (Some c) h = (c, refl, h)
-
-pub no_pair_at : (after_cr : Bool) (u : List ℕ) → pair_next after_cr (first u) ≡ false → (c : ℕ) (cs : List ℕ) → u ≡ c ∷ cs
-    → (after_cr && c == 10) ≡ false
-no_pair_at after_cr u h c cs e = ap (λ (xs : List ℕ). pair_next after_cr (first xs)) (sym e) ∙ h
 
 -- the buffer that was read is that of the name
 pub with_found_is : (f : Found) (m : Machine) (ahead text name rest buffer : List ℕ) (kept : Bool) → f.length ≤ length ahead

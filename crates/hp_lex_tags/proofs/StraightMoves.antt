@@ -22,6 +22,7 @@ use Rattle.hp_tokens.specs.Runs.{here, onward}
 use Rattle.hp_tokens.specs.PlainLaws.{unlike}
 use Rattle.hp_tokens.proofs.Pieces.{Leads-join}
 use Rattle.hp_tokens.proofs.Stepping.{by_rows}
+use Rattle.hp_tokens.proofs.Told.{never}
 use Rattle.hp_lex_tags.specs.Rows.{has_row, row}
 use Rattle.hp_lex_tags.specs.Tags.{tag_rules}
 use Rattle.hp_tokens.specs.Reading.{SkipsRun}
@@ -29,9 +30,6 @@ use Rattle.hp_lex_tags.specs.declared.straight.Way.{Way}
 use Rattle.hp_lex_tags.specs.declared.straight.Way.TheVariants as way
 use Rattle.hp_lex_tags.specs.Straight.{Reading, tagging, tag_of, is_between, ends_part, behind_blanks, Onto, Closes, ClosesStart, Arrives, Continues}
 use Rattle.hp_lex_tags.proofs.NamedSteps.{tags_rows}
-
-pub never : {A : Type 0} → false ≡ true → A
-never h = cc
 
 -- a row that reads again, and one that emits a token and rests
 abbrev pub reread : Machine → Row

@@ -32,7 +32,8 @@ use Rattle.hp_lex_tags.specs.Straight.{Reading, tagging, within, standing_at, ta
 use Rattle.hp_lex_tags.specs.Usual.{ReferenceTaken}
 use Rattle.hp_lex_tags.proofs.ValueReferences.{reference_onto}
 use Rattle.hp_lex_tags.proofs.PlainRows.{double_quoted_plain, single_quoted_plain, unquoted_plain}
-use Rattle.hp_lex_tags.proofs.StraightMoves.{reread, consumed_move, consumes, rereads, onto_join, arrives_join, continues_join, over_run, between_row, never}
+use Rattle.hp_lex_tags.proofs.StraightMoves.{reread, consumed_move, consumes, rereads, onto_join, arrives_join, continues_join, over_run, between_row}
+use Rattle.hp_tokens.proofs.Told.{never}
 
 -- a lowered code point is U+0000 only where it was before
 lowered_zero : (c : ℕ) → (c == 0) ≡ false → (lowered c == 0) ≡ false

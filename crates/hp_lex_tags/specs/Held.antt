@@ -1,5 +1,5 @@
 -- What is held back while a named reference is read, and what is done when its name is decided.
-use Rattle.std.specs.Prelude.{◌≡◌, ℕ, ◌≤◌, ◌==◌, ◌&&◌, ◌++◌, Bool, true, false, List, [], length, drop, Option, None, Some}
+use Rattle.std.specs.Prelude.{◌≡◌, ◌≤◌, ◌++◌, Bool, true, false, List, [], length, drop, Option, None, Some}
 use Rattle.hp_elements.specs.declared.token.Token.{Token}
 use Rattle.hp_names.specs.References.{Reference}
 use Rattle.hp_names.specs.Longest.{is_open, StaysClosed}
@@ -7,20 +7,8 @@ use Rattle.hp_names.specs.declared.names.Found.{Found}
 use Rattle.hp_tokens.specs.declared.lexing.LexState.{LexState}
 use Rattle.hp_tokens.specs.Reading.{Unread}
 use Rattle.hp_tokens.specs.Rows.{flushed_tokens}
-use Rattle.hp_tokens.specs.Advancing.{held, unread, place_of}
+use Rattle.hp_tokens.specs.Advancing.{unread, SameStand}
 use Rattle.hp_lex_tags.specs.Named.{with_found, unfound, gone_back}
-
--- the next code point is the LF of a CR LF pair
-abbrev pub pair_next : Bool → Option ℕ → Bool
-pair_next after_cr None = false
-pair_next after_cr (Some c) = after_cr && c == 10
-
--- the lexer stands where it stood
-pub record SameStand (old : LexState) (old_input : Unread) (new : LexState) (new_input : Unread) : Type 0 where
-  pub machine : new.machine ≡ old.machine
-  pub text : unread new new_input ≡ unread old old_input
-  pub place : place_of new new_input ≡ place_of old old_input
-  pub held : held new ≤ new_input.place
 
 -- what was read ahead decides the name, whatever follows; or nothing more is there to read, and it does not
 pub record Gathers (names : List Reference) (old : LexState) (old_input : Unread) (new : LexState) (new_input : Unread) (decided : Bool) : Type 0 where

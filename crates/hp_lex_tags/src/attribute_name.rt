@@ -1,4 +1,4 @@
-// The name of an attribute, whose end is looked for in 16 bytes at once.
+//! The name of an attribute, whose end is looked for in 16 bytes at once.
 ghost use Rattle.std.specs.Prelude.{◌≡◌, ◌≤◌, ◌<◌, ◌+◌, ℕ, true, length, map, slice_index, nat_le, if◌then◌else◌, ◌==◌, refl};
 ghost use Rattle.std.specs.Simd.Lanes.{mask_l};
 ghost use Rattle.std.specs.Int.{w64, trailing_zeros};

@@ -1,15 +1,12 @@
-// Named character references: the longest name decides, and what is read ahead for it is held back (13.2.5.73).
-ghost use Rattle.std.specs.Prelude.{◌≡◌, ◌≤◌, List, Option, Some, IfOk, OnOk, IfSome, true, false, [], take, drop, length};
+//! Named character references: the longest name decides, and what is read ahead for it is held back (13.2.5.73).
+ghost use Rattle.std.specs.Prelude.{◌≡◌, ◌≤◌, Some, IfOk, OnOk, IfSome, [], take, drop, length};
 ghost use Rattle.std.specs.Bool.{OnFalse};
 ghost use Rattle.hp_names.specs.Longest.{longest as spec_longest, is_open as spec_is_open, StaysClosed};
 ghost use Rattle.hp_tokens.specs.declared.state.State.TheVariants as states;
-ghost use Rattle.hp_elements.specs.declared.token.Token.{Token};
-ghost use Rattle.hp_tokens.specs.Moves.{Lexing, Move, move};
-ghost use Rattle.hp_tokens.specs.Reading.{first};
-ghost use Rattle.hp_tokens.specs.Advancing.{held, unread, MovesByRows, ReadsOne, Steps, EndSteps};
+ghost use Rattle.hp_tokens.specs.Moves.{move};
+ghost use Rattle.hp_tokens.specs.Advancing.{held, Steps, EndSteps};
 ghost use Rattle.hp_lex_tags.specs.Named.{is_no_reference as spec_is_no_reference, read_buffer};
-ghost use Rattle.hp_lex_tags.specs.Held.{Gathers, Decides, pair_next};
-ghost use Rattle.hp_lex_tags.specs.Rows.{has_row, row};
+ghost use Rattle.hp_lex_tags.specs.Held.{Gathers, Decides};
 ghost use Rattle.hp_lex_tags.specs.Tags.{tag_rules};
 
 use hp_elements::Tokens;
@@ -72,8 +69,7 @@ fn take_front(alloc: Global, text: &mut OwnedText, count: u64) -> Result<OwnedTe
     ensures rest { OnOk result (text.new ≡ drop count text.old) }
 {
     let mut front = OwnedText::new();
-    for taken in 0..count {
-        let _ = taken;
+    for _turn in 0..count {
         match text.take_first() {
             Some(c) => front.push(alloc, c)?,
             None => unreachable!(),
@@ -145,28 +141,6 @@ fn decide(
     }
 }
 
-/// Whether the LF of a CR LF pair comes next.
-fn is_pair_next(state: &LexState, input: &Cursor<'_>) -> bool
-    ensures { result ≡ pair_next state.now.machine.after_cr (first (unread state.now input.now)) }
-{
-    match state.peek(input) {
-        Some(c) => state.machine.after_cr && c == '\n',
-        None => false,
-    }
-}
-
-/// Drops the LF of a CR LF pair.
-fn drop_line_feed(state: &mut LexState, input: &mut Cursor<'_>)
-    requires held { held state.old ≤ input.old.place }
-    requires pair { pair_next state.old.machine.after_cr (first (unread state.old input.old)) ≡ true }
-    ensures dropped { (next : Lexing → Move) → MovesByRows next has_row row → (tokens : List Token) → ReadsOne next state.old input.old tokens state.new input.new tokens false }
-    ensures held { held state.new ≤ input.new.place }
-    ensures ended { input.old.text ≡ [] → input.new.text ≡ [] }
-{
-    let _ = state.take(input);
-    state.machine.after_cr = false;
-}
-
 /// One step by the longest name.
 pub fn step(
     alloc: Global,
@@ -183,8 +157,8 @@ pub fn step(
     let Some(_) = state.peek(input) else {
         return Ok(Step::NeedsMore);
     };
-    if is_pair_next(state, input) {
-        drop_line_feed(state, input);
+    if state.is_pair_next(input) {
+        state.drop_line_feed(input);
         return Ok(Step::Made { emitted: false });
     }
     let decided = gather(alloc, state, input, names)?;
@@ -212,8 +186,8 @@ pub fn end(
     ensures held { IfOk result (λ step. held state.new ≤ input.new.place) }
     ensures ended { IfOk result (λ step. input.new.text ≡ []) }
 {
-    if is_pair_next(state, input) {
-        drop_line_feed(state, input);
+    if state.is_pair_next(input) {
+        state.drop_line_feed(input);
         return Ok(EndStep::Made);
     }
     decide(alloc, state, input, names, tokens)?;

@@ -1,4 +1,4 @@
-// The rows of character references but for named ones, one function a state.
+//! The rows of character references but for named ones, one function a state.
 ghost use Rattle.std.specs.Prelude.{◌≡◌, ◌≤◌, IfOk, Option};
 ghost use Rattle.hp_tokens.specs.Rows.{Follows};
 ghost use Rattle.hp_lex_tags.specs.Rows as rows;
@@ -10,6 +10,7 @@ use hp_tokens::{
 };
 use std::alloc::Global;
 
+/// The character reference state (13.2.5.72).
 pub fn character_reference(
     alloc: Global,
     machine: &mut Machine,
@@ -32,6 +33,7 @@ pub fn character_reference(
     }
 }
 
+/// The ambiguous ampersand state (13.2.5.74).
 pub fn ambiguous_ampersand(
     alloc: Global,
     machine: &mut Machine,
@@ -52,6 +54,7 @@ pub fn ambiguous_ampersand(
     }
 }
 
+/// The numeric character reference state (13.2.5.75).
 pub fn numeric_reference(
     alloc: Global,
     machine: &mut Machine,
@@ -69,6 +72,7 @@ pub fn numeric_reference(
     }
 }
 
+/// The hexadecimal and the decimal character reference start states (13.2.5.76, 13.2.5.77).
 pub fn number_start(
     alloc: Global,
     base: u32,
@@ -101,6 +105,7 @@ pub(crate) fn capped(value: u64) -> u32
     }
 }
 
+/// The hexadecimal and the decimal character reference states (13.2.5.78, 13.2.5.79).
 pub fn number(
     base: u32,
     machine: &mut Machine,
@@ -124,6 +129,7 @@ pub fn number(
     Ok(again(machine, State::NumericCharacterReferenceEnd))
 }
 
+/// The numeric character reference end state (13.2.5.80).
 pub fn numeric_end(
     alloc: Global,
     machine: &mut Machine,

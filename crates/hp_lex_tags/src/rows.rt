@@ -1,4 +1,4 @@
-// The rows of text and tags, one function a state.
+//! The rows of text and tags, one function a state.
 ghost use Rattle.std.specs.Prelude.{◌≡◌, IfOk, Option};
 ghost use Rattle.hp_tokens.specs.Rows.{Follows, plus, ended as spec_ended};
 ghost use Rattle.hp_lex_tags.specs.Rows as rows;
@@ -23,6 +23,7 @@ fn char_at_end(
     ended(alloc, machine, tokens)
 }
 
+/// The data state (13.2.5.1).
 pub fn data(
     alloc: Global,
     machine: &mut Machine,
@@ -42,6 +43,7 @@ pub fn data(
     }
 }
 
+/// The tag open state (13.2.5.6).
 pub fn tag_open(
     alloc: Global,
     machine: &mut Machine,
@@ -69,6 +71,7 @@ pub fn tag_open(
     }
 }
 
+/// The end tag open state (13.2.5.7).
 pub fn end_tag_open(
     alloc: Global,
     machine: &mut Machine,
@@ -94,6 +97,7 @@ pub fn end_tag_open(
     }
 }
 
+/// The tag name state (13.2.5.8).
 pub fn tag_name(
     alloc: Global,
     machine: &mut Machine,
@@ -111,6 +115,7 @@ pub fn tag_name(
     }
 }
 
+/// The before attribute name state (13.2.5.32).
 pub fn before_attribute_name(
     alloc: Global,
     machine: &mut Machine,
@@ -134,6 +139,7 @@ pub fn before_attribute_name(
     }
 }
 
+/// The attribute name state (13.2.5.33).
 pub fn attribute_name(
     alloc: Global,
     machine: &mut Machine,
@@ -150,6 +156,7 @@ pub fn attribute_name(
     }
 }
 
+/// The after attribute name state (13.2.5.34).
 pub fn after_attribute_name(
     alloc: Global,
     machine: &mut Machine,
@@ -171,6 +178,7 @@ pub fn after_attribute_name(
     }
 }
 
+/// The before attribute value state (13.2.5.35).
 pub fn before_attribute_value(
     alloc: Global,
     machine: &mut Machine,
@@ -188,6 +196,7 @@ pub fn before_attribute_value(
     }
 }
 
+/// The attribute value states in double and in single quotation marks (13.2.5.36, 13.2.5.37).
 pub fn quoted_value(
     alloc: Global,
     mark: char,
@@ -209,6 +218,7 @@ pub fn quoted_value(
     }
 }
 
+/// The attribute value (unquoted) state (13.2.5.38).
 pub fn unquoted_value(
     alloc: Global,
     machine: &mut Machine,
@@ -229,6 +239,7 @@ pub fn unquoted_value(
     }
 }
 
+/// The after attribute value (quoted) state (13.2.5.39).
 pub fn after_quoted_value(
     alloc: Global,
     machine: &mut Machine,
@@ -246,6 +257,7 @@ pub fn after_quoted_value(
     }
 }
 
+/// The self-closing start tag state (13.2.5.40).
 pub fn self_closing_start_tag(
     alloc: Global,
     machine: &mut Machine,

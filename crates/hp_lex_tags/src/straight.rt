@@ -1,4 +1,4 @@
-// The usual tag, read straight from the page: what the rows do code point by code point, at once.
+//! The usual tag, read straight from the page: what the rows do code point by code point, at once.
 ghost use Rattle.std.specs.Prelude.{◌≡◌, ◌≢◌, ◌≤◌, ◌<◌, ℕ, List, [], Some, None, OnOk, IfOk, IfSome, IfNone, true, false, refl};
 ghost use Rattle.std.specs.Str.{chars};
 ghost use Rattle.hp_names.specs.References.{Reference};

@@ -1,4 +1,4 @@
-// The moves of this part of the lexer.
+//! The moves of this part of the lexer.
 ghost use Rattle.std.specs.Prelude.{◌≡◌, ◌≤◌, ◌^◌, ℕ, [], ◌∷◌, true, Option, IfOk, IfSome, IfNone, IsTrue};
 ghost use Rattle.hp_tokens.specs.declared.rows.Turn.TheVariants as turns;
 ghost use Rattle.hp_tokens.specs.declared.machine.Machine.{Machine};

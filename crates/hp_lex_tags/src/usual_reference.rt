@@ -1,4 +1,4 @@
-// A named or a decimal reference in the data state or in an attribute's value, read straight from the page: what the rows do code point by code point, at once.
+//! A named or a decimal reference in the data state or in an attribute's value, read straight from the page: what the rows do code point by code point, at once.
 ghost use Rattle.std.specs.Prelude.{◌≡◌, ◌+◌, ◌*◌, ◌-◌, ◌≤◌, ◌<◌, [], ◌∷◌, Some, map, length, true, IfSome, IfNone, IsUtf8};
 ghost use Rattle.std.specs.List.{list_all};
 ghost use Rattle.std.specs.Str.{chars};

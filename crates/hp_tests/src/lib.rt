@@ -18,8 +18,6 @@ mod known;
 #[cfg(test)]
 mod lexer;
 #[cfg(test)]
-mod lexing;
-#[cfg(test)]
 mod markup;
 #[cfg(test)]
 mod names;

@@ -15,12 +15,6 @@ use Rattle.hp_tokens.proofs.Searching.{all_from, from-place}
 abbrev hit : ℕ → ℕ → ℕ
 hit x y = cond (eqb x y) 255 0
 
-both_hits : (p q : Bool) → bit_or (cond p 255 0) (cond q 255 0) ≡ cond (p || q) 255 0
-both_hits true true = refl
-both_hits true false = refl
-both_hits false true = refl
-both_hits false false = refl
-
 -- four comparisons of a lane
 lane : (p q r s : Bool) → top 7 (bit_or (bit_or (bit_or (cond p 255 0) (cond q 255 0)) (cond r 255 0)) (cond s 255 0)) ≡ (p || q || r || s)
 lane true true true true = refl

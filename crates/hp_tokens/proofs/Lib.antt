@@ -3,6 +3,7 @@ pub mod Texts
 pub mod Fronts
 pub mod Pieces
 pub mod Stepping
+pub mod Told
 pub mod OneByOne
 pub mod FineRows
 pub mod PlainRuns

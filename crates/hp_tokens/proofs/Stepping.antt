@@ -16,7 +16,7 @@ use Rattle.hp_tokens.specs.Rows.{Row, Follows}
 use Rattle.hp_tokens.specs.Moves.{Lexing, Emitted, Move, Rules, needs_more, makes, ends, standing, all_began, read_as, after_row, after_end, move_on, move, end_move_on, end_move}
 use Rattle.hp_tokens.specs.Runs.{here}
 use Rattle.hp_tokens.specs.Ranks.{rank, ends_name, symbol_of, weight, Falls, IsSingle, AreSingle, IsFine}
-use Rattle.hp_tokens.specs.Advancing.{unread, place_of, lexing, single, singles, tokens_of, Began, IsRun, IsRunText, AreRuns, Appends, Says, Goes, HasRows, MovesByRows}
+use Rattle.hp_tokens.specs.Advancing.{unread, place_of, lexing, pair_next, single, singles, tokens_of, Began, IsRun, IsRunText, AreRuns, Appends, Says, Goes, HasRows, MovesByRows}
 
 pub tokens_of-all_began : (place : ℕ) (ts : List Token) → tokens_of (all_began place ts) ≡ ts
 tokens_of-all_began place [] = refl
@@ -134,6 +134,15 @@ text_of_some text {c} h = go text c h
     go [] c h = cc
     go (x ∷ xs) c h = let e : x ≡ c = cc in (xs, ap (λ (y : ℕ). y ∷ xs) e)
 
+-- the move of a choice
+pub chosen : (b : Bool) (x y : Move) → IsTrue b → cond b x y ≡ x
+chosen true x y h = refl
+chosen false x y h = cc
+
+pub passed : (b : Bool) (x y : Move) → b ≡ false → cond b x y ≡ y
+passed true x y h = cc
+passed false x y h = refl
+
 -- where a state has a row, moves are those of the row
 pub by_rows : (rules : Rules) (has : State → Bool) (row : Machine → Option ℕ → Row) → HasRows rules has row → MovesByRows (move rules) has row
 by_rows rules has row rows = record {
@@ -181,6 +190,15 @@ module _ (has : State → Bool) (row : Machine → Option ℕ → Row) (next : L
       f.emits fine.single flag
       (again_smaller old.machine.state new.machine.state r c cs (unread old input) (unread new new_input) fine (sym f.reads)
       (ap (λ (x : Machine). x.state) (machine ∙ f.to)) text same_text)
+
+-- the LF of a CR LF pair comes next, or does not
+pub pair_next_at : (after_cr : Bool) (o : Option ℕ) → pair_next after_cr o ≡ true → (c : ℕ) × (o ≡ Some c) × ((after_cr && c == 10) ≡ true)
+pair_next_at after_cr None h = cc
+pair_next_at after_cr (Some c) h = (c, refl, h)
+
+pub no_pair_at : (after_cr : Bool) (u : List ℕ) → pair_next after_cr (first u) ≡ false → (c : ℕ) (cs : List ℕ) → u ≡ c ∷ cs
+    → (after_cr && c == 10) ≡ false
+no_pair_at after_cr u h c cs e = ap (λ (xs : List ℕ). pair_next after_cr (first xs)) (sym e) ∙ h
 
 -- the LF of a CR LF pair is dropped
 pub pair_dropped : (next : Lexing → Move) {has : State → Bool} {row : Machine → Option ℕ → Row} → MovesByRows next has row → (old : LexState) (input : Unread) (new : LexState) (new_input : Unread) (c rested : ℕ) (tokens : List Token)

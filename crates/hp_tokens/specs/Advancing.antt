@@ -1,5 +1,5 @@
 -- Where a lexer stands that has code points read ahead, and what the calls say of it.
-use Rattle.std.specs.Prelude.{◌≡◌, ℕ, ◌+◌, ◌-◌, ◌^◌, ◌<◌, ◌≤◌, ◌&&◌, Bool, true, false, List, [], ◌∷◌, ◌++◌, map, length, sum_by, Option, IsTrue, ◌==◌}
+use Rattle.std.specs.Prelude.{◌≡◌, ℕ, ◌+◌, ◌-◌, ◌^◌, ◌<◌, ◌≤◌, ◌&&◌, Bool, true, false, List, [], ◌∷◌, ◌++◌, map, length, sum_by, Option, None, Some, IsTrue, ◌==◌}
 use Rattle.std.specs.List.{flat_map}
 use Rattle.std.specs.Char.{len_utf8}
 use Rattle.hp_elements.specs.declared.token.Token.{Token}
@@ -214,6 +214,24 @@ pub record Takes (old : LexState) (old_input : Unread) (new : LexState) (new_inp
   pub machine : new.machine ≡ old.machine
   pub text : unread old old_input ≡ c ∷ unread new new_input
   pub place : place_of new new_input ≡ place_of old old_input + len_utf8 c
+  pub held : held new ≤ new_input.place
+
+-- the LF of a CR LF pair comes next
+abbrev pub pair_next : Bool → Option ℕ → Bool
+pair_next after_cr None = false
+pair_next after_cr (Some c) = after_cr && c == 10
+
+-- the LF of a CR LF pair was dropped, which is a move by any rows
+abbrev pub DropsPair : LexState → Unread → LexState → Unread → Type 0
+DropsPair old old_input new new_input =
+    (next : Lexing → Move) (has : State → Bool) (row : Machine → Option ℕ → Row) (tokens : List Token) → MovesByRows next has row
+    → ReadsOne next old old_input tokens new new_input tokens false
+
+-- the lexer stands where it stood
+pub record SameStand (old : LexState) (old_input : Unread) (new : LexState) (new_input : Unread) : Type 0 where
+  pub machine : new.machine ≡ old.machine
+  pub text : unread new new_input ≡ unread old old_input
+  pub place : place_of new new_input ≡ place_of old old_input
   pub held : held new ≤ new_input.place
 
 -- the lexer stands where it stood; one more code point is held back, or there is none

@@ -1,4 +1,4 @@
-// The token under construction.
+//! The token under construction.
 ghost use Rattle.std.specs.Prelude.{◌≡◌, OnOk, IfOk};
 
 use crate::NoMemory;

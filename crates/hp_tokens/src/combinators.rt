@@ -1,4 +1,4 @@
-// What the code of a row does, one function a combinator of the rows.
+//! What the code of a row does, one function a combinator of the rows.
 ghost use Rattle.std.specs.Prelude.{◌≡◌, IfOk, OnOk};
 ghost use Rattle.hp_tokens.specs.declared.rows.Reads.TheVariants as reads;
 ghost use Rattle.hp_tokens.specs.States.{enter, return_state};
@@ -12,7 +12,8 @@ use crate::state::State;
 use hp_elements::{Token, Tokens};
 use std::alloc::Global;
 
-/// Whether the code point is what the standard calls whitespace: tab, line feed, form feed or space.
+/// Whether the code point is what the standard calls whitespace: tab, line feed, form feed or space. CR was read as
+/// LF before.
 #[inline]
 pub fn is_blank(c: char) -> bool
     ensures { result ≡ spec_is_blank c }
@@ -95,19 +96,6 @@ pub fn emitted(
     Ok(go(machine, state))
 }
 
-/// What was built is emitted, and the code point is read again in a state.
-pub fn emitted_again(
-    alloc: Global,
-    machine: &mut Machine,
-    state: State,
-    tokens: &mut Tokens<'_>,
-) -> Result<Reads, NoMemory>
-    ensures { IfOk result (Follows (emitting_built (spec_again state) machine.old) tokens.old machine.new tokens.new) }
-{
-    machine.emit_built(alloc, tokens)?;
-    Ok(again(machine, state))
-}
-
 /// What was built is emitted, and behind it the end of input.
 pub fn emitted_at_end(
     alloc: Global,
@@ -131,18 +119,6 @@ pub fn buffer_emitted(
 {
     push_text(alloc, tokens, &machine.buffer)?;
     Ok(again(machine, state))
-}
-
-/// The code points of the buffer are emitted, and behind them the end of input.
-pub fn buffer_emitted_at_end(
-    alloc: Global,
-    machine: &mut Machine,
-    tokens: &mut Tokens<'_>,
-) -> Result<Reads, NoMemory>
-    ensures { IfOk result (Follows (emitting_buffer spec_ended machine.old) tokens.old machine.new tokens.new) }
-{
-    push_text(alloc, tokens, &machine.buffer)?;
-    ended(alloc, machine, tokens)
 }
 
 /// The buffer goes where it goes, and the code point is read again in the state that the character reference came from.

@@ -1,4 +1,4 @@
-// A cursor over a text, which contracts see as its unread code points and the place of the first.
+//! A cursor over a text, which contracts see as its unread code points and the place of the first.
 ghost use Rattle.std.specs.Prelude.{◌≡◌, ℕ, List, [], ◌∷◌, ◌++◌, length, drop, take, IsUtf8, ◌+◌, ◌<◌, ◌≤◌, ◌^◌, MatchOption, true, false, slice_index, Bool};
 ghost use Rattle.std.specs.List.{list_all};
 

@@ -1,4 +1,4 @@
-// A few bytes, which stand in the value itself.
+//! A few bytes, which stand in the value itself.
 ghost use Rattle.std.specs.Prelude.{◌≡◌, ℕ, List, [], ◌++◌, ◌≤◌, ◌+◌, length, drop};
 
 use std::marker::Model;
@@ -6,6 +6,7 @@ use std::marker::Model;
 /// How many bytes have room.
 pub const ROOM: usize = 22;
 
+/// A list of at most `ROOM` bytes, without a place on the heap.
 #[derive(Drop)]
 pub struct Few {
     len: usize,
@@ -23,6 +24,7 @@ impl Model for Few {
 }
 
 impl Few {
+    /// An empty list.
     #[inline]
     pub fn new() -> Few
         ensures { result ≡ [] }
@@ -33,6 +35,7 @@ impl Few {
         }
     }
 
+    /// How many bytes it has.
     #[inline]
     pub fn len(&self) -> usize
         ensures len { result ≡ length self.now }
@@ -41,6 +44,7 @@ impl Few {
         self.len
     }
 
+    /// The bytes.
     #[inline]
     pub fn as_slice(&self) -> &[u8]
         ensures items { result.now ≡ self.now }
@@ -49,6 +53,7 @@ impl Few {
         &self.bytes[..self.len]
     }
 
+    /// Drops all bytes.
     #[inline]
     pub fn clear(&mut self)
         ensures { self.new ≡ [] }
@@ -56,6 +61,7 @@ impl Few {
         self.len = 0;
     }
 
+    /// Appends bytes, for which there is room.
     #[inline]
     pub fn extend(&mut self, more: &[u8])
         requires { length self.old + length more.now ≤ 22 }
@@ -66,6 +72,7 @@ impl Few {
         self.len = end;
     }
 
+    /// Drops so many bytes off the front.
     #[inline(never)]
     pub fn drop_front(&mut self, count: usize)
         requires { count ≤ length self.old }

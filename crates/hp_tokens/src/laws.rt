@@ -1,4 +1,4 @@
-// The laws of runs of moves.
+//! The laws of runs of moves.
 
 ghost use Rattle.hp_tokens.specs.Runs.{AnyPiecesAnyRules};
 

@@ -1,5 +1,5 @@
-// What the lexer holds between two texts, and its unread code points: those that were read ahead, and then the cursor's.
-ghost use Rattle.std.specs.Prelude.{◌≡◌, ◌≤◌, ℕ, List, [], ◌∷◌, ◌++◌, IfOk, IfSome, IfNone, None, drop, length};
+//! What the lexer holds between two texts, and its unread code points: those that were read ahead, and then the cursor's.
+ghost use Rattle.std.specs.Prelude.{◌≡◌, ◌≤◌, ℕ, List, [], ◌∷◌, ◌++◌, IfOk, IfSome, IfNone, None, true, drop, length};
 
 use crate::NoMemory;
 use crate::cursor::Cursor;
@@ -19,7 +19,7 @@ pub struct LexState {
 impl LexState {
     ghost use Rattle.hp_tokens.specs.Rows.{resting};
     ghost use Rattle.hp_tokens.specs.Reading.{first};
-    ghost use Rattle.hp_tokens.specs.Advancing.{unread, held, place_of, Takes, ReadsAhead, rest_state};
+    ghost use Rattle.hp_tokens.specs.Advancing.{unread, held, place_of, pair_next, DropsPair, Takes, ReadsAhead, rest_state};
 
     /// The state in a resting state, without a last start tag's name.
     pub fn at_rest(rest: Rest, after_cr: bool) -> LexState
@@ -64,6 +64,30 @@ impl LexState {
             Some(c) => Some(c),
             None => input.next(),
         }
+    }
+
+    /// Whether the LF of a CR LF pair comes next.
+    #[inline]
+    pub fn is_pair_next(&self, input: &Cursor<'_>) -> bool
+        ensures { result ≡ pair_next self.now.machine.after_cr (first (unread self.now input.now)) }
+    {
+        match self.peek(input) {
+            Some(c) => self.machine.after_cr && c == '\n',
+            None => false,
+        }
+    }
+
+    /// Drops the LF of a CR LF pair.
+    #[inline]
+    pub fn drop_line_feed(&mut self, input: &mut Cursor<'_>)
+        requires held { held self.old ≤ input.old.place }
+        requires pair { pair_next self.old.machine.after_cr (first (unread self.old input.old)) ≡ true }
+        ensures dropped { DropsPair self.old input.old self.new input.new }
+        ensures held { held self.new ≤ input.new.place }
+        ensures ended { input.old.text ≡ [] → input.new.text ≡ [] }
+    {
+        let _ = self.take(input);
+        self.machine.after_cr = false;
     }
 
     /// Reads one more code point ahead, and answers whether there was one.

@@ -1,4 +1,4 @@
-// What the lexer's table reads and writes.
+//! What the lexer's table reads and writes.
 ghost use Rattle.std.specs.Prelude.{◌≡◌, ◌∷◌, ◌++◌, [], None, OnOk, IfOk};
 
 use crate::NoMemory;
@@ -293,7 +293,11 @@ pub fn push_char(alloc: Global, tokens: &mut Tokens<'_>, c: char) -> Result<(), 
 }
 
 /// Appends the code points of a text to the tokens, each in a token of its own.
-pub fn push_text(alloc: Global, tokens: &mut Tokens<'_>, text: &OwnedText) -> Result<(), NoMemory>
+pub(crate) fn push_text(
+    alloc: Global,
+    tokens: &mut Tokens<'_>,
+    text: &OwnedText,
+) -> Result<(), NoMemory>
     ensures { OnOk result (tokens.new ≡ tokens.old ++ map character text.now) }
 {
     for c in text.as_str().chars() {

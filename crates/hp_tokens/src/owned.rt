@@ -1,4 +1,4 @@
-// Texts that own their code points, which contracts see as lists of code points.
+//! Texts that own their code points, which contracts see as lists of code points.
 ghost use Rattle.std.specs.Prelude.{◌≡◌, ◌↔◌, ℕ, List, [], ◌∷◌, ◌++◌, ◌<◌, ◌==◌, OnOk, OnErr, IfOk, IsTrue, string_bytes, length, MatchOption, sum_by};
 
 use crate::NoMemory;

@@ -1,4 +1,4 @@
-// What the runs go over, one type a class of text.
+//! What the runs go over, one type a class of text.
 ghost use Rattle.std.specs.Prelude.{◌≡◌, ◌≤◌, [], ◌∷◌, length, refl};
 ghost use Rattle.hp_tokens.specs.Reading.{PassesFrom};
 ghost use Rattle.hp_tokens.specs.Plain.{none_of, in_name, data_stops, raw_stops, plaintext_stops, escaped_stops, cdata_stops, comment_stops, bogus_comment_stops, double_quoted_stops, single_quoted_stops, unquoted_stops, tag_name_stops, attribute_name_stops};

@@ -1,4 +1,4 @@
-// What becomes of the code point that a row read.
+//! What becomes of the code point that a row read.
 
 /// What becomes of the code point that a row read: it is consumed, it is read again, or it was the end of input.
 #[derive(Clone, Copy)]

@@ -1,4 +1,4 @@
-// Runs of plain code points, each of them many moves at once.
+//! Runs of plain code points, each of them many moves at once.
 ghost use Rattle.std.specs.Prelude.{◌≡◌, ℕ, ◌≤◌, ◌==◌, false, true, [], ◌∷◌, IfOk, IfSome, IfNone, IsTrue, Bool};
 ghost use Rattle.hp_elements.specs.Tokens.{class_of};
 ghost use Rattle.hp_elements.specs.declared.token.CharClass.TheVariants as classes;
@@ -39,10 +39,7 @@ fn one_token<'p>(class: CharClass, run: Text<'p>) -> Option<Token<'p>>
 /// Takes the run of text at the front, as one token that is borrowed from the page: white space, or code points that pass. A
 /// line feed stands alone. `None` where there is no run.
 #[inline]
-pub fn text_run<'p, T: Table, R: TextRun>(
-    state: &LexState,
-    input: &mut Cursor<'p>,
-) -> Option<Token<'p>>
+fn text_run<'p, T: Table, R: TextRun>(state: &LexState, input: &mut Cursor<'p>) -> Option<Token<'p>>
     requires row { IsTrue (T.has_row state.now.machine.state) }
     requires blanks { EmitsPlain T.row_of is_blank state.now.machine.state }
     requires others { EmitsPlain T.row_of R.passes state.now.machine.state }
@@ -90,7 +87,7 @@ pub fn step_in_text<'p, T: Table, R: TextRun>(
 
 /// Appends the run at the front to a part of what is built, and answers whether there is one.
 #[inline]
-pub fn put_run<T: Table, R: Run>(
+fn put_run<T: Table, R: Run>(
     alloc: Global,
     part: Part,
     state: &mut LexState,

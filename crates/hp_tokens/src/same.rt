@@ -1,4 +1,4 @@
-// Whether two states of the lexer are the same, part by part.
+//! Whether two states of the lexer are the same, part by part.
 ghost use Rattle.std.specs.Prelude.{◌≡◌, ◌↔◌, IsTrue};
 
 use crate::building::{Building, NewAttribute, NewDoctype, NewTag};

@@ -1,4 +1,4 @@
-// The 80 states of the lexer, by the standard's names (13.2.5.1 to 13.2.5.80), in its order.
+//! The 80 states of the lexer, by the standard's names (13.2.5.1 to 13.2.5.80), in its order.
 ghost use Rattle.std.specs.Prelude.{◌≡◌};
 
 use hp_elements::Rest;

@@ -1,4 +1,4 @@
-// Steps by rows, and the way from one rest to the next.
+//! Steps by rows, and the way from one rest to the next.
 ghost use Rattle.std.specs.Prelude.{◌≡◌, ℕ, ◌≤◌, ◌^◌, List, [], Option, Some, Bool, IfOk, IsTrue};
 ghost use Rattle.hp_tokens.specs.declared.state.State.{State};
 ghost use Rattle.hp_tokens.specs.declared.machine.Machine.{Machine};
@@ -55,8 +55,7 @@ fn read<T: Table>(
     ensures ended { IfOk result (λ step. input.old.text ≡ [] → input.new.text ≡ []) }
 {
     if state.machine.after_cr && c == '\n' {
-        let _ = state.take(input);
-        state.machine.after_cr = false;
+        state.drop_line_feed(input);
         return Ok(false);
     }
     let symbol = if c == '\r' { '\n' } else { c };
@@ -107,8 +106,7 @@ pub fn end_by_row<T: Table>(
     ensures ended { IfOk result (λ step. input.new.text ≡ []) }
 {
     if let Some(c) = state.peek(input) {
-        let emitted = read::<T>(alloc, c, state, input, tokens)?;
-        let _ = emitted;
+        let _ = read::<T>(alloc, c, state, input, tokens)?;
         return Ok(EndStep::Made);
     }
     match T::row(alloc, &mut state.machine, None, tokens)? {

@@ -1,4 +1,4 @@
-// Searches by whole vectors for what ends a run: U+0000, CR, and two more bytes.
+//! Searches by whole vectors for what ends a run: U+0000, CR, and two more bytes.
 ghost use Rattle.std.specs.Prelude.{◌≡◌, ◌≤◌, ◌<◌, ℕ, true, ◌∷◌, [], length, map, slice_index};
 ghost use Rattle.std.specs.Simd.Lanes.{mask_l};
 ghost use Rattle.hp_tokens.specs.Plain.{none_of};

@@ -1,7 +1,7 @@
 use Rattle.hp_tokens.specs.declared.state.State.TheVariants.{CdataSection}
 use Rattle.hp_tokens.specs.Rows.{plus, again}
 use Rattle.hp_lex_markup.specs.Letters.{right_bracket}
-use Rattle.hp_lex_markup.proofs.Told.{IfOk_then, follows_plus}
+use Rattle.hp_tokens.proofs.Told.{IfOk_then, follows_plus}
 use Rattle.hp_lex_markup.proofs.rows.no_section_end.Goals as goal
 
 pub returns : goal.returns

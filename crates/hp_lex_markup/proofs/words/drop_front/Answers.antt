@@ -5,9 +5,9 @@ use Rattle.hp_lex_markup.proofs.words.drop_front.Goals as goal
 pub unreachable-requires : goal.unreachable-requires
 unreachable-requires c =
     let none = c.in-None.ensures {u = tt} in
-    let all : drop c.loop-dropped.dropped c.args.text.now ≡ [] = sym c.loop-dropped.invariant ∙ none.0 in
-    omega (arith, ap length all, length-drop c.loop-dropped.dropped c.args.text.now)
+    let all : drop c.loop-turn._turn c.args.text.now ≡ [] = sym c.loop-turn.invariant ∙ none.0 in
+    omega (arith, ap length all, length-drop c.loop-turn._turn c.args.text.now)
 
-pub loop-dropped-preserved : goal.loop-dropped-preserved
-loop-dropped-preserved c =
-    sym (dropped_more c.args.text.now c.take_first.new.self c.loop-dropped.dropped c.in-Some.first (sym c.loop-dropped.invariant ∙ c.in-Some.ensures))
+pub loop-turn-preserved : goal.loop-turn-preserved
+loop-turn-preserved c =
+    sym (dropped_more c.args.text.now c.take_first.new.self c.loop-turn._turn c.in-Some.field-0 (sym c.loop-turn.invariant ∙ c.in-Some.ensures))

@@ -2,11 +2,11 @@ use Rattle.std.proofs.Common.{◌∙◌, sym, subst, false, not, nat_eq, length,
 use Rattle.hp_tokens.specs.declared.rows.Reads.{Reads}
 use Rattle.hp_tokens.specs.Rows.{Follows}
 use Rattle.hp_tokens.specs.Advancing.{unread}
-use Rattle.hp_tokens.proofs.Stepping.{text_of_some, end_by_rows}
+use Rattle.hp_tokens.proofs.Stepping.{no_pair_at, text_of_some, end_by_rows}
 use Rattle.hp_lex_markup.specs.Rows.{has_row, row}
 use Rattle.hp_lex_markup.specs.Markup.{markup_rules}
 use Rattle.hp_lex_markup.proofs.Spelled.{word_fits}
-use Rattle.hp_lex_markup.proofs.WordSteps.{markup_rows, none_unread, no_pair_at, none_read_at_end, past_at_end, past_held, reread_end, ended_there}
+use Rattle.hp_lex_markup.proofs.WordSteps.{markup_rows, none_unread, none_read_at_end, past_at_end, past_held, reread_end, ended_there}
 use Rattle.hp_lex_markup.proofs.words.end.Goals as goal
 
 pub returns-in-Again-clause-step : goal.returns-in-Again-clause-step
@@ -31,7 +31,7 @@ returns-in-End-clause-held c = c.requires.held
 
 pub returns-then-is_pair_next-clause-step : goal.returns-then-is_pair_next-clause-step
 returns-then-is_pair_next-clause-step c = λ rested settled.
-    (false, c.drop_line_feed.ensures.dropped _ (end_by_rows markup_rules has_row row markup_rows) c.args.tokens.now rested settled)
+    (false, c.drop_line_feed.ensures.dropped _ has_row row c.args.tokens.now (end_by_rows markup_rules has_row row markup_rows) rested settled)
 
 pub read_row-requires-clause-next : goal.read_row-requires-clause-next
 read_row-requires-clause-next c = sym c.in-Some.ensures

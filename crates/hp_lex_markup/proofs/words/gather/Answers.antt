@@ -1,11 +1,9 @@
 use Rattle.std.proofs.Common.{◌≡◌, ℕ, List, true, false, refl, ap, sym, ◌∙◌}
 use Rattle.hp_tokens.specs.declared.machine.Machine.{Machine}
 use Rattle.hp_tokens.specs.declared.lexing.LexState.{LexState}
+use Rattle.hp_tokens.proofs.Told.{never}
 use Rattle.hp_lex_markup.specs.Words.{is_open}
 use Rattle.hp_lex_markup.proofs.words.gather.Goals as goal
-
-never : (P : Type 0) → false ≡ true → P
-never P e = cc
 
 still_open : (old new : LexState) → new.machine ≡ old.machine → new.ahead ≡ old.ahead → true ≡ is_open old.machine.state old.ahead
     → is_open new.machine.state new.ahead ≡ true
@@ -23,7 +21,7 @@ returns-then-not-branch c =
         place = ahead.place ∙ before.place;
         held = ahead.held;
       };
-      closed = λ e. never _ e;
+      closed = λ e. never e;
       undecided = λ e. (none.0, still_open c.reading.state c.read_ahead.new.self ahead.machine none.1 (c.reading-test.ensures {u = tt}));
     }
 

@@ -1,5 +1,5 @@
 use Rattle.std.proofs.Common.{length}
-use Rattle.hp_lex_markup.specs.Held.{SameStand}
+use Rattle.hp_tokens.specs.Advancing.{SameStand}
 use Rattle.hp_lex_markup.proofs.words.gather.Given as goal
 
 abbrev pub invariant-reading : goal.invariant-reading

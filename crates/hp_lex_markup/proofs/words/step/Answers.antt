@@ -2,11 +2,11 @@ use Rattle.std.proofs.Common.{◌∙◌, ℕ, List, sym, refl, ap}
 use Rattle.hp_tokens.specs.Reading.{first}
 use Rattle.hp_tokens.specs.Moves.{Lexing, move}
 use Rattle.hp_tokens.specs.Advancing.{unread, lexing}
-use Rattle.hp_tokens.proofs.Stepping.{text_of_some, by_rows, nothing_unread}
+use Rattle.hp_tokens.proofs.Stepping.{no_pair_at, text_of_some, by_rows, nothing_unread}
 use Rattle.hp_lex_markup.specs.Rows.{has_row, row}
 use Rattle.hp_lex_markup.specs.Markup.{markup_rules}
 use Rattle.hp_lex_markup.proofs.Spelled.{word_fits}
-use Rattle.hp_lex_markup.proofs.WordSteps.{markup_rows, needs_more_there, no_pair_at, row_there, asked_there, past_there, past_held, stands}
+use Rattle.hp_lex_markup.proofs.WordSteps.{markup_rows, needs_more_there, row_there, asked_there, past_there, past_held, stands}
 use Rattle.hp_lex_markup.proofs.words.step.Goals as goal
 
 pub returns-in_default-clause-step : goal.returns-in_default-clause-step
@@ -14,7 +14,7 @@ returns-in_default-clause-step c = λ rested settled.
     (nothing_unread markup_rules (lexing c.args.state.now c.args.input.now rested) (sym c.peek.ensures ∙ c.in_default.is), refl, refl)
 
 pub returns-then-is_pair_next-clause-step : goal.returns-then-is_pair_next-clause-step
-returns-then-is_pair_next-clause-step c = c.drop_line_feed.ensures.dropped _ (by_rows markup_rules has_row row markup_rows) c.args.tokens.now
+returns-then-is_pair_next-clause-step c = c.drop_line_feed.ensures.dropped _ has_row row c.args.tokens.now (by_rows markup_rules has_row row markup_rows)
 
 pub returns-then-not-decided-clause-step : goal.returns-then-not-decided-clause-step
 returns-then-not-decided-clause-step c = λ rested settled.

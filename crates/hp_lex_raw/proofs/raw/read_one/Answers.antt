@@ -8,24 +8,21 @@ use Rattle.hp_tokens.specs.declared.rows.Reads.TheVariants.{Consume, Again}
 use Rattle.hp_tokens.specs.Rows.{Follows}
 use Rattle.hp_tokens.specs.Moves.{read_as, move}
 use Rattle.hp_tokens.specs.Reading.{Unread}
-use Rattle.hp_tokens.specs.Advancing.{Takes, unread, place_of}
-use Rattle.hp_tokens.proofs.Stepping.{text_of_some, pair_dropped}
+use Rattle.hp_tokens.specs.Advancing.{Takes, unread, place_of, pair_next}
+use Rattle.hp_tokens.proofs.Stepping.{text_of_some}
 use Rattle.hp_lex_raw.specs.Rows.{row}
 use Rattle.hp_lex_raw.specs.Raw.{asks, raw_rules}
 use Rattle.hp_lex_raw.proofs.Reading.{pairs, consumed, reread, never_ends}
 use Rattle.hp_lex_raw.proofs.raw.read_one.Goals as goal
 use Rattle.hp_lex_raw.proofs.raw.read_one.Goals.{in-Consume, in-Again, After-len, else-state-via-then-state+else-c-eq10, else-state-via-else-state}
 
+pub drop_line_feed-requires-clause-pair : goal.drop_line_feed-requires-clause-pair
+drop_line_feed-requires-clause-pair c =
+    ap (λ (o : Option ℕ). pair_next c.args.state.now.machine.after_cr o) (sym c.in-Some.ensures)
+    ∙ and_from _ _ c.if-state.true (eq-eqb c.in-Some.c 10 c.if-c-eq10.true)
+
 pub returns-then-c-eq10-clause-step : goal.returns-then-c-eq10-clause-step
-returns-then-c-eq10-clause-step c = λ rested settled.
-    let P : Option ℕ → Type 0 = λ o. IfSome o (Takes c.args.state.now c.args.input.now c.take.new.self c.take.new.input) in
-    let some = c.take.ensures.value ∙ sym c.in-Some.ensures in
-    let takes = subst P some c.take.ensures.takes in
-    pair_dropped (move raw_rules) pairs c.args.state.now c.args.input.now
-    (record c.take.new.self { machine = record c.take.new.self.machine { after_cr = false } }) c.take.new.input
-    c.in-Some.c rested c.args.tokens.now
-    (and_from _ _ c.if-state.true (eq-eqb c.in-Some.c 10 c.if-c-eq10.true)) settled
-    (ap (λ (x : Machine). record x { after_cr = false }) takes.machine) takes.text takes.place
+returns-then-c-eq10-clause-step c = c.drop_line_feed.ensures.dropped (move raw_rules) _ _ c.args.tokens.now pairs
 
 pub unreachable-requires : goal.unreachable-requires
 unreachable-requires c =
@@ -59,13 +56,13 @@ flagged x c m mid new given e same is =
 pub returns-clause-step : goal.returns-clause-step
 returns-clause-step c = λ rested settled. elim c.match-branch-2.branch [
   | in-Consume w ↦
-      let P : Option ℕ → Type 0 = λ o. IfSome o (Takes (record { machine = c.row.new.machine; ahead = c.args.state.now.ahead }) c.args.input.now w.take-in-Consume.new.self w.take-in-Consume.new.input) in
-      let takes = subst P (w.take-in-Consume.ensures.value ∙ sym c.in-Some.ensures) w.take-in-Consume.ensures.takes in
-      let at = joined c.match-branch-2.state w.take-in-Consume.new.self c.match-branch-2.input w.take-in-Consume.new.input (ap (λ (s : LexState). s.ahead) w.state-is) w.input-is in
+      let P : Option ℕ → Type 0 = λ o. IfSome o (Takes (record { machine = c.row.new.machine; ahead = c.args.state.now.ahead }) c.args.input.now w.take.new.self w.take.new.input) in
+      let takes = subst P (w.take.ensures.value ∙ sym c.in-Some.ensures) w.take.ensures.takes in
+      let at = joined c.match-branch-2.state w.take.new.self c.match-branch-2.input w.take.new.input (ap (λ (s : LexState). s.ahead) w.state-is) w.input-is in
       consumed c.args.state.now c.args.input.now c.row.new.machine c.match-branch-2.state c.match-branch-2.input c.in-Some.c rested _ _ _
       c.requires.here (not_asked c) (no_line_feed c) settled (flag c)
       (follows c Consume w.in-Consume.is)
-      (flagged 13 c.in-Some.c w.take-in-Consume.new.self.machine c.row.new.machine c.match-branch-2.state.machine _ (ap (λ (s : LexState). s.machine) w.state-is) refl takes.machine)
+      (flagged 13 c.in-Some.c w.take.new.self.machine c.row.new.machine c.match-branch-2.state.machine _ (ap (λ (s : LexState). s.machine) w.state-is) refl takes.machine)
       (takes.text ∙ ap (λ (xs : List ℕ). c.in-Some.c ∷ xs) (sym at.0)) (at.1 ∙ takes.place)
   | in-Again w ↦
       let text = text_of_some (unread c.args.state.now c.args.input.now) (sym c.in-Some.ensures) in

@@ -1,6 +1,6 @@
 use Rattle.hp_lex_raw.specs.Raw.{raw_rules}
 use Rattle.hp_lex_raw.proofs.TextRuns.{text_rows}
-use Rattle.hp_lex_raw.proofs.Told.{IfOk_then}
+use Rattle.hp_tokens.proofs.Told.{IfOk_then}
 use Rattle.hp_lex_raw.proofs.raw.read_text.Goals as goal
 
 pub returns-clause-step : goal.returns-clause-step

@@ -1,6 +1,6 @@
 use Rattle.hp_tokens.specs.Rows.{plus, again, emitting_buffer}
 use Rattle.hp_lex_raw.specs.Letters.{less_than, solidus}
-use Rattle.hp_lex_raw.proofs.Told.{IfOk_then, follows_plus}
+use Rattle.hp_tokens.proofs.Told.{IfOk_then, follows_plus}
 use Rattle.hp_lex_raw.proofs.rows.no_end_tag.Goals as goal
 
 pub returns : goal.returns

@@ -9,7 +9,7 @@ use Rattle.hp_lex_tags.proofs.named.end.Goals as goal
 pub returns-then-is_pair_next-clause-step : goal.returns-then-is_pair_next-clause-step
 returns-then-is_pair_next-clause-step c = λ rested settled. (
   false,
-  c.drop_line_feed.ensures.dropped _ (end_by_rows (tag_rules c.args.names.now) has_row row (tags_rows c.args.names.now)) c.args.tokens.now rested settled,
+  c.drop_line_feed.ensures.dropped _ has_row row c.args.tokens.now (end_by_rows (tag_rules c.args.names.now) has_row row (tags_rows c.args.names.now)) rested settled,
 )
 
 pub returns-clause-step : goal.returns-clause-step

@@ -1,10 +1,8 @@
 use Rattle.std.proofs.Common.{◌≡◌, ℕ, List, Bool, true, false, refl, ap, sym, ◌∙◌}
 use Rattle.hp_names.specs.References.{Reference}
 use Rattle.hp_names.specs.Longest.{is_open}
+use Rattle.hp_tokens.proofs.Told.{never}
 use Rattle.hp_lex_tags.proofs.named.gather.Goals as goal
-
-never : (P : Type 0) → false ≡ true → P
-never P e = cc
 
 still_open : (names : List Reference) (old new : List ℕ) (more : Bool) → new ≡ old → more ≡ is_open names old → more ≡ true → is_open names new ≡ true
 still_open names old new more same is h = ap (λ (xs : List ℕ). is_open names xs) same ∙ (sym is ∙ h)
@@ -20,7 +18,7 @@ returns-then-not-branch c =
         place = ahead.place ∙ before.place;
         held = ahead.held;
       };
-      closed = λ e. never _ e;
+      closed = λ e. never e;
       undecided = λ e. (none.0, still_open c.args.names.now c.reading.state.ahead c.read_ahead.new.self.ahead c.is_open.result none.1 c.is_open.ensures.open c.reading-test.true);
     }
 

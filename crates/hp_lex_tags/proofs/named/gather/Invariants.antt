@@ -1,5 +1,5 @@
 use Rattle.std.proofs.Common.{length}
-use Rattle.hp_lex_tags.specs.Held.{SameStand}
+use Rattle.hp_tokens.specs.Advancing.{SameStand}
 use Rattle.hp_lex_tags.proofs.named.gather.Given as goal
 
 abbrev pub invariant-reading : goal.invariant-reading

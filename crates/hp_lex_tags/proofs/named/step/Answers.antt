@@ -1,10 +1,10 @@
 use Rattle.std.proofs.Common.{ℕ, ◌∙◌, ap, sym, refl, not, nat_eq, length}
 use Rattle.hp_names.specs.Longest.{longest}
 use Rattle.hp_tokens.specs.Advancing.{unread, lexing}
-use Rattle.hp_tokens.proofs.Stepping.{text_of_some, by_rows, nothing_unread}
+use Rattle.hp_tokens.proofs.Stepping.{no_pair_at, text_of_some, by_rows, nothing_unread}
 use Rattle.hp_lex_tags.specs.Rows.{has_row, row}
 use Rattle.hp_lex_tags.specs.Tags.{tag_rules}
-use Rattle.hp_lex_tags.proofs.NamedSteps.{tags_rows, no_pair_at, step_goes, step_needs, decided_held}
+use Rattle.hp_lex_tags.proofs.NamedSteps.{tags_rows, step_goes, step_needs, decided_held}
 use Rattle.hp_lex_tags.proofs.named.step.Goals as goal
 
 pub returns-in_default-clause-step : goal.returns-in_default-clause-step
@@ -13,7 +13,7 @@ returns-in_default-clause-step c = λ rested settled.
 
 pub returns-then-is_pair_next-clause-step : goal.returns-then-is_pair_next-clause-step
 returns-then-is_pair_next-clause-step c =
-    c.drop_line_feed.ensures.dropped _ (by_rows (tag_rules c.args.names.now) has_row row (tags_rows c.args.names.now)) c.args.tokens.now
+    c.drop_line_feed.ensures.dropped _ has_row row c.args.tokens.now (by_rows (tag_rules c.args.names.now) has_row row (tags_rows c.args.names.now))
 
 pub returns-then-not-decided-clause-step : goal.returns-then-not-decided-clause-step
 returns-then-not-decided-clause-step c = λ rested settled.

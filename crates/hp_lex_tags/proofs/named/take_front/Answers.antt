@@ -5,10 +5,10 @@ use Rattle.hp_lex_tags.proofs.named.take_front.Goals as goal
 pub unreachable-requires : goal.unreachable-requires
 unreachable-requires c =
     let none = c.in-None.ensures {u = tt} in
-    let all : drop c.loop-taken.taken c.args.text.now ≡ [] = sym c.loop-taken.invariant.1 ∙ none.0 in
-    omega (arith, ap length all, length-drop c.loop-taken.taken c.args.text.now)
+    let all : drop c.loop-turn._turn c.args.text.now ≡ [] = sym c.loop-turn.invariant.1 ∙ none.0 in
+    omega (arith, ap length all, length-drop c.loop-turn._turn c.args.text.now)
 
-pub loop-taken-preserved : goal.loop-taken-preserved
-loop-taken-preserved c =
-    let one = step_front c.args.text.now c.take_first.new.self c.loop-taken.taken c.in-Some.c (sym c.loop-taken.invariant.1 ∙ c.in-Some.ensures) in
-    (c.in_ok-push-in-Some.ensures.ok ∙ (ap (λ (xs : List ℕ). xs ++ c.in-Some.c ∷ []) c.loop-taken.invariant.0 ∙ sym one.0), sym one.1)
+pub loop-turn-preserved : goal.loop-turn-preserved
+loop-turn-preserved c =
+    let one = step_front c.args.text.now c.take_first.new.self c.loop-turn._turn c.in-Some.c (sym c.loop-turn.invariant.1 ∙ c.in-Some.ensures) in
+    (c.in_ok-push-in-Some.ensures.ok ∙ (ap (λ (xs : List ℕ). xs ++ c.in-Some.c ∷ []) c.loop-turn.invariant.0 ∙ sym one.0), sym one.1)

@@ -1,5 +1,5 @@
 use Rattle.hp_tokens.specs.Rows.{ended}
-use Rattle.hp_lex_tags.proofs.Told.{IfOk_then, follows_plus}
+use Rattle.hp_tokens.proofs.Told.{IfOk_then, follows_plus}
 use Rattle.hp_lex_tags.proofs.rows.char_at_end.Goals as goal
 
 pub returns : goal.returns

@@ -1,7 +1,7 @@
 use Rattle.std.proofs.Common.{refl}
 use Rattle.std.specs.Str.{chars}
 use Rattle.hp_lex_tags.proofs.StraightParts.{grown_with, grown_without}
-use Rattle.hp_lex_tags.proofs.Told.{IfOk_then}
+use Rattle.hp_tokens.proofs.Told.{IfOk_then}
 use Rattle.hp_lex_tags.proofs.straight.read_attribute.Goals as goal
 
 pub returns-then-take_byte : goal.returns-then-take_byte

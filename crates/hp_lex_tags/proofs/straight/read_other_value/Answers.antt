@@ -4,7 +4,7 @@ use Rattle.hp_tokens.specs.Parts.{added}
 use Rattle.hp_tokens.specs.declared.state.State.TheVariants.{BeforeAttributeValue, AttributeValueSingleQuoted, AttributeValueUnquoted}
 use Rattle.hp_lex_tags.specs.declared.straight.Way.TheVariants.{Left}
 use Rattle.hp_lex_tags.proofs.StraightParts.{single_quoted, single_later, unquoted_later, unquoted_read, value_whole, value_on}
-use Rattle.hp_lex_tags.proofs.Told.{IfOk_then}
+use Rattle.hp_tokens.proofs.Told.{IfOk_then}
 use Rattle.hp_lex_tags.proofs.straight.read_other_value.Goals as goal
 
 pub read_quoted-requires-clause-quoted : goal.read_quoted-requires-clause-quoted

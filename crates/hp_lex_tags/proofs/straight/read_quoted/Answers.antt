@@ -2,7 +2,7 @@ use Rattle.std.proofs.Common.{refl, ap, ◌∙◌, List, [], ℕ, Some}
 use Rattle.std.specs.Str.{chars}
 use Rattle.hp_tokens.specs.Parts.{added}
 use Rattle.hp_lex_tags.proofs.StraightParts.{quoted_closed, quoted_on, value_whole, value_on}
-use Rattle.hp_lex_tags.proofs.Told.{IfOk_then}
+use Rattle.hp_tokens.proofs.Told.{IfOk_then}
 use Rattle.hp_lex_tags.proofs.straight.read_quoted.Goals as goal
 
 pub returns-then-take_byte : goal.returns-then-take_byte

@@ -4,7 +4,7 @@ use Rattle.hp_tokens.specs.declared.building.Building.TheVariants.{StartTag}
 use Rattle.hp_lex_tags.specs.Straight.{bare, tag_of}
 use Rattle.hp_lex_tags.specs.declared.straight.Way.TheVariants as way
 use Rattle.hp_lex_tags.proofs.StraightMoves.{arrives_join, arrives_as}
-use Rattle.hp_lex_tags.proofs.Told.{IfOk_then}
+use Rattle.hp_tokens.proofs.Told.{IfOk_then}
 use Rattle.hp_lex_tags.proofs.straight.read_rest.Goals as goal
 
 pub read_attributes-requires : goal.read_attributes-requires

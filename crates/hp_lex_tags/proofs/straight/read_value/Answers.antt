@@ -3,7 +3,7 @@ use Rattle.std.specs.Prelude.{◌≢◌}
 use Rattle.hp_tokens.specs.Reading.{Unread, first}
 use Rattle.hp_tokens.specs.declared.state.State.TheVariants.{BeforeAttributeValue, AttributeValueDoubleQuoted}
 use Rattle.hp_lex_tags.proofs.StraightParts.{double_quoted, double_opened, other_later, value_on}
-use Rattle.hp_lex_tags.proofs.Told.{IfOk_then}
+use Rattle.hp_tokens.proofs.Told.{IfOk_then}
 use Rattle.hp_lex_tags.proofs.straight.read_value.Goals as goal
 
 pub read_quoted-requires-clause-quoted : goal.read_quoted-requires-clause-quoted

@@ -8,7 +8,7 @@ use Rattle.hp_tokens.proofs.steps.end_by_row.Goals as goal
 
 pub returns-in-Some-clause-step : goal.returns-in-Some-clause-step
 returns-in-Some-clause-step g c = λ rules rows rested settled.
-    (c.in_ok-emitted.emitted, c.in_ok-emitted.ensures.step (end_move rules) (end_by_rows rules g.T.Table.has_row g.T.Table.row_of rows) rested settled)
+    (c.in_ok-read.field-0, c.in_ok-read.ensures.step (end_move rules) (end_by_rows rules g.T.Table.has_row g.T.Table.row_of rows) rested settled)
 
 pub returns-in-Again-clause-step : goal.returns-in-Again-clause-step
 returns-in-Again-clause-step g c = λ rules rows rested settled.

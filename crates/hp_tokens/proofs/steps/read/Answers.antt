@@ -6,8 +6,8 @@ use Rattle.hp_tokens.specs.declared.rows.Reads.{Reads}
 use Rattle.hp_tokens.specs.declared.rows.Reads.TheVariants.{Consume, Again}
 use Rattle.hp_tokens.specs.Rows.{Follows}
 use Rattle.hp_tokens.specs.Moves.{read_as}
-use Rattle.hp_tokens.specs.Advancing.{Takes, unread}
-use Rattle.hp_tokens.proofs.Stepping.{consumed, reread, text_of_some, pair_dropped}
+use Rattle.hp_tokens.specs.Advancing.{Takes, unread, pair_next}
+use Rattle.hp_tokens.proofs.Stepping.{consumed, reread, text_of_some}
 use Rattle.hp_tokens.proofs.steps.read.Given.{Over}
 use Rattle.hp_tokens.proofs.steps.read.Goals as goal
 use Rattle.hp_tokens.proofs.steps.read.Goals.{in-Consume, in-Again, After-len, then-c-eq13, else-c-eq13, else-state-via-then-state+else-c-eq10, else-state-via-else-state}
@@ -29,24 +29,22 @@ follows g c reads is =
     let Q : Reads → Type 0 = λ x. Follows (g.T.Table.row_of c.args.state.now.machine (Some (read_as c.args.c))) c.args.tokens.now c.row.new.machine c.row.new.tokens x in
     subst Q is (subst P (read_symbol g c) c.in_ok-row.ensures)
 
+pub drop_line_feed-requires-clause-pair : goal.drop_line_feed-requires-clause-pair
+drop_line_feed-requires-clause-pair g c =
+    ap (λ (o : Option ℕ). pair_next c.args.state.now.machine.after_cr o) c.requires.next
+    ∙ and_from _ _ c.if-state.true (eq-eqb c.args.c 10 c.if-c-eq10.true)
+
 pub returns-then-c-eq10-clause-step : goal.returns-then-c-eq10-clause-step
-returns-then-c-eq10-clause-step g c = λ next rows rested settled.
-    let P : Option ℕ → Type 0 = λ o. IfSome o (Takes c.args.state.now c.args.input.now c.take.new.self c.take.new.input) in
-    let takes = subst P (c.take.ensures.value ∙ c.requires.next) c.take.ensures.takes in
-    pair_dropped next rows c.args.state.now c.args.input.now
-    (record c.take.new.self { machine = record c.take.new.self.machine { after_cr = false } }) c.take.new.input
-    c.args.c rested c.args.tokens.now
-    (and_from _ _ c.if-state.true (eq-eqb c.args.c 10 c.if-c-eq10.true)) settled
-    (ap (λ (x : Machine). record x { after_cr = false }) takes.machine) takes.text takes.place
+returns-then-c-eq10-clause-step g c = λ next rows. c.drop_line_feed.ensures.dropped next g.T.Table.has_row g.T.Table.row_of c.args.tokens.now rows
 
 pub returns-clause-step : goal.returns-clause-step
 returns-clause-step g c = λ next rows rested settled. elim c.match-branch-2.branch [
   | in-Consume w ↦
-      let P : Option ℕ → Type 0 = λ o. IfSome o (Takes (record { machine = c.row.new.machine; ahead = c.args.state.now.ahead }) c.args.input.now w.take-in-Consume.new.self w.take-in-Consume.new.input) in
-      let takes = subst P (w.take-in-Consume.ensures.value ∙ c.requires.next) w.take-in-Consume.ensures.takes in
+      let P : Option ℕ → Type 0 = λ o. IfSome o (Takes (record { machine = c.row.new.machine; ahead = c.args.state.now.ahead }) c.args.input.now w.take.new.self w.take.new.input) in
+      let takes = subst P (w.take.ensures.value ∙ c.requires.next) w.take.ensures.takes in
       rw (w.state-is, w.input-is)
       (consumed g.T.Table.has_row g.T.Table.row_of next rows c.args.state.now c.args.input.now c.row.new.machine
-      (record w.take-in-Consume.new.self { machine = record w.take-in-Consume.new.self.machine { after_cr = c.args.c == 13 } }) w.take-in-Consume.new.input c.args.c rested _ _ _
+      (record w.take.new.self { machine = record w.take.new.self.machine { after_cr = c.args.c == 13 } }) w.take.new.input c.args.c rested _ _ _
       c.requires.row (g.met.T.Table.fine c.args.state.now.machine (Some (read_as c.args.c)) c.requires.row) (no_line_feed g c) settled (flag g c)
       (follows g c Consume w.in-Consume.is) (ap (λ (x : Machine). record x { after_cr = c.args.c == 13 }) takes.machine) takes.text takes.place)
   | in-Again w ↦

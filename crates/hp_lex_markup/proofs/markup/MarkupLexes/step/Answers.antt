@@ -1,7 +1,7 @@
 use Rattle.std.proofs.Common.{◌∙◌, sym}
 use Rattle.hp_lex_markup.proofs.WordSteps.{here_row, word_true, markup_rows}
 use Rattle.hp_lex_markup.specs.Markup.{markup_rules}
-use Rattle.hp_lex_markup.proofs.Told.{IfOk_then}
+use Rattle.hp_tokens.proofs.Told.{IfOk_then}
 use Rattle.hp_lex_markup.proofs.markup.MarkupLexes.step.Goals as goal
 
 pub step-requires-clause-here : goal.step-requires-clause-here

@@ -1,5 +1,5 @@
 use Rattle.hp_lex_raw.proofs.Reading.{telling, told_rows}
-use Rattle.hp_lex_raw.proofs.Told.{IfOk_then}
+use Rattle.hp_tokens.proofs.Told.{IfOk_then}
 use Rattle.hp_lex_raw.proofs.raw.RawLexes.end.Goals as goal
 
 pub returns-clause-step : goal.returns-clause-step

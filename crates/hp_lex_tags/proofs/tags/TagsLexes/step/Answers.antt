@@ -1,6 +1,6 @@
 use Rattle.hp_lex_tags.specs.Tags.{tag_rules}
 use Rattle.hp_lex_tags.proofs.NamedSteps.{tags_rows}
-use Rattle.hp_lex_tags.proofs.Told.{IfOk_then}
+use Rattle.hp_tokens.proofs.Told.{IfOk_then}
 use Rattle.hp_lex_tags.proofs.tags.TagsLexes.step.Goals as goal
 
 pub returns-in_default-clause-step : goal.returns-in_default-clause-step
