@@ -1,24 +1,23 @@
--- What is read without the table, and the end of a piece, are steps.
-use Rattle.std.specs.Option.{is_some}
+-- What is read without the table is a step.
 use Rattle.std.specs.List.{list_all}
 use Rattle.std.specs.Prelude.{IfSome, ◌<◌, length, map}
-use Rattle.std.proofs.Common.{◌≡◌, ℕ, true, false, ◌-◌, ◌≤◌, ◌^◌, List, [], ◌∷◌, ◌++◌, refl, ap, ◌∙◌, sym, subst, arith, Option, None, Some}
+use Rattle.std.proofs.Common.{◌≡◌, ℕ, true, false, ◌-◌, ◌^◌, List, [], ◌∷◌, refl, sym, subst, Option, None, Some}
 use Rattle.hp_elements.specs.declared.token.Token.{Token}
 use Rattle.hp_tokens.specs.declared.state.State.{State}
 use Rattle.hp_tokens.specs.declared.state.State.TheVariants.{Data}
 use Rattle.hp_tokens.specs.declared.rows.Turn.TheVariants as turns
-use Rattle.hp_tokens.specs.Reading.{IsFront, Unread}
-use Rattle.hp_tokens.specs.Moves.{Lexing, move_on}
+use Rattle.hp_tokens.specs.Reading.{Unread}
+use Rattle.hp_tokens.specs.Moves.{Lexing}
 use Rattle.hp_tokens.specs.Plain.{none_of}
 use Rattle.hp_tokens.specs.Rows.{character}
-use Rattle.hp_tokens.specs.Advancing.{held, unread, lexing, Advances, Stops, Turned}
+use Rattle.hp_tokens.specs.Advancing.{lexing, Advances, Stops, Turned}
 use Rattle.hp_tokens.proofs.OneByOne.{none_yet}
 use Rattle.hp_lex_tags.specs.Tags.{EmitsLast, TagTurned, tag_rules, is_here}
 use Rattle.hp_lexer.specs.declared.lexer.Asked.TheVariants as asked
 use Rattle.hp_lexer.specs.declared.lexer.Lexer.{Lexer}
 use Rattle.hp_lexer.specs.declared.lexer.Step.TheVariants as steps
 use Rattle.hp_lexer.specs.Table.{table, part_of}
-use Rattle.hp_lexer.specs.Standing.{stands, Reaches, RestsInData, Stepped, PlainStepped, TagStepped}
+use Rattle.hp_lexer.specs.Standing.{stands, Reaches, Stepped, PlainStepped, TagStepped}
 use Rattle.hp_lexer.proofs.Opening.{at_nothing}
 use Rattle.hp_lexer.proofs.Parts.{tags-part, text_in_tags, advances, part_made, part_leads}
 
@@ -65,29 +64,3 @@ module _ (old new : Lexer) (old_input new_input : Unread) (none : old.asked ≡ 
 
 pub nothing_done : (old : Lexer) (input : Unread) → Reaches old input old input [] false
 nothing_done old input = none_yet (table old.names) (stands old input) [] old.rested
-
--- nothing comes first
-pub none_in_front : (text : List ℕ) (front : Option ℕ) → IsFront text front → is_some front ≡ false → text ≡ []
-none_in_front text None h e = h
-none_in_front text (Some byte) h e = cc
-
--- the data state before the next piece
-pub cut_at_once : (old new : Lexer) (input : Unread) → RestsInData old → input.text ≡ [] → new ≡ record old { rested = 2 ^ 32 } → Stepped old input new input steps.AtCut
-cut_at_once old new input rests used is = subst (λ (x : Lexer). Stepped old input x input steps.AtCut) (sym is) done
-  where
-    all_read : unread old.lex input ≡ []
-    all_read = ap (λ (u : List ℕ). u ++ input.text) rests.ahead ∙ used
-
-    few : (ahead : List ℕ) → ahead ≡ old.lex.ahead → ahead ≡ [] → held old.lex ≤ 2 ^ 32
-    few ahead is none = let P : List ℕ → Type 0 = λ u. held (record old.lex { ahead = u }) ≤ 2 ^ 32 in subst P is (subst P (sym none) (omega arith))
-
-    done : Stepped old input (record old { rested = 2 ^ 32 }) input steps.AtCut
-    done = record {
-      rested = old.rested;
-      advances = none_yet (table old.names) (stands old input) [] old.rested;
-      needs = ap (λ (u : List ℕ). move_on (table old.names) (stands old input) u) all_read;
-      asked = rests.asked;
-      start = refl;
-      held = few [] (sym rests.ahead) refl;
-      used = used;
-    }

@@ -8,4 +8,3 @@ pub mod Loads
 mod Placing
 mod PlacedSteps
 pub mod Direct
-pub mod Told

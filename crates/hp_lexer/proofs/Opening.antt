@@ -31,9 +31,6 @@ module _ (old o mid : Lexer) (old_input mid_input : Unread) (tokens : List Token
   there : Lexing
   there = lexing mid.lex mid_input mid.rested
 
-  names_are : o.names ≡ old.names
-  names_are = ap (λ (x : Lexer). x.names) is
-
   advanced : (t : Turn) → turn ≡ t → Advances (table old.names) (stands old old_input) [] (lexing mid.lex mid_input mid.rested) tokens mid.rested (emits t)
   advanced t e =
       let P : Turn → Type 0 = λ x. Advances (table o.names) (lexing o.lex old_input o.rested) [] (lexing mid.lex mid_input mid.rested) tokens mid.rested (emits x) in

@@ -5,7 +5,6 @@ use Rattle.hp_tokens.specs.Plain.{none_of}
 use Rattle.hp_tokens.specs.Rows.{character}
 use Rattle.hp_elements.specs.declared.token.Token.{Token}
 use Rattle.hp_tokens.specs.declared.state.State.{State}
-use Rattle.hp_tokens.specs.declared.state.State.TheVariants.{Data}
 use Rattle.hp_tokens.specs.declared.machine.Machine.{Machine}
 use Rattle.hp_tokens.specs.Reading.{Unread}
 use Rattle.hp_tokens.specs.Moves.{Lexing, needs_more, asks_cdata, asks_last_tag, move}
@@ -82,12 +81,6 @@ Stepped old old_input new new_input steps.AskLastTag =
     Reaches old old_input new new_input [] false
     × (move (table old.names) (stands new new_input) ≡ asks_last_tag) × (new.asked ≡ asked.LastTag)
 Stepped old old_input new new_input steps.AtCut = ReachesCut old old_input new new_input
-
--- the lexer rests in the data state, with nothing read ahead and no question asked
-pub record RestsInData (l : Lexer) : Type 0 where
-  pub state : l.lex.machine.state ≡ Data
-  pub ahead : l.lex.ahead ≡ []
-  pub asked : l.asked ≡ asked.Nothing
 
 -- The promise of `next_plain`: the text's code points, each in a token of its own, were emitted by moves from one rest to the next;
 -- none of them is U+0000.

@@ -1,4 +1,4 @@
-// Laws of the whole table: any pieces of a text, and the end of a run.
+//! Laws of the whole table: any pieces of a text, and the end of a run.
 ghost use Rattle.std.specs.Prelude.{List};
 ghost use Rattle.hp_names.specs.References.{Reference};
 ghost use Rattle.hp_tokens.specs.Runs.{IsSteady, AnyPieces};

@@ -1,4 +1,4 @@
-// The lexer that a run over a page holds.
+//! The lexer that a run over a page holds.
 ghost use Rattle.std.specs.Prelude.{◌≡◌, ◌-◌, ◌≤◌, ◌^◌, ℕ, IfOk, OnOk, IfSome, IfNone, IsTrue, true, false, Bool, [], ◌∷◌, Some, length};
 ghost use Rattle.hp_tokens.specs.declared.rows.Turn.TheVariants as turns;
 ghost use Rattle.hp_lexer.specs.Standing.{behind_cdata};
@@ -56,7 +56,7 @@ impl Lexer {
     ghost use Rattle.hp_tokens.specs.States.{enter, state_of_rest};
     ghost use Rattle.hp_lexer.specs.declared.lexer.Asked.TheVariants as asked;
     ghost use Rattle.hp_lexer.specs.declared.lexer.Step.TheVariants as steps;
-    ghost use Rattle.hp_lexer.specs.Standing.{is_answered, opened, Stepped, RestsInData, PlainStepped, TagStepped};
+    ghost use Rattle.hp_lexer.specs.Standing.{is_answered, opened, Stepped, PlainStepped, TagStepped};
     ghost use Rattle.hp_lexer.specs.Running.{Ran, Passed};
     ghost use Rattle.hp_lexer.specs.Table.{table};
 
@@ -122,32 +122,6 @@ impl Lexer {
         self.lex.machine.last_tag = Some(last);
         self.asked = Asked::Nothing;
         Ok(())
-    }
-
-    /// Whether the text is used up and the lexer rests in the data state; then it stands before the next text, as `next` would
-    /// leave it at the cut. Otherwise nothing changes.
-    #[inline]
-    pub fn pass_cut(&mut self, input: &Cursor<'_>) -> bool
-        ensures cut { result ≡ true → Stepped self.old input.now self.new input.now steps.AtCut }
-        ensures left { result ≡ false → self.new ≡ self.old }
-        ensures names { self.new.names ≡ self.old.names }
-    {
-        if input.front().is_some() || !self.rests_in_data() {
-            return false;
-        }
-        self.rested = ORIGIN;
-        true
-    }
-
-    /// Whether the lexer rests in the data state, with nothing read ahead and no question asked.
-    #[inline]
-    fn rests_in_data(&self) -> bool
-        ensures { result ≡ true → RestsInData self.now }
-    {
-        match self.asked {
-            Asked::Nothing => self.lex.machine.state == State::Data && self.lex.ahead.is_empty(),
-            _ => false,
-        }
     }
 
     /// The text at the front that the table emits as it stands: in the data state and RCDATA up to the next `<`, `&`, CR or U+0000, in
@@ -221,7 +195,8 @@ impl Lexer {
         }
     }
 
-    /// The next tokens that the table emits at once, a question, or that the text is used up.
+    /// The next tokens that the table emits at once, a question, or that the text is used up. Where more than 4 GiB would be held
+    /// back at a cut, it answers want of memory.
     pub fn next<'p>(&mut self, alloc: Global, input: &mut Cursor<'p>) -> Result<Step<'p>, NoMemory>
         requires answered { IsTrue (is_answered self.old.asked) }
         requires held { held self.old.lex ≤ input.old.place }
@@ -327,7 +302,8 @@ impl Lexer {
         }
     }
 
-    /// The text is used up: what stood in it is before the next one.
+    /// The text is used up: what stood in it is before the next one. Where more than 4 GiB are held back, there is want of memory.
+    /// A text that isn't used up doesn't occur: more input is needed only where nothing is unread.
     fn reach_cut(&mut self, input: &Cursor<'_>) -> Result<(), NoMemory>
         ensures cut { OnOk result ((self.new ≡ record self.old { rested = 2 ^ 32 }) × (held self.old.lex ≤ 2 ^ 32)) }
         ensures used { OnOk result (input.now.text ≡ []) }
@@ -349,10 +325,8 @@ impl Lexer {
         ensures names { self.new.names ≡ self.old.names }
         ensures rested { self.new.rested ≡ self.old.rested }
     {
-        let mut taken: usize = 0;
-        while taken < 7 {
+        for _turn in 0..7usize {
             let _ = self.lex.take(input);
-            taken += 1;
         }
         self.asked = Asked::Cdata;
     }

@@ -1,4 +1,4 @@
-// One call of the part of the table that the state is in.
+//! One call of the part of the table that the state is in.
 ghost use Rattle.std.specs.Prelude.{◌≡◌, ◌≤◌, ◌^◌, ℕ, [], IfOk, IsTrue, false, if◌then◌else◌, Bool};
 ghost use Rattle.hp_tokens.specs.Advancing.{held, lexing, end_of_text, Turned, EndTurned, Ends};
 ghost use Rattle.hp_tokens.specs.declared.rows.Turn.{Turn};

@@ -8,7 +8,7 @@ use Rattle.hp_lex_markup.specs.Markup.{markup_rules}
 use Rattle.hp_lex_markup.specs.Rows as markup
 use Rattle.hp_lexer.specs.Table.{table}
 use Rattle.hp_lexer.proofs.Parts.{part-tags, part-raw, part-markup, tags-part, raw-part, markup-part, end_turned}
-use Rattle.hp_lexer.proofs.Told.{IfOk_then}
+use Rattle.hp_tokens.proofs.Told.{IfOk_then}
 use Rattle.hp_lexer.proofs.turns.make_end_moves.Goals as goal
 
 pub returns-then-is_here : goal.returns-then-is_here

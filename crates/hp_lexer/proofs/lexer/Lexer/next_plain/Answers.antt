@@ -3,7 +3,7 @@ use Rattle.std.specs.Prelude.{map}
 use Rattle.hp_tokens.specs.Rows.{character}
 use Rattle.hp_lexer.proofs.Direct.{plain_at_once}
 use Rattle.hp_lexer.proofs.Parts.{text_in_tags, text_in_raw}
-use Rattle.hp_lexer.proofs.Told.{IfSome_both, IfNone_then}
+use Rattle.hp_tokens.proofs.Told.{IfSome_both, IfNone_then}
 use Rattle.hp_lexer.proofs.lexer.Lexer.next_plain.Goals as goal
 
 pub returns-in-Data-clause-text : goal.returns-in-Data-clause-text

@@ -4,7 +4,7 @@ use Rattle.hp_tokens.specs.Rows.{character}
 use Rattle.hp_tokens.specs.declared.lexing.LexState.{LexState}
 use Rattle.hp_lexer.proofs.Direct.{plain_at_once}
 use Rattle.hp_lexer.proofs.Parts.{text_in_tags}
-use Rattle.hp_lexer.proofs.Told.{IfSome_both, IfNone_then}
+use Rattle.hp_tokens.proofs.Told.{IfSome_both, IfNone_then}
 use Rattle.hp_lexer.proofs.lexer.Lexer.next_reference.Goals as goal
 
 pub returns-in-Nothing-clause-text : goal.returns-in-Nothing-clause-text

@@ -1,7 +1,7 @@
 use Rattle.std.proofs.Common.{ℕ, [], ◌∷◌, ap}
 use Rattle.hp_tokens.specs.Advancing.{lexing}
 use Rattle.hp_lexer.proofs.Parts.{text_in_tags, text_in_raw}
-use Rattle.hp_lexer.proofs.Told.{IfSome_both, IfNone_then}
+use Rattle.hp_tokens.proofs.Told.{IfSome_both, IfNone_then}
 use Rattle.hp_lexer.proofs.lexer.Lexer.take_text.Goals as goal
 
 pub returns-in-Data-clause-ran : goal.returns-in-Data-clause-ran
