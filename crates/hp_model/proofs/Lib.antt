@@ -27,3 +27,5 @@ pub mod Billing
 pub mod Growing
 pub mod RunGrowth
 pub mod Texts
+pub mod ActsApart
+pub mod HandlingApart

@@ -11,3 +11,4 @@ pub mod Runs
 pub mod AtOnce
 pub mod Growth
 pub mod Texts
+pub mod Apart

@@ -2,6 +2,7 @@
 //! at run time: specs/ has the definitions, and each contract is a law of them; the bodies do nothing.
 #![tactic(auto)]
 
+ghost use Rattle.hp_model.specs.Apart.{AtOnceApart, AtOnceLeaves, HandlingApart, HandlingLeaves, RunsApart, RunsLeave};
 ghost use Rattle.hp_model.specs.AtOnce.{BuiltAtOnce, RunsAtOnce};
 ghost use Rattle.hp_model.specs.Examples.{Examples};
 ghost use Rattle.hp_model.specs.Growth.{BuiltGrows};
@@ -56,4 +57,15 @@ pub fn texts_at_once()
 /// other token inside a page brings at most one entry, and uses so many ids.
 pub fn growth()
     ensures { BuiltGrows }
+{}
+
+/// Handling doesn't read the lexer's part of the control state: whatever it is, a token has the same outcome, switch and end of
+/// parsing, and that part is left as it was. So are the steps of a run.
+pub fn lexer_apart()
+    ensures token { HandlingApart }
+    ensures at_once { AtOnceApart }
+    ensures left { HandlingLeaves }
+    ensures left_at_once { AtOnceLeaves }
+    ensures run { RunsApart }
+    ensures left_by_run { RunsLeave }
 {}

@@ -8,6 +8,7 @@ use Rattle.hp_control.specs.Tree.{Tree, applied_all, document}
 use Rattle.hp_control.specs.declared.edit.Edit.{Edit}
 use Rattle.hp_lexer.proofs.Steady.{table_steady}
 use Rattle.hp_lexer.specs.Table.{table}
+use Rattle.hp_model.proofs.HandlingApart.{goes-leave}
 use Rattle.hp_model.proofs.Running.{one_run, runs-join}
 use Rattle.hp_model.specs.AtOnce.{MakeSame}
 use Rattle.hp_model.specs.Runs.{Parser, followed_by}
@@ -16,7 +17,6 @@ use Rattle.hp_run.specs.Pages.{IsTreeOf}
 use Rattle.hp_steps.proofs.Together.{applied-append}
 use Rattle.hp_pieces.specs.Running.{Ends, Leads, parser_in, state_at}
 use Rattle.hp_pieces.proofs.FitRuns.{exit_valid}
-use Rattle.hp_pieces.proofs.HandlingLex.{goes-leave}
 use Rattle.hp_pieces.proofs.SameRuns.{AlikeParsers, end-same, run-same}
 
 -- a parser, and the one that begins in the state where it stands

@@ -5,8 +5,6 @@ pub mod FitMarkup
 pub mod FitNames
 pub mod FitTable
 pub mod FitRuns
-pub mod LexKept
-pub mod HandlingLex
 pub mod SameRuns
 pub mod Joining
 pub mod Ahead

@@ -20,6 +20,7 @@ use Rattle.hp_lexer.specs.declared.lexer.Asked.{Asked}
 use Rattle.hp_lexer.specs.declared.lexer.Lexer.{Lexer}
 use Rattle.hp_lexer.specs.Standing.{is_answered, opened, stands}
 use Rattle.hp_lexer.specs.Table.{table}
+use Rattle.hp_model.proofs.HandlingApart.{goes-leave}
 use Rattle.hp_model.specs.Runs.{Goes, here, Parser, rests, goes, followed_by, step, step_by}
 use Rattle.hp_steps.specs.Alike.{SameMove}
 use Rattle.hp_steps.specs.Closing.{EndsAtTag}
@@ -30,7 +31,6 @@ use Rattle.hp_steps.proofs.Together.{applied-append}
 use Rattle.hp_pieces.specs.Fragments.{IsRun}
 use Rattle.hp_pieces.specs.Laws.{LeadsJoin, LeadsValid}
 use Rattle.hp_pieces.specs.Running.{Leads, parser_in}
-use Rattle.hp_pieces.proofs.HandlingLex.{goes-leave}
 use Rattle.hp_replay.specs.Collecting.{IsKnown, control_of, edits_of}
 use Rattle.hp_replay.specs.Reading.{HasEnded, IsAtEnd, IsBetween, IsReady, IsWithin, RanOver, Reads, control_in, edits_in, state_of}
 use Rattle.hp_replay.specs.declared.running.Running.{Running}
