@@ -44,10 +44,10 @@ use Rattle.hp_model.proofs.Finding.{act_found}
 use Rattle.hp_model.proofs.Handled.{turns-end}
 use Rattle.hp_acts.specs.declared.turns.Handled.{Handled}
 use Rattle.hp_acts.specs.ActLaws.{act_faithful, fits_of, step_at_once}
-use Rattle.hp_acts.specs.HandlePlans.{handle_plan, most_turns}
+use Rattle.hp_acts.specs.HandlePlans.{handle_plan}
 use Rattle.hp_acts.specs.Handling.{Handles}
 use Rattle.hp_acts.specs.Known.{EndsWhole, HandlesKnown, IsHandledWhole, KnownHandled}
-use Rattle.hp_acts.specs.Older.{EndsOver, few_at_once, few_of_rest, few_turns}
+use Rattle.hp_acts.specs.Older.{EndsOver}
 use Rattle.hp_acts.specs.Plans.{act_plan, by_plan, test_plan}
 use Rattle.hp_acts.specs.RowPlans.{Reached}
 use Rattle.hp_acts.specs.Suiting.{turns_suit}
@@ -102,45 +102,14 @@ acts_known t n read fostering a v d st g h r i =
 tests_known : (t : Token) (x : Test) (d : Split) → StandsOn nothing d → true ≡ true → end_by (answer_of nothing) (test_plan t x d) ≡ Ok (holds t x (state_over d nothing))
 tests_known t x d st i = test_faithful t x nothing d st (sees_there x d st)
 
--- as many turns as the definition's
-own_length : (es : List OpenElement) (k : ℕ) → length (map (shifted 0) es ++ drop k []) ≡ length es
-own_length es k = ap (λ l. length (map (shifted 0) es ++ l)) (drop_none k) ∙ (length-append (map (shifted 0) es) [] ∙ (let m : length (map (shifted 0) es) ≡ length es = length-map es (shifted 0) in omega (arith, m)))
-
-as_many : (v : Split) → most_turns v ≡ bound (state_over v nothing)
-as_many v = ap (λ k. 32 + 16 * k) (sym (ap length (full_stack nothing v) ∙ own_length v.change.stack v.change.popped))
-
 -- the handling from a view is what it means
 abbrev EndsAs : Split → Result Reached Crossing → Meant → Type 0
 EndsAs v (Ok r) h = IsHandledWhole v r.split r.handled h
 EndsAs v (Err crossing) h = ⊥
 
-whole_of : (v : Split) (end : Result Reached Crossing) (few : Option Meant) (h : Meant) → IsSome few → EndsOver nothing v end few h → EndsAs v end h
-whole_of v (Ok r) few h i m = record { control = m.control; edits = m.edits; switch = m.switch; stopped = m.stopped; stands = m.stands }
-whole_of v (Err crossing) few h i (inl m) = absurd (true≢false (sym m ∙ nothing_touched crossing h.outcome))
-whole_of v (Err crossing) few h i (inr m) = absurd (true≢false (sym (subst (λ o. IsSome o) m.1 i)))
-
--- the turns of a token don't run out
-few_there : (t : Token) (v : Split) → IsRead t → IsValid (state_over v nothing) → IsSome (few_turns v (settled (state_over v nothing)) t)
-few_there t v read valid =
-    let c = settled (state_over v nothing) in
-    subst (λ k. IsSome (turns turn k t c)) (sym (as_many v)) (turns-end t c read (settled_valid (state_over v nothing) valid))
-
-rest_there : (t : Token) (v : Split) → IsValid (state_over v nothing) → IsSome (few_of_rest v (settled (state_over v nothing)) (after_first t))
-rest_there (token.Characters class (x ∷ y ∷ text)) v valid = few_there (token.Characters class (y ∷ text)) v tt valid
-rest_there (token.Characters class (x ∷ [])) v valid = refl
-rest_there (token.Characters class []) v valid = refl
-rest_there (token.Start self_closing tag) v valid = refl
-rest_there (token.EndTag name) v valid = refl
-rest_there (token.Comment text) v valid = refl
-rest_there (token.Doctype parts) v valid = refl
-rest_there token.EndOfInput v valid = refl
-
-few_whole : (t : Token) (v : Split) → IsRead t → IsValid (state_over v nothing) → IsSome (few_at_once v (state_over v nothing) t)
-few_whole t v read valid = go ((state_over v nothing).skip_lf && is_line_feed t)
-  where
-    go : (b : Bool) → IsSome (if b then few_of_rest v (settled (state_over v nothing)) (after_first t) else few_turns v (settled (state_over v nothing)) t)
-    go true = rest_there t v valid
-    go false = few_there t v read valid
+whole_of : (v : Split) (end : Result Reached Crossing) (h : Meant) → EndsOver nothing v end h → EndsAs v end h
+whole_of v (Ok r) h m = record { control = m.control; edits = m.edits; switch = m.switch; stopped = m.stopped; stands = m.stands }
+whole_of v (Err crossing) h m = absurd (true≢false (sym m ∙ nothing_touched crossing h.outcome))
 
 -- nothing more is asked
 suits_rest : (o : Option Token) (c : ControlState) → rest_suits nothing any_act any_test o c ≡ true
@@ -157,7 +126,7 @@ suits_any t c = go (c.skip_lf && is_line_feed t)
 handled_whole : (t : Token) (v : Split) → IsRead t → StandsOn nothing v → IsValid (state_over v nothing) → EndsAs v (end_by (answer_of nothing) (handle_plan t v)) (handle_at_once (state_over v nothing) t)
 handled_whole t v read st valid =
     let c = state_over v nothing in
-    whole_of v (end_by (answer_of nothing) (handle_plan t v)) (few_at_once v c t) (handle_at_once c t) (few_whole t v read valid)
+    whole_of v (end_by (answer_of nothing) (handle_plan t v)) (handle_at_once c t)
     (handled_over nothing any_act any_test acts_known tests_known t v read st valid (suits_any t c))
 
 whole_end : (t : Token) (v : Split) (end : Result Reached Crossing) → EndsAs v end (handle_at_once (state_over v nothing) t) → EndsWhole t v end

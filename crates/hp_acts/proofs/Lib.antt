@@ -8,7 +8,7 @@ pub mod Matching
 pub mod SuitingAny
 pub mod RowMatches
 pub mod TurnMatches
-pub mod SuitingFewer
+pub mod EnoughSuits
 pub mod HandleMatches
 pub mod ActMatches
 pub mod KnownMatches

@@ -34,7 +34,7 @@ use Rattle.hp_model.specs.Whole.{IsRead}
 use Rattle.hp_model.proofs.Course.{Course, Along, fits}
 use Rattle.hp_acts.specs.ActLaws.{act_faithful, fits_of, step_at_once}
 use Rattle.hp_acts.specs.HandlePlans.{handle_plan}
-use Rattle.hp_acts.specs.Older.{EndsOver, OlderHandled, few_at_once}
+use Rattle.hp_acts.specs.Older.{EndsOver, OlderHandled}
 use Rattle.hp_acts.specs.Plans.{act_plan, by_plan, test_plan}
 use Rattle.hp_acts.specs.Told.{any_new, are_together, has_new_mode, is_act_told, is_first_new, is_rest_told, is_test_told, is_told, is_told_at_once, reads_told}
 use Rattle.hp_acts.specs.TestLaws.{sees, test_faithful}
@@ -142,5 +142,5 @@ older_handled t v old new end s r true_all st valid read told =
     let c = state_over v s in
     let same = true_alike s old.says (handle_plan t v) true_all in
     let so : end_by (answer_of s) (handle_plan t v) ≡ end = sym (ends_alike s old.says (handle_plan t v) same) ∙ r.ends in
-    subst (λ e. EndsOver s v e (few_at_once v c t) (handle_at_once c t)) so
+    subst (λ e. EndsOver s v e (handle_at_once c t)) so
     (handled_over s (is_act_told s) (is_test_told s) (acts_older s) (tests_older s) t v read st valid (told_suits s t c told))

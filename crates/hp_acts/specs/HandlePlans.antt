@@ -1,5 +1,5 @@
 -- What the handling of a token asks and changes (13.2.6): its turns, and the line feed that is dropped.
-use Rattle.std.specs.Prelude.{ℕ, zero, suc, ◌+◌, ◌*◌, ◌==◌, if◌then◌else◌, List, [], ◌∷◌, length, Option, None, Some}
+use Rattle.std.specs.Prelude.{ℕ, zero, suc, ◌+◌, ◌*◌, ◌^◌, ◌==◌, if◌then◌else◌, List, [], ◌∷◌, length, Option, None, Some}
 use Rattle.hp_elements.specs.declared.token.Token.{Token}
 use Rattle.hp_elements.specs.declared.token.Token.TheVariants as token
 use Rattle.hp_elements.specs.declared.token.CharClass.{CharClass}
@@ -18,9 +18,9 @@ unfoldable pub turns_plan : ℕ → Token → Reached → Plan Reached
 turns_plan zero t r = crosses X3
 turns_plan (suc n) t r = followed_by (turn_plan t r) (where_again (turns_plan n))
 
--- a token is handled in no more turns than this
+-- a token is handled in no more turns than this: an older stack has fewer than 2 ^ 60 elements
 abbrev pub most_turns : Split → ℕ
-most_turns v = 32 + 16 * length v.change.stack
+most_turns v = 32 + 16 * (2 ^ 60 + length v.change.stack)
 
 abbrev pub all_turns_plan : Token → Split → Plan Reached
 all_turns_plan t v = turns_plan (most_turns v) t (record { split = v; handled = nothing_asked })

@@ -1,5 +1,5 @@
 //! One token, handled whole (13.2.6).
-ghost use Rattle.std.specs.Prelude.{◌≡◌, ℕ, ◌<◌, ◌+◌, ◌*◌, Bool, true, false, if◌then◌else◌, IfOk, drop};
+ghost use Rattle.std.specs.Prelude.{◌≡◌, ℕ, ◌<◌, ◌+◌, ◌*◌, ◌^◌, Bool, true, false, if◌then◌else◌, IfOk, drop};
 ghost use Rattle.std.specs.List.{list_any};
 ghost use Rattle.hp_elements.specs.Rules.{goes_later};
 ghost use Rattle.hp_elements.specs.declared.token.Mode.{Mode};
@@ -254,11 +254,14 @@ fn take_turn<'p, B: Below>(
     }
 }
 
-/// How often one token is handled at most, where so many elements are open.
+/// More elements than an older stack has.
+const OLDER: u128 = 1 << 60;
+
+/// How often one token is handled at most, where so many own elements are open.
 pub(crate) fn most_turns(elements: usize) -> u128
-    ensures { result ≡ 32 + 16 * elements }
+    ensures { result ≡ 32 + 16 * (2 ^ 60 + elements) }
 {
-    32 + 16 * elements as u128
+    32 + 16 * (OLDER + elements as u128)
 }
 
 /// Handles a token until no rule asks for it again, at most so often.

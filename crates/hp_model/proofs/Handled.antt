@@ -262,12 +262,19 @@ turns_end (suc n) t s read v h = go (turn t s) (turn-leaves t s read v) (turns_e
         let (q, ended) = rest other (left_by r) l.2 l.0 (omega arith) in
         (joined r q, (ap (before_all r) ended.0, ended.1))
 
-below_bound : (t : Token) (s : ControlState) → weigh t s < bound s
+pub below_bound : (t : Token) (s : ControlState) → weigh t s < bound s
 below_bound t s =
     let a : weigh t s < top s.mode + 16 + 16 * tally is_counted s.stack = weight-below (kind_of t) s.mode s.stack in
     let b : top s.mode ≤ 16 = top_at_most s.mode in
     let c : tally is_counted s.stack ≤ length s.stack = tally-length is_counted s.stack in
     omega arith
+
+-- more turns than that bound come to the same
+pub weigh-more : (n : ℕ) (t : Token) (s : ControlState) → bound s ≤ n → weigh t s < n
+weigh-more n t s h = let b : weigh t s < bound s = below_bound t s in omega (arith, b, h)
+
+pub turns-more : (n : ℕ) (t : Token) (s : ControlState) → IsRead t → IsValid s → bound s ≤ n → turns turn n t s ≡ turns turn (bound s) t s
+turns-more n t s read v h = enough_turns n (bound s) t s read v (weigh-more n t s h) (below_bound t s)
 
 pub turns_of_token : (t : Token) (s : ControlState) → IsRead t → IsValid s → (r : Handled) × ((turns turn (bound s) t s ≡ Some r) × IsValid (left_by r))
 turns_of_token t s read v = turns_end (bound s) t s read v (below_bound t s)

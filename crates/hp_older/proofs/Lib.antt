@@ -23,4 +23,3 @@ pub mod Table
 pub mod Chunks
 pub mod Tokens
 pub mod Whole
-pub mod Deep

@@ -17,7 +17,7 @@ use Rattle.hp_model.specs.Turns.{Handled, left_by}
 use Rattle.hp_model.specs.Whole.{IsRead}
 use Rattle.hp_model.proofs.Handled.{all_turns-valid, settled-valid}
 use Rattle.hp_acts.specs.RowPlans.{Reached}
-use Rattle.hp_acts.specs.Older.{EndsOver, few_at_once}
+use Rattle.hp_acts.specs.Older.{EndsOver}
 use Rattle.hp_acts.proofs.OlderMatches.{older_handled}
 use Rattle.hp_older.specs.GoesOn.{GoesOn}
 use Rattle.hp_older.specs.Laws.{ChunksStay, IsChunk, StaysChunk, TokensGoOn, TokensHandled, TokensTold}
@@ -78,7 +78,7 @@ chunks-stay t s v old new end r true_all k read inside = go end (tokens-handled 
     h : Handled
     h = handle_at_once (state_over v s) t
 
-    go : (e : Result Reached Crossing) → EndsOver s v e (few_at_once v (state_over v s) t) h → StaysChunk v e s
+    go : (e : Result Reached Crossing) → EndsOver s v e h → StaysChunk v e s
     go (Err crossing) m = tt
     go (Ok x) m = record {
       stands = m.stands;

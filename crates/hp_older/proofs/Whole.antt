@@ -20,10 +20,10 @@ use Rattle.hp_views.specs.Begins.{begins}
 use Rattle.hp_model.specs.AtOnce.{handle_at_once}
 use Rattle.hp_model.specs.Turns.{Handled, left_by}
 use Rattle.hp_acts.specs.HandlePlans.{handle_plan}
-use Rattle.hp_acts.specs.Older.{EndsOver, few_at_once}
+use Rattle.hp_acts.specs.Older.{EndsOver}
 use Rattle.hp_acts.specs.RowPlans.{Reached}
 use Rattle.hp_acts.proofs.Matching.{IsDoneAlike, done_after, touched_first, touched_second}
-use Rattle.hp_older.specs.Chunk.{AreOfChunk, ChunksHandled, EndsChunk, IsHandledChunk, RunsShort, ViewsBegin, handle_each_at_once, tokens_plan}
+use Rattle.hp_older.specs.Chunk.{AreOfChunk, ChunksHandled, EndsChunk, IsHandledChunk, ViewsBegin, handle_each_at_once, tokens_plan}
 use Rattle.hp_older.specs.GoesOn.{GoesOn}
 use Rattle.hp_older.specs.Laws.{IsChunk, StaysChunk}
 use Rattle.hp_older.proofs.Beginning.{begins as goes_on_itself}
@@ -52,16 +52,12 @@ module _ (s : ControlState) (v : Split) (t : Token) (ts : List Token) where
       let k : IsHandledChunk s e w (handle_each_at_once (left_by h) ts) = subst (λ x. IsHandledChunk s e w (handle_each_at_once x ts)) d.control m in
       let x = done_after s v e w h.outcome (handle_each_at_once (left_by h) ts).outcome d (record { control = k.control; edits = k.edits; own = k.own; stands = k.chunk.stands }) in
       record { control = x.control; edits = x.edits; own = x.own; chunk = k.chunk }
-  behind e (Err crossing) d (inl m) = inl (touched_second s crossing h.outcome (handle_each_at_once (left_by h) ts).outcome (subst (λ x. touches s crossing (handle_each_at_once x ts).outcome ≡ true) d.control m))
-  behind e (Err crossing) d (inr m) =
-      let k : RunsShort s (left_by h) ts crossing = subst (λ x. RunsShort s x ts crossing) d.control m in
-      inr (record { first = t ∷ k.first; token = k.token; rest = k.rest; so = ap (λ l. t ∷ l) k.so; view = k.view; reached = k.reached; short = k.short; by = k.by })
+  behind e (Err crossing) d m = touched_second s crossing h.outcome (handle_each_at_once (left_by h) ts).outcome (subst (λ x. touches s crossing (handle_each_at_once x ts).outcome ≡ true) d.control m)
 
-  one_end : (end : Result Reached Crossing) → EndsOver s v end (few_at_once v c t) h → StaysChunk v end s → ((e : Split) → IsChunk s e → EndsChunk s e (end_by (answer_of s) (tokens_plan ts e)) ts)
+  one_end : (end : Result Reached Crossing) → EndsOver s v end h → StaysChunk v end s → ((e : Split) → IsChunk s e → EndsChunk s e (end_by (answer_of s) (tokens_plan ts e)) ts)
       → EndsChunk s v (on_end end (λ r. end_by (answer_of s) (tokens_plan ts r.split))) (t ∷ ts)
   one_end (Ok r) m k rest = behind r.split (end_by (answer_of s) (tokens_plan ts r.split)) (record { control = m.control; edits = m.edits; own = m.own; stands = m.stands }) (rest r.split k)
-  one_end (Err crossing) (inl m) k rest = inl (touched_first s crossing h.outcome (handle_each_at_once (left_by h) ts).outcome m)
-  one_end (Err crossing) (inr m) k rest = inr (record { first = []; token = t; rest = ts; so = refl; view = v; reached = refl; short = m.1; by = m.0 })
+  one_end (Err crossing) m k rest = touched_first s crossing h.outcome (handle_each_at_once (left_by h) ts).outcome m
 
 each_end : (s : ControlState) (ts : List Token) (v : Split) → IsChunk s v → AreOfChunk ts → EndsChunk s v (end_by (answer_of s) (tokens_plan ts v)) ts
 each_end s [] v k a = record { control = refl; edits = λ tree. ap (applied_all tree) (sym (append-nil (map (named_edit s) v.edits))); own = refl; chunk = k }

@@ -1,8 +1,7 @@
 -- A chunk's tokens over an older state, one after the other.
-use Rattle.std.specs.Prelude.{◌≡◌, ◌⊎◌, false, true, List, [], ◌∷◌, ◌++◌, map, None, Result, Ok, Err}
+use Rattle.std.specs.Prelude.{◌≡◌, false, true, List, [], ◌∷◌, ◌++◌, map, None, Result, Ok, Err}
 use Rattle.hp_elements.specs.declared.token.Token.{Token}
 use Rattle.hp_control.specs.declared.question.Crossing.{Crossing}
-use Rattle.hp_control.specs.declared.question.Crossing.TheVariants.{X3}
 use Rattle.hp_control.specs.declared.question.Question.TheVariants as ask
 use Rattle.hp_control.specs.Agree.{AllTrue}
 use Rattle.hp_control.specs.Apply.{IsOlder, named_edit}
@@ -18,7 +17,6 @@ use Rattle.hp_model.specs.Growth.{IsInside}
 use Rattle.hp_model.specs.Turns.{Handled, joined, left_by, unchanged}
 use Rattle.hp_model.specs.Whole.{IsRead}
 use Rattle.hp_acts.specs.HandlePlans.{handle_plan}
-use Rattle.hp_acts.specs.Older.{few_at_once}
 use Rattle.hp_older.specs.Laws.{IsChunk}
 
 -- what tokens do, each at once
@@ -43,23 +41,12 @@ pub record IsHandledChunk (s : ControlState) (v w : Split) (h : Handled) : Type 
   pub own : touches_any s h.outcome ≡ false
   pub chunk : IsChunk s w
 
--- a token, behind some of these, has more turns than a view takes
-pub record RunsShort (s c : ControlState) (ts : List Token) (crossing : Crossing) : Type 0 where
-  pub first : List Token
-  pub token : Token
-  pub rest : List Token
-  pub so : ts ≡ first ++ token ∷ rest
-  pub view : Split
-  pub reached : state_over view s ≡ left_by (handle_each_at_once c first)
-  pub short : few_at_once view (state_over view s) token ≡ None
-  pub by : crossing ≡ X3
-
 abbrev pub EndsChunk : ControlState → Split → Result Split Crossing → List Token → Type 0
 EndsChunk s v (Ok w) ts = IsHandledChunk s v w (handle_each_at_once (state_over v s) ts)
-EndsChunk s v (Err crossing) ts = (touches s crossing (handle_each_at_once (state_over v s) ts).outcome ≡ true) ⊎ RunsShort s (state_over v s) ts crossing
+EndsChunk s v (Err crossing) ts = touches s crossing (handle_each_at_once (state_over v s) ts).outcome ≡ true
 
 -- Whatever carries out the plan of a chunk's tokens by answers that are true of s has handled them as the definition says, and touched
--- nothing older; or it crosses where something older is touched, or where a token has more turns than a view takes.
+-- nothing older; or it crosses where something older is touched.
 abbrev pub ChunksHandled : Type 0
 ChunksHandled = (ts : List Token) (s : ControlState) (v : Split) (old new : Heard) (end : Result Split Crossing) → Runs old new (tokens_plan ts v) end → AllTrue s old.says (asked_by old.says (tokens_plan ts v))
     → IsChunk s v → AreOfChunk ts → EndsChunk s v end ts

@@ -12,7 +12,7 @@ use Rattle.hp_model.specs.Growth.{IsInside}
 use Rattle.hp_model.specs.Turns.{left_by}
 use Rattle.hp_model.specs.Whole.{IsRead}
 use Rattle.hp_acts.specs.HandlePlans.{handle_plan}
-use Rattle.hp_acts.specs.Older.{EndsOver, few_at_once}
+use Rattle.hp_acts.specs.Older.{EndsOver}
 use Rattle.hp_acts.specs.RowPlans.{Reached}
 use Rattle.hp_acts.specs.Told.{is_told_at_once}
 use Rattle.hp_older.specs.GoesOn.{GoesOn}
@@ -37,10 +37,10 @@ abbrev pub TokensGoOn : Type 0
 TokensGoOn = (t : Token) (s : ControlState) (v : Split) → IsChunk s v → IsRead t → IsInside t → touches_any s (handle_at_once (state_over v s) t).outcome ≡ false → GoesOn s (left_by (handle_at_once (state_over v s) t))
 
 -- Whatever carries out the plan of handling by answers that are true of s has handled the token as the definition says, or it crosses
--- where something older is touched, or the turns run out that a view takes.
+-- where something older is touched.
 abbrev pub TokensHandled : Type 0
 TokensHandled = (t : Token) (s : ControlState) (v : Split) (old new : Heard) (end : Result Reached Crossing) → Runs old new (handle_plan t v) end → AllTrue s old.says (asked_by old.says (handle_plan t v))
-    → IsChunk s v → IsRead t → IsInside t → EndsOver s v end (few_at_once v (state_over v s) t) (handle_at_once (state_over v s) t)
+    → IsChunk s v → IsRead t → IsInside t → EndsOver s v end (handle_at_once (state_over v s) t)
 
 -- what a token's handling leaves, where it doesn't cross, is a chunk again
 abbrev pub StaysChunk : Split → Result Reached Crossing → ControlState → Type 0

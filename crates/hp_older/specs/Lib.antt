@@ -1,4 +1,3 @@
 pub mod GoesOn
 pub mod Laws
 pub mod Chunk
-pub mod Examples

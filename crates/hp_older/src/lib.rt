@@ -3,7 +3,6 @@
 #![tactic(auto)]
 
 ghost use Rattle.hp_older.specs.Chunk.{ChunksHandled, ViewsBegin};
-ghost use Rattle.hp_older.specs.Examples.{TurnsRunOut};
 ghost use Rattle.hp_older.specs.Laws.{Begins, ChunksStay, TokensGoOn, TokensHandled, TokensTold};
 
 /// Where a chunk begins its state goes on from the older one: it has no new elements. So does the view over an older state that
@@ -15,8 +14,8 @@ pub fn chunk_begins()
 
 /// Over any older state, from a state that goes on from it, and for each token but the end of input: what the handling reads of
 /// the older state is told rightly, up to the first act that touches something older; a token is handled as the definition says,
-/// or it crosses by what it touches, or has more turns than a view takes; and where nothing older is touched, what is left goes
-/// on from the older state, and so does the view that handled the token.
+/// or it crosses by what it touches; and where nothing older is touched, what is left goes on from the older state, and so does the
+/// view that handled the token.
 pub fn tokens_over()
     ensures told { TokensTold }
     ensures goes_on { TokensGoOn }
@@ -25,12 +24,7 @@ pub fn tokens_over()
 {}
 
 /// The tokens of a chunk, one after the other: they are handled as the definition says and nothing older is touched, or they
-/// cross by what is touched, or at a token that has more turns than a view takes.
+/// cross by what is touched.
 pub fn chunk_handled()
     ensures { ChunksHandled }
-{}
-
-/// A view's turns may run out where nothing older is touched: not over a state of a page, but over a valid one.
-pub fn turns_by_example()
-    ensures { TurnsRunOut }
 {}

@@ -1,4 +1,4 @@
-use Rattle.std.proofs.Common.{◌-◌, ◌+◌, ◌*◌, ◌∙◌, Ok, Err, ap, arith, refl, subst}
+use Rattle.std.proofs.Common.{◌-◌, ◌+◌, ◌*◌, ◌^◌, ◌∙◌, Ok, Err, ap, arith, refl, subst}
 use Rattle.hp_elements.specs.declared.token.Token.{Token}
 use Rattle.hp_adoption.specs.FlushPlans.{flush_plan}
 use Rattle.hp_views.specs.FieldPlans.{original_plan}
@@ -22,7 +22,7 @@ returns-in_err-to_original g c =
 pub returns-in-Some : goal.returns-in-Some
 returns-in-Some g c =
     end_done c.handle_usual.result (sight g.B.Below.heard c.args.view.now) (sight g.B.Below.heard c.to_original.new.self) (sight g.B.Below.heard c.handle_usual.new.view) c.args.token.now (c.most_turns-most.result - 1) c.requires
-    (ap (λ n. n - 1) (c.most_turns-most.ensures ∙ ap (λ n. 32 + 16 * n) c.len.ensures))
+    (ap (λ n. n - 1) (c.most_turns-most.ensures ∙ ap (λ n. 32 + 16 * (2 ^ 60 + n)) c.len.ensures))
     (carries_next (Ok tt) (sight g.B.Below.heard c.args.view.now) (sight g.B.Below.heard c.flush.new.view) (sight g.B.Below.heard c.to_original.new.self) flush_plan original_plan c.in_ok-flush.ensures c.in_ok-to_original.ensures)
     (c.handle_usual.ensures (c.most_turns-most.result - 1) (omega arith))
 
@@ -30,6 +30,6 @@ pub returns-in-None : goal.returns-in-None
 returns-in-None g c =
     let P : Token → Type 0 = λ t. Handles c.take_turns.result (sight g.B.Below.heard c.to_original.new.self) (sight g.B.Below.heard c.take_turns.new.view) (turns_from (c.most_turns-most.result - 1) t) in
     end_done c.take_turns.result (sight g.B.Below.heard c.args.view.now) (sight g.B.Below.heard c.to_original.new.self) (sight g.B.Below.heard c.take_turns.new.view) c.args.token.now (c.most_turns-most.result - 1) c.requires
-    (ap (λ n. n - 1) (c.most_turns-most.ensures ∙ ap (λ n. 32 + 16 * n) c.len.ensures))
+    (ap (λ n. n - 1) (c.most_turns-most.ensures ∙ ap (λ n. 32 + 16 * (2 ^ 60 + n)) c.len.ensures))
     (carries_next (Ok tt) (sight g.B.Below.heard c.args.view.now) (sight g.B.Below.heard c.flush.new.view) (sight g.B.Below.heard c.to_original.new.self) flush_plan original_plan c.in_ok-flush.ensures c.in_ok-to_original.ensures)
     (subst P c.taken.ensures c.take_turns.ensures)
