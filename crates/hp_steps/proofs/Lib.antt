@@ -5,11 +5,17 @@ pub mod ClosingTags
 pub mod ClosingRaw
 pub mod ClosingMarkup
 pub mod ClosingTable
+pub mod FillingRows
+pub mod FillingTags
+pub mod FillingRaw
+pub mod FillingMarkup
+pub mod FillingTable
 pub mod Batches
 pub mod Together
 pub mod Standing
 pub mod Ending
 pub mod Quiet
 pub mod Turning
+pub mod Filling
 pub mod Lexers
 pub mod Stepping
