@@ -1,6 +1,7 @@
 -- Runs over parts of a page, one after the other, are the run over the page.
 use Rattle.std.proofs.Common.{◌≡◌, ℕ, List, ◌++◌, refl, ap, ◌∙◌, sym, subst}
 use Rattle.hp_names.specs.BuiltIn.{built_in}
+use Rattle.hp_names.specs.References.{Reference}
 use Rattle.hp_tokens.specs.declared.lexing.LexState.{LexState}
 use Rattle.hp_tokens.specs.declared.machine.Machine.{Machine}
 use Rattle.hp_control.specs.States.{ControlState, IsValid, lex_start, start}
@@ -23,10 +24,10 @@ use Rattle.hp_pieces.proofs.SameRuns.{AlikeParsers, end-same, run-same}
 stands-same : (there : Parser) → there.control.lex ≡ lex_start → AlikeParsers (parser_in (state_at there)) there
 stands-same there e = record { lexing = record { machine = refl; unread = refl }; control = ap (λ (l : LexState). record there.control { lex = l }) (sym e) }
 
-begins-same : {text : List ℕ} {s t : ControlState} {es : List Edit} (run : Leads text s es t) → AlikeParsers (parser_in t) run.there
-begins-same run =
+pub begins-same : (names : List Reference) {text : List ℕ} {s t : ControlState} {es : List Edit} (run : Leads names text s es t) → AlikeParsers (parser_in t) run.there
+begins-same names run =
     let P : ControlState → Type 0 = λ x. AlikeParsers (parser_in x) run.there in
-    subst P (sym run.reaches) (stands-same run.there (goes-leave (table built_in) run.run.goes))
+    subst P (sym run.reaches) (stands-same run.there (goes-leave (table names) run.run.goes))
 
 followed-same : (p q : Parser) (text : List ℕ) → AlikeParsers p q → AlikeParsers (followed_by p text) (followed_by q text)
 followed-same p q text a = record { lexing = record { machine = a.lexing.machine; unread = ap (λ (u : List ℕ). u ++ text) a.lexing.unread }; control = a.control }
@@ -43,35 +44,35 @@ made-same es fs gs hs h k t =
     ∙ (ap (λ (x : Tree). applied_all x fs) (h t)
     ∙ (k (applied_all t gs) ∙ sym (applied-append t gs hs)))
 
-pub leads_join : (a b : List ℕ) (s m t : ControlState) (es fs : List Edit) → Leads a s es m → Leads b m fs t → Leads (a ++ b) s (es ++ fs) t
-leads_join a b s m t es fs first second =
-    let there = run-same built_in (followed_by (parser_in m) b) (followed_by first.there b) second.there second.made (followed-same (parser_in m) first.there b (begins-same first)) second.run in record {
+pub leads_join : (names : List Reference) (a b : List ℕ) (s m t : ControlState) (es fs : List Edit) → Leads names a s es m → Leads names b m fs t → Leads names (a ++ b) s (es ++ fs) t
+leads_join names a b s m t es fs first second =
+    let there = run-same names (followed_by (parser_in m) b) (followed_by first.there b) second.there second.made (followed-same (parser_in m) first.there b (begins-same names first)) second.run in record {
       made = first.made ++ second.made;
       there = there.0;
-      run = runs-join (table built_in) (table_steady built_in) (parser_in s) first.there there.0 a b first.made second.made first.run there.1;
+      run = runs-join (table names) (table_steady names) (parser_in s) first.there there.0 a b first.made second.made first.run there.1;
       reaches = second.reaches ∙ state-same second.there there.0 there.2;
       same = made-same es fs first.made second.made first.same second.same;
     }
 
-pub leads_once : (text : List ℕ) (s t u : ControlState) (es fs : List Edit) → Leads text s es t → Leads text s fs u → (t ≡ u) × MakeSame es fs
-leads_once text s t u es fs first second =
-    let one = one_run (table built_in) (parser_in s) first.there second.there text first.made second.made first.run second.run in
+pub leads_once : (names : List Reference) (text : List ℕ) (s t u : ControlState) (es fs : List Edit) → Leads names text s es t → Leads names text s fs u → (t ≡ u) × MakeSame es fs
+leads_once names text s t u es fs first second =
+    let one = one_run (table names) (parser_in s) first.there second.there text first.made second.made first.run second.run in
     (first.reaches ∙ (ap state_at one.1 ∙ sym second.reaches), λ tree. first.same tree ∙ (ap (applied_all tree) one.0 ∙ sym (second.same tree)))
 
-pub leads_valid : (text : List ℕ) (s t : ControlState) (es : List Edit) → Leads text s es t → IsValid s → IsValid t
+pub leads_valid : (text : List ℕ) (s t : ControlState) (es : List Edit) → Leads built_in text s es t → IsValid s → IsValid t
 leads_valid text s t es run v = subst IsValid (sym run.reaches) (exit_valid s text run.made run.there run.run v)
 
-pub leads_exist : (text : List ℕ) (s : ControlState) → (es : List Edit) × (t : ControlState) × Leads text s es t
-leads_exist text s =
-    let there = run_exists built_in (parser_in s) text in
+pub leads_exist : (names : List Reference) (text : List ℕ) (s : ControlState) → (es : List Edit) × (t : ControlState) × Leads names text s es t
+leads_exist names text s =
+    let there = run_exists names (parser_in s) text in
     (there.0, state_at there.1, record { made = there.0; there = there.1; run = there.2; reaches = refl; same = λ t. refl })
 
-pub page_built : (page : List ℕ) (t : ControlState) (es fs : List Edit) → Leads page start es t → Ends t fs → IsTreeOf built_in page (applied_all document (es ++ fs))
-page_built page t es fs run end = record {
+pub page_built : (names : List Reference) (page : List ℕ) (t : ControlState) (es fs : List Edit) → Leads names page start es t → Ends names t fs → IsTreeOf names page (applied_all document (es ++ fs))
+page_built names page t es fs run end = record {
   read = run.there;
   edits = run.made;
   at_end = end.made;
   runs = run.run;
-  ends = end-same built_in run.there end.ends (begins-same run);
+  ends = end-same names run.there end.ends (begins-same names run);
   builds = made-same es fs run.made end.made run.same end.same document;
 }

@@ -13,3 +13,10 @@ pub mod LastRows
 pub mod LastMoves
 pub mod LastTokens
 pub mod FromState
+pub mod Stays
+pub mod Own
+pub mod Placed
+pub mod Inside
+pub mod InBytes
+pub mod Batched
+pub mod Places

@@ -1,4 +1,9 @@
 pub mod Running
+pub mod Waiting
 pub mod Fragments
+pub mod Guesses
 pub mod Texts
+pub mod Touching
 pub mod Laws
+pub mod FirstLaws
+pub mod At

@@ -1,6 +1,6 @@
--- The run of the sequential parser over a text from a known state, and the end of input from one (13.2).
+-- The run of the sequential parser over a text from a known state, and the end of input from one (13.2), over any table of reference names.
 use Rattle.std.specs.Prelude.{◌≡◌, ℕ, List}
-use Rattle.hp_names.specs.BuiltIn.{built_in}
+use Rattle.hp_names.specs.References.{Reference}
 use Rattle.hp_tokens.specs.Moves.{standing}
 use Rattle.hp_control.specs.declared.edit.Edit.{Edit}
 use Rattle.hp_control.specs.States.{ControlState, lex_start}
@@ -19,15 +19,15 @@ abbrev pub state_at : Parser → ControlState
 state_at p = record p.control { lex = record { machine = p.lexing.machine; ahead = p.lexing.unread } }
 
 -- the run over the text leads from one state to another, with edits that have the effect of these on every tree
-pub record Leads (text : List ℕ) (entry : ControlState) (edits : List Edit) (exit : ControlState) : Type 0 where
+pub record Leads (names : List Reference) (text : List ℕ) (entry : ControlState) (edits : List Edit) (exit : ControlState) : Type 0 where
   pub made : List Edit
   pub there : Parser
-  pub run : Runs built_in (parser_in entry) text made there
+  pub run : Runs names (parser_in entry) text made there
   pub reaches : exit ≡ state_at there
   pub same : MakeSame edits made
 
 -- the end of input from this state has edits that have the effect of these on every tree
-pub record Ends (entry : ControlState) (edits : List Edit) : Type 0 where
+pub record Ends (names : List Reference) (entry : ControlState) (edits : List Edit) : Type 0 where
   pub made : List Edit
-  pub ends : EndsWith (table built_in) (parser_in entry) made
+  pub ends : EndsWith (table names) (parser_in entry) made
   pub same : MakeSame edits made

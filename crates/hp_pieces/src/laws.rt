@@ -1,6 +1,8 @@
 //! The laws of runs from known states, which the bodies do nothing for.
 
-ghost use Rattle.hp_pieces.specs.Laws.{EndsHandled, EndsRead, LeadsExist, LeadsJoin, LeadsOnce, LeadsValid, NeverAsked, PageBuilt, RestsAhead, RestsForMore};
+ghost use Rattle.hp_pieces.specs.At.{AtCovers, AtEnd, AtFits, AtGoesOn, AtOnce, AtStart, AtValid};
+ghost use Rattle.hp_pieces.specs.FirstLaws.{BatchOwn, BatchTouches, FirstBefore, FirstExists, FirstInBytes, FirstOnce, FirstParts, OwnLeads, OwnOrTouches, OwnOverNothing, TouchesInside, WholeIsOwn};
+ghost use Rattle.hp_pieces.specs.Laws.{EndsHandled, EndsRead, GuessLeads, LeadsExist, LeadsJoin, LeadsOnce, LeadsValid, NeverAsked, PageBuilt, RestsAhead, RestingWaits, RestsForMore, RunsWait, StartWaits, WaitingStays};
 
 /// From each state there is one run over each text, and it leads from a valid state to a valid one. The run over two texts in a row
 /// is that over the first and then that over the second, from where the first led. The run over a page and the end of input behind
@@ -21,4 +23,49 @@ pub fn runs_between()
 pub fn ends_of_text()
     ensures read { EndsRead }
     ensures handled { EndsHandled }
+{}
+
+/// The state before a page waits for text, and so does each state that a run leads to from a valid one, and each valid one in a
+/// resting state. Over a state that waits the run over nothing stays where it is, and a sound guess is the run over what it covers.
+pub fn states_wait()
+    ensures start { StartWaits }
+    ensures runs { RunsWait }
+    ensures resting { RestingWaits }
+    ensures stays { WaitingStays }
+    ensures guess { GuessLeads }
+{}
+
+/// From each older state there is one place up to which a fragment of a text can reach. Of the text before the first group that
+/// touches something older all can be covered. From a valid state that place is one between two code points, and what touches
+/// something older began within the text; so where all can be covered nothing older is touched, and that is a run over the text.
+pub fn firsts()
+    ensures once { FirstOnce }
+    ensures exist { FirstExists }
+    ensures before { FirstBefore }
+    ensures parts { FirstParts }
+    ensures bytes { FirstInBytes }
+    ensures inside { TouchesInside }
+    ensures whole { WholeIsOwn }
+    ensures apart { OwnOrTouches }
+    ensures own { OwnLeads }
+    ensures known { OwnOverNothing }
+{}
+
+/// What a batch of tokens is along a run from an older state, in a text in which nothing stands behind a `>`: steps along which nothing
+/// older is touched, or the place of the first token that touches something older.
+pub fn batches_touch()
+    ensures own { BatchOwn }
+    ensures touches { BatchTouches }
+{}
+
+/// At each place of a page there is one state and one tree of the sequential parser, valid, and such that ids can be counted. At
+/// its front they are those of the start; a run over what follows leads on, and the end of input behind it builds the page's tree.
+pub fn pages_at()
+    ensures once { AtOnce }
+    ensures start { AtStart }
+    ensures on { AtGoesOn }
+    ensures covers { AtCovers }
+    ensures end { AtEnd }
+    ensures valid { AtValid }
+    ensures fits { AtFits }
 {}

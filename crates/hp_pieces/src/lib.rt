@@ -4,6 +4,7 @@
 mod ending;
 mod exact;
 mod fragment;
+mod guessed;
 mod laws;
 mod pieces;
 mod tokens;
@@ -11,6 +12,7 @@ mod tokens;
 pub use ending::Ending;
 pub use exact::Exact;
 pub use fragment::Fragment;
-pub use laws::{ends_of_text, runs_between};
+pub use guessed::Guessed;
+pub use laws::{batches_touch, ends_of_text, firsts, pages_at, runs_between, states_wait};
 pub use pieces::cut;
 pub use tokens::of_page;

@@ -125,7 +125,7 @@ piece-between old new piece ended at_end = record { at_end = at_end; lex = goes-
 pub ran-on : LeadsJoin → (old mid new : Running) (a b : List ℕ) → RanOver a old mid → RanOver b mid new → RanOver (a ++ b) old new
 ran-on join old mid new a b first second = record {
   edits = first.edits ++ second.edits;
-  leads = join a b (state_of old) (state_of mid) (state_of new) first.edits second.edits first.leads second.leads;
+  leads = join built_in a b (state_of old) (state_of mid) (state_of new) first.edits second.edits first.leads second.leads;
   made = λ tree.
       second.made tree
       ∙ (applied-append tree (edits_in mid) second.edits
@@ -153,5 +153,5 @@ replayed text old new entry exit edits utf8 ran empty is_entry is_exit is_edits 
   fixed = subst (All IsFixedEdit) (sym is_edits) (told-fixed new.view.edits);
 }
   where
-    leads : Leads (chars text) entry ran.edits (state_of new)
-    leads = subst (λ (s : ControlState). Leads (chars text) s ran.edits (state_of new)) is_entry ran.leads
+    leads : Leads built_in (chars text) entry ran.edits (state_of new)
+    leads = subst (λ (s : ControlState). Leads built_in (chars text) s ran.edits (state_of new)) is_entry ran.leads

@@ -85,7 +85,7 @@ ReadsOn piece from before new false = HasEnded piece from before new
 -- the run over a text from the old state led to the new one
 pub record RanOver (text : List ℕ) (old new : Running) : Type 0 where
   pub edits : List Edit
-  pub leads : Leads text (state_of old) edits (state_of new)
+  pub leads : Leads built_in text (state_of old) edits (state_of new)
   pub made : MakeSame (edits_in new) (edits_in old ++ edits)
 
 -- a token was handled, and the lexer switched where it calls for that
