@@ -4,7 +4,8 @@ ghost use Rattle.hp_tokens.specs.declared.machine.Machine.{Machine};
 ghost use Rattle.hp_tokens.specs.declared.state.State.{State};
 ghost use Rattle.hp_tokens.specs.Rows.{Follows};
 ghost use Rattle.hp_tokens.specs.Ranks.{IsFine};
-ghost use Rattle.hp_tokens.specs.Advancing.{held, lexing, end_of_text, HasRows, Steps, EndSteps, Turned, EndTurned};
+ghost use Rattle.hp_tokens.specs.Advancing.{held, lexing, end_of_text, HasRows, Steps, EndSteps, Turned, EndTurned, IsGroup};
+ghost use Rattle.hp_tokens.specs.declared.rows.Turn.TheVariants as turns;
 ghost use Rattle.hp_tokens.specs.Moves.{Rules, move};
 ghost use Rattle.hp_tokens.specs.Runs.{IsSteady, AnyPieces};
 ghost use Rattle.hp_lex_markup.specs.Rows as rows;
@@ -314,6 +315,7 @@ pub fn advance<'p>(
     requires here { IsTrue (spec_is_here state.old.machine.state) }
     requires held { held state.old ≤ input.old.place }
     ensures turn { IfOk result (λ turn. Turned markup_rules spec_is_here (lexing state.old input.old rested.old) tokens.old (lexing state.new input.new rested.new) tokens.new rested.new turn) }
+    ensures group { IfOk result (λ turn. turn ≡ turns.Emitted → IsGroup (move markup_rules) spec_is_here (lexing state.old input.old rested.old) tokens.old (lexing state.new input.new rested.new) tokens.new rested.new) }
     ensures held { IfOk result (λ turn. held state.new ≤ input.new.place) }
 {
     hp_tokens::advance(&Markup, alloc, state, input, rested, tokens)

@@ -8,7 +8,7 @@ ghost use Rattle.std.specs.List.{list_all};
 ghost use Rattle.hp_tokens.specs.Rows.{Follows, character, is_blank};
 ghost use Rattle.hp_tokens.specs.Plain.{EmitsPlain, none_of};
 ghost use Rattle.hp_tokens.specs.Ranks.{IsFine};
-ghost use Rattle.hp_tokens.specs.Advancing.{held, lexing, end_of_text, Steps, EndSteps, Turned, EndTurned};
+ghost use Rattle.hp_tokens.specs.Advancing.{held, lexing, end_of_text, Steps, EndSteps, Turned, EndTurned, IsGroup};
 ghost use Rattle.hp_tokens.specs.Moves.{move, read_as as spec_read_as};
 ghost use Rattle.hp_lex_raw.specs.Rows as rows;
 ghost use Rattle.hp_lex_raw.specs.Fine.{row_fine, text_fine};
@@ -372,6 +372,7 @@ pub fn advance<'p>(
     requires here { IsTrue (spec_is_here state.old.machine.state) }
     requires held { held state.old ≤ input.old.place }
     ensures turn { IfOk result (λ turn. Turned raw_rules spec_is_here (lexing state.old input.old rested.old) tokens.old (lexing state.new input.new rested.new) tokens.new rested.new turn) }
+    ensures group { IfOk result (λ turn. turn ≡ turns.Emitted → IsGroup (move raw_rules) spec_is_here (lexing state.old input.old rested.old) tokens.old (lexing state.new input.new rested.new) tokens.new rested.new) }
     ensures held { IfOk result (λ turn. held state.new ≤ input.new.place) }
 {
     hp_tokens::advance(&Raw, alloc, state, input, rested, tokens)
@@ -387,6 +388,7 @@ pub fn next_text<'p>(
 ) -> Option<Token<'p>>
     requires held { held state.now ≤ input.old.place }
     ensures turn { IfSome result (λ token. Turned raw_rules spec_is_here (lexing state.now input.old rested.old) [] (lexing state.now input.new rested.new) (token ∷ []) rested.new turns.Emitted) }
+    ensures group { IfSome result (λ token. IsGroup (move raw_rules) spec_is_here (lexing state.now input.old rested.old) [] (lexing state.now input.new rested.new) (token ∷ []) rested.new) }
     ensures here { IfSome result (λ token. spec_is_here state.now.machine.state ≡ true) }
     ensures none { IfNone result ((input.new ≡ input.old) × (rested.new ≡ rested.old)) }
     ensures held { held state.now ≤ input.new.place }

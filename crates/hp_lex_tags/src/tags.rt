@@ -8,7 +8,7 @@ ghost use Rattle.std.specs.List.{list_all};
 ghost use Rattle.hp_tokens.specs.Plain.{none_of};
 ghost use Rattle.hp_tokens.specs.Rows.{Follows, character};
 ghost use Rattle.hp_tokens.specs.Ranks.{IsFine};
-ghost use Rattle.hp_tokens.specs.Advancing.{held, lexing, end_of_text, HasRows, Steps, EndSteps, Turned, EndTurned};
+ghost use Rattle.hp_tokens.specs.Advancing.{held, lexing, end_of_text, HasRows, Steps, EndSteps, Turned, EndTurned, IsGroup};
 ghost use Rattle.hp_tokens.specs.Moves.{Rules, move};
 ghost use Rattle.hp_lex_tags.specs.Rows as rows;
 ghost use Rattle.hp_lex_tags.specs.Fine.{row_fine};
@@ -226,6 +226,7 @@ pub fn advance<'p>(
     requires here { IsTrue (spec_is_here state.old.machine.state) }
     requires held { held state.old ≤ input.old.place }
     ensures turn { IfOk result (λ turn. Turned (tag_rules names.now) spec_is_here (lexing state.old input.old rested.old) tokens.old (lexing state.new input.new rested.new) tokens.new rested.new turn) }
+    ensures group { IfOk result (λ turn. turn ≡ turns.Emitted → IsGroup (move (tag_rules names.now)) spec_is_here (lexing state.old input.old rested.old) tokens.old (lexing state.new input.new rested.new) tokens.new rested.new) }
     ensures held { IfOk result (λ turn. held state.new ≤ input.new.place) }
 {
     hp_tokens::advance(&Tags { names }, alloc, state, input, rested, tokens)
@@ -242,6 +243,7 @@ pub fn next_text<'p>(
 ) -> Option<Token<'p>>
     requires held { held state.now ≤ input.old.place }
     ensures turn { IfSome result (λ token. Turned (tag_rules names.now) spec_is_here (lexing state.now input.old rested.old) [] (lexing state.now input.new rested.new) (token ∷ []) rested.new turns.Emitted) }
+    ensures group { IfSome result (λ token. IsGroup (move (tag_rules names.now)) spec_is_here (lexing state.now input.old rested.old) [] (lexing state.now input.new rested.new) (token ∷ []) rested.new) }
     ensures here { IfSome result (λ token. spec_is_here state.now.machine.state ≡ true) }
     ensures none { IfNone result ((input.new ≡ input.old) × (rested.new ≡ rested.old)) }
     ensures held { held state.now ≤ input.new.place }

@@ -13,10 +13,11 @@ use Rattle.hp_tokens.proofs.Stepping.{stand_same}
 use Rattle.hp_lexer.specs.declared.lexer.Asked.{Asked}
 use Rattle.hp_lexer.specs.declared.lexer.Asked.TheVariants as asked
 use Rattle.hp_lexer.specs.declared.lexer.Lexer.{Lexer}
+use Rattle.hp_lexer.specs.declared.lexer.Step.{Step}
 use Rattle.hp_lexer.specs.declared.lexer.Step.TheVariants as steps
 use Rattle.hp_lexer.specs.Table.{table, part_of}
 use Rattle.hp_lexer.specs.Running.{Passed, Led, Ran, emits}
-use Rattle.hp_lexer.specs.Standing.{opened, behind_cdata, stands, stands_answered, Stepped}
+use Rattle.hp_lexer.specs.Standing.{opened, behind_cdata, stands, stands_answered, Stepped, SteppedWithin, IsBatch}
 use Rattle.hp_lexer.proofs.Falling.{FallsTo, AsksCdata, move_falls}
 
 pub at_nothing : (l : Lexer) (input : Unread) → l.asked ≡ asked.Nothing → stands l input ≡ lexing l.lex input l.rested
@@ -59,22 +60,25 @@ module _ (old o mid : Lexer) (old_input mid_input : Unread) (tokens : List Token
       let Q : List Token → Type 0 = λ ts. Advances (table old.names) (stands old old_input) [] (lexing mid.lex mid_input mid.rested) ts mid.rested false in
       subst Q none (subst P f (advanced t e))
 
-  pub at_cut : turn ≡ turns.NeedsMore → (new : Lexer) → new ≡ record mid { rested = 2 ^ 32 } → held mid.lex ≤ 2 ^ 32 → mid_input.text ≡ [] → Stepped old old_input new mid_input steps.AtCut
-  at_cut e new is_new few used =
+  pub within_cut : turn ≡ turns.NeedsMore → held mid.lex ≤ 2 ^ 32 → mid_input.text ≡ [] → SteppedWithin old old_input mid mid_input steps.AtCut
+  within_cut e few used =
       let l = led turns.NeedsMore e in
       let P : Lexing → Type 0 = λ x. Advances (table old.names) (stands old old_input) [] x [] mid.rested false in
       let Q : Lexing → Type 0 = λ x. move (table old.names) x ≡ needs_more in
-      let R : Lexer → Type 0 = λ x. Stepped old old_input x mid_input steps.AtCut in
-      let done : Stepped old old_input (record mid { rested = 2 ^ 32 }) mid_input steps.AtCut = record {
-        rested = mid.rested;
+      record {
         advances = subst P (sym at_mid) (silent turns.NeedsMore e refl l.0);
         needs = subst Q (sym at_mid) l.1;
         asked = nothing;
-        start = refl;
         held = few;
         used = used;
-      } in
-      subst R (sym is_new) done
+      }
+
+  pub batched : IsBatch o.names (lexing o.lex old_input o.rested) (lexing mid.lex mid_input mid.rested) tokens mid.rested
+      → IsBatch old.names (stands old old_input) (stands mid mid_input) tokens mid.rested
+  batched b =
+      let P : Lexer → Type 0 = λ x. IsBatch x.names (lexing x.lex old_input x.rested) (lexing mid.lex mid_input mid.rested) tokens mid.rested in
+      let Q : Lexing → Type 0 = λ x. IsBatch old.names (stands old old_input) x tokens mid.rested in
+      subst Q (sym at_mid) (subst P is b)
 
   pub asks_tag : turn ≡ turns.AskLastTag → Stepped old old_input (record mid { asked = asked.LastTag }) mid_input steps.AskLastTag
   asks_tag e =
@@ -107,3 +111,22 @@ module _ (old o mid : Lexer) (old_input mid_input : Unread) (tokens : List Token
                 ∙ ap (λ (x : Lexing). asks_cdata (stands_answered true new new_input) x) (asks_there.html ∙ behind false));
             asked = is_asked;
           }
+
+-- the same at a cut, where the next text begins
+pub cut_after : (old mid : Lexer) (old_input input : Unread) → SteppedWithin old old_input mid input steps.AtCut
+    → Stepped old old_input (record mid { rested = 2 ^ 32 }) input steps.AtCut
+cut_after old mid old_input input r = record {
+  rested = mid.rested;
+  advances = r.advances;
+  needs = r.needs;
+  asked = r.asked;
+  start = refl;
+  held = r.held;
+  used = r.used;
+}
+
+pub as_within : (old mid : Lexer) (old_input input : Unread) (step : Step) → (step ≡ steps.AtCut → ⊥) → SteppedWithin old old_input mid input step → Stepped old old_input mid input step
+as_within old mid old_input input steps.AtCut other h = absurd (other refl)
+as_within old mid old_input input (steps.Tokens began tokens) other h = h
+as_within old mid old_input input steps.AskCdata other h = h
+as_within old mid old_input input steps.AskLastTag other h = h

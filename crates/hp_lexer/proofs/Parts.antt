@@ -1,6 +1,6 @@
 -- The moves of a part of the table are moves of the table.
 use Rattle.std.proofs.Common.{◌≡◌, ℕ, List, [], ◌∷◌, Bool, true, false, cond, ◌⊎◌, inl, inr, refl, ap, ◌∙◌, sym, subst}
-use Rattle.std.specs.Prelude.{◌==◌, ◌&&◌}
+use Rattle.std.specs.Prelude.{◌==◌, ◌&&◌, Option, Some, None, IfSome}
 use Rattle.hp_elements.specs.declared.token.Token.{Token}
 use Rattle.hp_names.specs.References.{Reference}
 use Rattle.hp_tokens.specs.declared.state.State.{State}
@@ -10,12 +10,17 @@ use Rattle.hp_tokens.specs.declared.rows.Turn.{Turn}
 use Rattle.hp_tokens.specs.declared.rows.Turn.TheVariants as turns
 use Rattle.hp_tokens.specs.Moves.{Lexing, Emitted, Move, needs_more, asks_cdata, asks_last_tag, makes, ends, Rules, after_pair, move_on, move, end_move_on, end_move}
 use Rattle.hp_tokens.specs.Runs.{Leads, here, onward}
-use Rattle.hp_tokens.specs.Advancing.{Advances, Stops, at_rest, without_move, elsewhere, Turned, EndTurned}
+use Rattle.hp_tokens.specs.Advancing.{Advances, Stops, at_rest, without_move, elsewhere, Turned, EndTurned, IsGroup}
+use Rattle.hp_tokens.proofs.Grouping.{Through-by}
 use Rattle.hp_lex_tags.specs.Tags as tags
 use Rattle.hp_lex_raw.specs.Raw as raw
 use Rattle.hp_lex_markup.specs.Markup as markup
 use Rattle.hp_lex_markup.specs.Rows as markup_rows
 use Rattle.hp_lexer.specs.Table.{table, part_of, gone_on}
+
+pub IfSome_all : {X : Type 0} (r : Option X) {P Q S R : X → Type 0} → IfSome r P → IfSome r Q → IfSome r S → ((x : X) → P x → Q x → S x → R x) → IfSome r R
+IfSome_all None p q s f = tt
+IfSome_all (Some x) p q s f = f x p q s
 
 -- each state is in one part
 pub raw-alone : (s : State) → raw.is_here s ≡ true → tags.is_here s ≡ false
@@ -187,6 +192,35 @@ module _ (rules : Rules) (here : State → Bool) (names : List Reference) (part 
       (advances _ _ _ _ _ _ h.0, (h.1.0, h.1.1, said new (asks_cdata h.1.0 h.1.1) (λ k. cc) h.1.2))
   turned old old_tokens new new_tokens rested turns.AskLastTag h = (advances _ _ _ _ _ _ h.0, said new asks_last_tag (λ k. cc) h.1)
 
+  -- what is a group by the part's moves is one by the table's
+  pub group_by : {old new : Lexing} {old_tokens new_tokens : List Token} {place : ℕ} → IsGroup (move rules) here old old_tokens new new_tokens place
+      → IsGroup (move (table names)) here old old_tokens new new_tokens place
+  group_by (inl g) = inl record {
+    from = g.from;
+    mid = g.mid;
+    first = g.first;
+    rest = g.rest;
+    quiet = Leads-by part_made g.quiet;
+    inside = g.inside;
+    made = part_made g.from g.mid g.first g.made;
+    onward = Through-by part_made g.onward;
+    appends = g.appends;
+    one_place = g.one_place;
+  }
+  group_by (inr r) = inr record {
+    from = r.from;
+    es = r.es;
+    class = r.class;
+    text = r.text;
+    quiet = Leads-by part_made r.quiet;
+    inside = r.inside;
+    rests = r.rests;
+    through = λ may h. Through-by part_made (r.through may h);
+    appends = r.appends;
+    one = r.one;
+    rests_again = r.rests_again;
+  }
+
   pub end_turned : (old : Lexing) (old_tokens : List Token) (new : LexState) (new_tokens : List Token) (turn : Turn)
       → EndTurned rules here old old_tokens new new_tokens turn → EndTurned (table names) here old old_tokens new new_tokens turn
   end_turned old old_tokens new new_tokens turns.Emitted h = record {
@@ -241,3 +275,25 @@ pub text_in_raw : (names : List Reference) (s : State) (old new : Lexing) (token
 text_in_raw names s old new tokens rested h t =
     let P : (State → Bool) → Type 0 = λ p. Turned (table names) p old [] new tokens rested turns.Emitted in
     subst P (sym (part-raw s h)) (turned raw.raw_rules raw.is_here names (raw-part names) old [] new tokens rested turns.Emitted t)
+
+-- the same of the group that they are
+pub group_in_tags : (names : List Reference) (s : State) {old new : Lexing} {tokens : List Token} {rested : ℕ} → tags.is_here s ≡ true
+    → IsGroup (move (tags.tag_rules names)) tags.is_here old [] new tokens rested → IsGroup (move (table names)) (part_of s) old [] new tokens rested
+group_in_tags names s {old} {new} {tokens} {rested} h g =
+    let P : (State → Bool) → Type 0 = λ p. IsGroup (move (table names)) p old [] new tokens rested in
+    subst P (sym (part-tags s h)) (group_by (tags.tag_rules names) tags.is_here names (tags-part names) g)
+
+pub group_in_raw : (names : List Reference) (s : State) {old new : Lexing} {tokens : List Token} {rested : ℕ} → raw.is_here s ≡ true
+    → IsGroup (move raw.raw_rules) raw.is_here old [] new tokens rested → IsGroup (move (table names)) (part_of s) old [] new tokens rested
+group_in_raw names s {old} {new} {tokens} {rested} h g =
+    let P : (State → Bool) → Type 0 = λ p. IsGroup (move (table names)) p old [] new tokens rested in
+    subst P (sym (part-raw s h)) (group_by raw.raw_rules raw.is_here names (raw-part names) g)
+
+-- where more input is needed nothing was emitted, also where the state is another part's
+pub still_emitted : (turn : Turn) (b : Bool) → gone_on turn b ≡ turns.Emitted → turn ≡ turns.Emitted
+still_emitted turns.NeedsMore true e = cc
+still_emitted turns.NeedsMore false e = cc
+still_emitted turns.Emitted b e = refl
+still_emitted turns.Moved b e = cc
+still_emitted turns.AskCdata b e = cc
+still_emitted turns.AskLastTag b e = cc

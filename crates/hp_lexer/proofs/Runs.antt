@@ -1,5 +1,5 @@
 -- Turns of the parts, one behind the other.
-use Rattle.std.proofs.Common.{◌≡◌, ℕ, zero, suc, ◌+◌, ◌<◌, ◌≤◌, List, [], ◌∷◌, ◌++◌, Bool, true, false, length, take, drop, refl, ap, ◌∙◌, sym, subst, arith, Option, None, Some, length-drop}
+use Rattle.std.proofs.Common.{◌≡◌, ℕ, zero, suc, ◌+◌, ◌<◌, ◌≤◌, List, [], ◌∷◌, ◌++◌, Bool, true, false, length, take, drop, refl, ap, ◌∙◌, sym, subst, arith, Option, None, Some, length-drop, inl, inr}
 use Rattle.std.specs.Prelude.{sum_by, IfSome}
 use Rattle.std.specs.Char.{len_utf8}
 use Rattle.hp_elements.specs.declared.token.Token.{Token}
@@ -11,7 +11,10 @@ use Rattle.hp_tokens.specs.declared.rows.Turn.TheVariants as turns
 use Rattle.hp_tokens.specs.Reading.{Unread, first}
 use Rattle.hp_tokens.specs.Moves.{Lexing, Emitted, Rules, move}
 use Rattle.hp_tokens.specs.Ranks.{weight}
-use Rattle.hp_tokens.specs.Advancing.{held, unread, lexing, singles, single, tokens_of, Began, IsRun, AreRuns, Appends, Says, Advances, Turned, Takes}
+use Rattle.hp_tokens.specs.Advancing.{held, unread, lexing, singles, single, tokens_of, Began, IsRun, AreRuns, Appends, Says, Advances, Turned, Takes, IsGroup}
+use Rattle.hp_tokens.specs.declared.state.State.{State}
+use Rattle.hp_tokens.specs.Runs.{Leads}
+use Rattle.hp_lexer.specs.Standing.{IsBatch}
 use Rattle.hp_tokens.proofs.Pieces.{Leads-join}
 use Rattle.hp_tokens.proofs.OneByOne.{Appends-join, none_yet}
 use Rattle.hp_lexer.specs.Table.{table, part_of}
@@ -85,6 +88,48 @@ module _ (names : List Reference) (old : LexState) (old_input : Unread) (old_res
   ran turns.NeedsMore h other = (onward false h.0, (none_then h.0, h.1))
   ran turns.AskCdata h other = (onward false h.0, (none_then h.0, h.1))
   ran turns.AskLastTag h other = (onward false h.0, (none_then h.0, h.1))
+
+  quietly : Leads (move (table names)) (lexing old old_input old_rested) [] (lexing mid mid_input mid_rested)
+  quietly =
+      let P : List Emitted → Type 0 = λ es. Leads (move (table names)) (lexing old old_input old_rested) es (lexing mid mid_input mid_rested) in
+      subst P (silent between.advances.es between.advances.says) between.advances.leads
+
+  grouped : (own : State → Bool) → IsGroup (move (table names)) own (lexing mid mid_input mid_rested) [] (lexing new new_input new_rested) tokens new_rested
+      → IsGroup (move (table names)) own (lexing old old_input old_rested) [] (lexing new new_input new_rested) tokens new_rested
+  grouped own (inl g) = inl record {
+    from = g.from;
+    mid = g.mid;
+    first = g.first;
+    rest = g.rest;
+    quiet = Leads-join quietly g.quiet;
+    inside = g.inside;
+    made = g.made;
+    onward = g.onward;
+    appends = g.appends;
+    one_place = g.one_place;
+  }
+  grouped own (inr r) = inr record {
+    from = r.from;
+    es = r.es;
+    class = r.class;
+    text = r.text;
+    quiet = Leads-join quietly r.quiet;
+    inside = r.inside;
+    rests = r.rests;
+    through = r.through;
+    appends = r.appends;
+    one = r.one;
+    rests_again = r.rests_again;
+  }
+
+  pub batched : (turn : Turn) → Turned (table names) (part_of mid.machine.state) (lexing mid mid_input mid_rested) mid_tokens (lexing new new_input new_rested) tokens new_rested turn
+      → IsGroup (move (table names)) (part_of mid.machine.state) (lexing mid mid_input mid_rested) mid_tokens (lexing new new_input new_rested) tokens new_rested
+      → turn ≡ turns.Emitted → IsBatch names (lexing old old_input old_rested) (lexing new new_input new_rested) tokens new_rested
+  batched turn h g e =
+      let P : List Token → Type 0 = λ ts. IsGroup (move (table names)) (part_of mid.machine.state) (lexing mid mid_input mid_rested) ts (lexing new new_input new_rested) tokens new_rested in
+      let Q : Turn → Type 0 = λ t. Turned (table names) (part_of mid.machine.state) (lexing mid mid_input mid_rested) mid_tokens (lexing new new_input new_rested) tokens new_rested t in
+      let emitted : Turned (table names) (part_of mid.machine.state) (lexing mid mid_input mid_rested) mid_tokens (lexing new new_input new_rested) tokens new_rested turns.Emitted = subst Q e h in
+      record { part = mid.machine.state; group = grouped (part_of mid.machine.state) (subst P between.none g); stops = emitted.1 }
 
   module _ (moved : Turned (table names) (part_of mid.machine.state) (lexing mid mid_input mid_rested) mid_tokens (lexing new new_input new_rested) tokens new_rested turns.Moved) where
     pub moved_on : held new ≤ new_input.place → Between names old old_input old_rested new new_input new_rested tokens

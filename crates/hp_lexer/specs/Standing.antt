@@ -4,11 +4,12 @@ use Rattle.std.specs.List.{list_all}
 use Rattle.hp_tokens.specs.Plain.{none_of}
 use Rattle.hp_tokens.specs.Rows.{character}
 use Rattle.hp_elements.specs.declared.token.Token.{Token}
+use Rattle.hp_names.specs.References.{Reference}
 use Rattle.hp_tokens.specs.declared.state.State.{State}
 use Rattle.hp_tokens.specs.declared.machine.Machine.{Machine}
 use Rattle.hp_tokens.specs.Reading.{Unread}
 use Rattle.hp_tokens.specs.Moves.{Lexing, needs_more, asks_cdata, asks_last_tag, move}
-use Rattle.hp_tokens.specs.Advancing.{held, lexing, Advances, Stops}
+use Rattle.hp_tokens.specs.Advancing.{held, lexing, Advances, Stops, IsGroup}
 use Rattle.hp_tokens.specs.Ranks.{weight}
 use Rattle.hp_tokens.specs.States.{enter, state_of_rest}
 use Rattle.hp_elements.specs.declared.token.Rest.{Rest}
@@ -81,6 +82,31 @@ Stepped old old_input new new_input steps.AskLastTag =
     Reaches old old_input new new_input [] false
     × (move (table old.names) (stands new new_input) ≡ asks_last_tag) × (new.asked ≡ asked.LastTag)
 Stepped old old_input new new_input steps.AtCut = ReachesCut old old_input new new_input
+
+-- The tokens of one answer are one group, or one run, by moves that from the first that emits something on are made in one part of the
+-- table. It ends at the first rest behind it, or before that where no move is made or the state is in another part.
+pub record IsBatch (names : List Reference) (old : Lexing) (new : Lexing) (tokens : List Token) (place : ℕ) : Type 0 where
+  pub part : State
+  pub group : IsGroup (move (table names)) (part_of part) old [] new tokens place
+  pub stops : Stops (table names) (part_of part) new
+
+-- so it is of each answer that has tokens
+abbrev pub Batched : Lexer → Unread → Lexer → Unread → Step → Type 0
+Batched old old_input new new_input (steps.Tokens began tokens) = IsBatch old.names (stands old old_input) (stands new new_input) tokens new.rested
+Batched old old_input new new_input _ = Unit {0}
+
+-- moves that emit nothing led to where more input is needed; the text is used up, and the place of the last rest is kept
+pub record ReachesCutWithin (old : Lexer) (old_input : Unread) (new : Lexer) (new_input : Unread) : Type 0 where
+  pub advances : Reaches old old_input new new_input [] false
+  pub needs : move (table old.names) (stands new new_input) ≡ needs_more
+  pub asked : new.asked ≡ asked.Nothing
+  pub held : held new.lex ≤ 2 ^ 32
+  pub used : new_input.text ≡ []
+
+-- the promise of `next_within`: that of `next`, but that the place of the last rest is kept at a cut
+abbrev pub SteppedWithin : Lexer → Unread → Lexer → Unread → Step → Type 0
+SteppedWithin old old_input new new_input steps.AtCut = ReachesCutWithin old old_input new new_input
+SteppedWithin old old_input new new_input step = Stepped old old_input new new_input step
 
 -- The promise of `next_plain`: the text's code points, each in a token of its own, were emitted by moves from one rest to the next;
 -- none of them is U+0000.

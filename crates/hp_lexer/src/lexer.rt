@@ -56,7 +56,7 @@ impl Lexer {
     ghost use Rattle.hp_tokens.specs.States.{enter, state_of_rest};
     ghost use Rattle.hp_lexer.specs.declared.lexer.Asked.TheVariants as asked;
     ghost use Rattle.hp_lexer.specs.declared.lexer.Step.TheVariants as steps;
-    ghost use Rattle.hp_lexer.specs.Standing.{is_answered, opened, Stepped, PlainStepped, TagStepped};
+    ghost use Rattle.hp_lexer.specs.Standing.{is_answered, opened, Stepped, SteppedWithin, IsBatch, Batched, PlainStepped, TagStepped};
     ghost use Rattle.hp_lexer.specs.Running.{Ran, Passed};
     ghost use Rattle.hp_lexer.specs.Table.{table};
 
@@ -201,6 +201,31 @@ impl Lexer {
         requires answered { IsTrue (is_answered self.old.asked) }
         requires held { held self.old.lex ≤ input.old.place }
         ensures step { IfOk result (λ step. Stepped self.old input.old self.new input.new step) }
+        ensures batch { IfOk result (λ step. Batched self.old input.old self.new input.new step) }
+        ensures held { IfOk result (λ step. held self.new.lex ≤ input.new.place) }
+        ensures names { self.new.names ≡ self.old.names }
+    {
+        match self.next_within(alloc, input)? {
+            Step::AtCut => {
+                self.rested = ORIGIN;
+                Ok(Step::AtCut)
+            }
+            step => Ok(step),
+        }
+    }
+
+    /// As `next`, within a text that is read piece by piece by cursors that count from one start: at a cut the place where the lexer
+    /// rested last is kept.
+    #[inline]
+    pub fn next_within<'p>(
+        &mut self,
+        alloc: Global,
+        input: &mut Cursor<'p>,
+    ) -> Result<Step<'p>, NoMemory>
+        requires answered { IsTrue (is_answered self.old.asked) }
+        requires held { held self.old.lex ≤ input.old.place }
+        ensures step { IfOk result (λ step. SteppedWithin self.old input.old self.new input.new step) }
+        ensures batch { IfOk result (λ step. Batched self.old input.old self.new input.new step) }
         ensures held { IfOk result (λ step. held self.new.lex ≤ input.new.place) }
         ensures names { self.new.names ≡ self.old.names }
     {
@@ -218,7 +243,7 @@ impl Lexer {
                 tokens,
             }),
             Turn::NeedsMore => {
-                self.reach_cut(input)?;
+                self.check_cut(input)?;
                 Ok(Step::AtCut)
             }
             Turn::AskCdata => {
@@ -260,6 +285,7 @@ impl Lexer {
     fn take_text<'p>(&mut self, input: &mut Cursor<'p>) -> Option<Token<'p>>
         requires held { held self.old.lex ≤ input.old.place }
         ensures ran { IfSome result (λ token. Ran self.old.names self.old.lex input.old self.old.rested self.new.lex input.new (token ∷ []) self.new.rested turns.Emitted) }
+        ensures batch { IfSome result (λ token. IsBatch self.old.names (lexing self.old.lex input.old self.old.rested) (lexing self.new.lex input.new self.new.rested) (token ∷ []) self.new.rested) }
         ensures none { IfNone result ((self.new ≡ self.old) × (input.new ≡ input.old)) }
         ensures held { held self.new.lex ≤ input.new.place }
         ensures names { self.new.names ≡ self.old.names }
@@ -283,6 +309,7 @@ impl Lexer {
         requires none { tokens.old ≡ [] }
         requires held { held self.old.lex ≤ input.old.place }
         ensures turn { IfOk result (λ turn. Ran self.old.names self.old.lex input.old self.old.rested self.new.lex input.new tokens.new self.new.rested turn) }
+        ensures batch { IfOk result (λ turn. turn ≡ turns.Emitted → IsBatch self.old.names (lexing self.old.lex input.old self.old.rested) (lexing self.new.lex input.new self.new.rested) tokens.new self.new.rested) }
         ensures held { IfOk result (λ turn. held self.new.lex ≤ input.new.place) }
         ensures names { self.new.names ≡ self.old.names }
         ensures asked { self.new.asked ≡ self.old.asked }
@@ -302,17 +329,15 @@ impl Lexer {
         }
     }
 
-    /// The text is used up: what stood in it is before the next one. Where more than 4 GiB are held back, there is want of memory.
-    /// A text that isn't used up doesn't occur: more input is needed only where nothing is unread.
-    fn reach_cut(&mut self, input: &Cursor<'_>) -> Result<(), NoMemory>
-        ensures cut { OnOk result ((self.new ≡ record self.old { rested = 2 ^ 32 }) × (held self.old.lex ≤ 2 ^ 32)) }
+    /// The text is used up. Where more than 4 GiB are held back, there is want of memory. A text that isn't used up doesn't occur:
+    /// more input is needed only where nothing is unread.
+    fn check_cut(&self, input: &Cursor<'_>) -> Result<(), NoMemory>
+        ensures cut { OnOk result (held self.now.lex ≤ 2 ^ 32) }
         ensures used { OnOk result (input.now.text ≡ []) }
-        ensures names { self.new.names ≡ self.old.names }
     {
         if self.lex.ahead.len_bytes() > ORIGIN || input.peek().is_some() {
             return Err(NoMemory);
         }
-        self.rested = ORIGIN;
         Ok(())
     }
 

@@ -1,6 +1,8 @@
 //! One call of the part of the table that the state is in.
 ghost use Rattle.std.specs.Prelude.{◌≡◌, ◌≤◌, ◌^◌, ℕ, [], IfOk, IsTrue, false, if◌then◌else◌, Bool};
-ghost use Rattle.hp_tokens.specs.Advancing.{held, lexing, end_of_text, Turned, EndTurned, Ends};
+ghost use Rattle.hp_tokens.specs.Advancing.{held, lexing, end_of_text, Turned, EndTurned, Ends, IsGroup};
+ghost use Rattle.hp_tokens.specs.Moves.{move};
+ghost use Rattle.hp_tokens.specs.declared.rows.Turn.TheVariants as turns;
 ghost use Rattle.hp_tokens.specs.declared.rows.Turn.{Turn};
 ghost use Rattle.hp_lexer.specs.Table.{table, part_of};
 ghost use Rattle.hp_lex_tags.specs.Tags as tags;
@@ -43,6 +45,7 @@ fn in_tags<'p>(
     requires here { IsTrue (tags.is_here state.old.machine.state) }
     requires held { held state.old ≤ input.old.place }
     ensures turn { IfOk result (λ turn. Turned (table names.now) tags.is_here (lexing state.old input.old rested.old) tokens.old (lexing state.new input.new rested.new) tokens.new rested.new turn) }
+    ensures group { IfOk result (λ turn. turn ≡ turns.Emitted → IsGroup (move (table names.now)) tags.is_here (lexing state.old input.old rested.old) tokens.old (lexing state.new input.new rested.new) tokens.new rested.new) }
     ensures held { IfOk result (λ turn. held state.new ≤ input.new.place) }
 {
     let turn = hp_lex_tags::advance(alloc, state, input, names, rested, tokens)?;
@@ -61,6 +64,7 @@ fn in_raw<'p>(
     requires here { IsTrue (raw.is_here state.old.machine.state) }
     requires held { held state.old ≤ input.old.place }
     ensures turn { IfOk result (λ turn. Turned (table names.now) raw.is_here (lexing state.old input.old rested.old) tokens.old (lexing state.new input.new rested.new) tokens.new rested.new turn) }
+    ensures group { IfOk result (λ turn. turn ≡ turns.Emitted → IsGroup (move (table names.now)) raw.is_here (lexing state.old input.old rested.old) tokens.old (lexing state.new input.new rested.new) tokens.new rested.new) }
     ensures held { IfOk result (λ turn. held state.new ≤ input.new.place) }
 {
     let _ = names;
@@ -80,6 +84,7 @@ fn in_markup<'p>(
     requires here { IsTrue (markup_rows.is_here state.old.machine.state) }
     requires held { held state.old ≤ input.old.place }
     ensures turn { IfOk result (λ turn. Turned (table names.now) markup_rows.is_here (lexing state.old input.old rested.old) tokens.old (lexing state.new input.new rested.new) tokens.new rested.new turn) }
+    ensures group { IfOk result (λ turn. turn ≡ turns.Emitted → IsGroup (move (table names.now)) markup_rows.is_here (lexing state.old input.old rested.old) tokens.old (lexing state.new input.new rested.new) tokens.new rested.new) }
     ensures held { IfOk result (λ turn. held state.new ≤ input.new.place) }
 {
     let _ = names;
@@ -99,6 +104,7 @@ pub(crate) fn make_moves<'p>(
 ) -> Result<Turn, NoMemory>
     requires held { held state.old ≤ input.old.place }
     ensures turn { IfOk result (λ turn. Turned (table names.now) (part_of state.old.machine.state) (lexing state.old input.old rested.old) tokens.old (lexing state.new input.new rested.new) tokens.new rested.new turn) }
+    ensures group { IfOk result (λ turn. turn ≡ turns.Emitted → IsGroup (move (table names.now)) (part_of state.old.machine.state) (lexing state.old input.old rested.old) tokens.old (lexing state.new input.new rested.new) tokens.new rested.new) }
     ensures held { IfOk result (λ turn. held state.new ≤ input.new.place) }
 {
     if hp_lex_tags::is_here(state.machine.state) {

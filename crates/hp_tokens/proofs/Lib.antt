@@ -5,8 +5,10 @@ pub mod Pieces
 pub mod Stepping
 pub mod Told
 pub mod OneByOne
+pub mod Grouping
 pub mod FineRows
 pub mod PlainRuns
 pub mod WholeTexts
 pub mod Searching
 pub mod Blocks
+pub mod Cutting

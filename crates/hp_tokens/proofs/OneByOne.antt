@@ -46,7 +46,7 @@ Says-join [] ys false b h k = k
 Says-join (x ∷ xs) ys true b h k = refl
 Says-join (x ∷ xs) ys false b h k = cc
 
-silent : (es : List Emitted) → Says es false → es ≡ []
+pub silent : (es : List Emitted) → Says es false → es ≡ []
 silent [] h = refl
 silent (e ∷ es) h = cc
 

@@ -28,6 +28,7 @@ use Rattle.hp_tokens.specs.Parts.{put, put_in_tag, put_in_name, put_in_comment, 
 use Rattle.hp_tokens.specs.Rows.{Row, is_blank, character, putting, putting_text}
 use Rattle.hp_tokens.specs.Moves.{Lexing, Emitted, Move, makes, standing, after_row, read_as}
 use Rattle.hp_tokens.specs.Runs.{Leads, here, onward}
+use Rattle.hp_tokens.specs.Groups.{Through, done, going, AllBegan, Together, no_token, in_state, as_run}
 use Rattle.hp_tokens.specs.Ranks.{symbol_of}
 use Rattle.hp_tokens.specs.Advancing.{place_of, lexing, tokens_of, IsRunText, Goes, MovesByRows}
 use Rattle.hp_tokens.specs.PlainLaws.{unlike}
@@ -148,6 +149,28 @@ module _ (has : State → Bool) (row : Machine → Option ℕ → Row) (next : L
         subst P end (onward (text_move m p r c (cs ++ u) e (and_parts (passes c) _ h).0)
         (text_leads m (p + len_utf8 c) r cs u e (and_parts (passes c) _ h).1))
 
+    -- each of these moves is made in the state s
+    text_through : (may : State → Bool) → may s ≡ true → (m : Machine) (p r : ℕ) (cs u : List ℕ) → m.state ≡ s → list_all passes cs ≡ true
+        → Through next may (standing (cleared m) p r (cs ++ u)) (run_of m p r cs) (standing (cleared m) (p + sum_by len_utf8 cs) r u)
+    text_through may k m p r [] u e h =
+        let P : ℕ → Type 0 = λ q. Through next may (standing (cleared m) p r u) [] (standing (cleared m) q r u) in
+        let end : p ≡ p + sum_by len_utf8 [] = omega arith in
+        subst P end done
+    text_through may k m p r (c ∷ cs) u e h =
+        let P : ℕ → Type 0 = λ q. Through next may (standing (cleared m) p r (c ∷ (cs ++ u))) (run_of m p r (c ∷ cs)) (standing (cleared m) q r u) in
+        let end : (p + len_utf8 c) + sum_by len_utf8 cs ≡ p + sum_by len_utf8 (c ∷ cs) = omega (arith, sum_by-cons len_utf8 c cs) in
+        subst P end (going (ap may e ∙ k) (text_move m p r c (cs ++ u) e (and_parts (passes c) _ h).0)
+        (text_through may k m (p + len_utf8 c) r cs u e (and_parts (passes c) _ h).1))
+
+    run_began : (m : Machine) (p r place : ℕ) (cs : List ℕ) → is_resting m.state ≡ false → r ≡ place → AllBegan (run_of m p r cs) place
+    run_began m p r place [] h e = tt
+    run_began m p r place (c ∷ cs) h e = ((rw h e), run_began m (p + len_utf8 c) r place cs h e)
+
+    text_together : (m : Machine) (p r q : ℕ) (cs v u : List ℕ) (class : CharClass) (more : List Token) → more ≡ Characters class cs ∷ [] → (b : Bool) → is_resting m.state ≡ b
+        → Together next (standing (cleared m) p r v) (run_of m p r cs) (standing (cleared m) q r u) more
+    text_together m p r q cs v u class more one true h = as_run class cs one h h
+    text_together m p r q cs v u class more one false h = in_state h (run_began m p r _ cs h (rw h refl))
+
     module _ (class : CharClass) (alike : (c : ℕ) → passes c ≡ true → class_of c ≡ class) where
       text_goes : (m : Machine) (p r q : ℕ) (cs u : List ℕ) (old_tokens new_tokens : List Token) → m.state ≡ s → list_all passes cs ≡ true
           → 0 < length cs → q ≡ p + sum_by len_utf8 cs → IsRunText cs → new_tokens ≡ old_tokens ++ Characters class cs ∷ []
@@ -171,6 +194,10 @@ module _ (has : State → Bool) (row : Machine → Option ℕ → Row) (next : L
         began = refl;
         says = refl;
         smaller = omega (arith, rank-below m.state (symbol_of u), length-append cs u);
+        through = λ may k.
+            let P : ℕ → Type 0 = λ x. Through next may (standing (cleared m) p r (c ∷ (cs ++ u))) (run_of m p r (c ∷ cs)) (standing (cleared m) x r u) in
+            subst P (sym end) (text_through may (ap may (sym e) ∙ k) m p r (c ∷ cs) u e h);
+        together = text_together m p r q (c ∷ cs) (c ∷ (cs ++ u)) u class _ refl (is_resting m.state) refl;
       }
 
       pub text_ran : (l : LexState) (old new : Unread) (taken : Token) (tokens : List Token) → l.machine.state ≡ s → l.machine.after_cr ≡ false
@@ -209,6 +236,19 @@ module _ (has : State → Bool) (row : Machine → Option ℕ → Row) (next : L
         subst P end (subst Q (sym (putting_twice part c (d ∷ ds) m)) (onward (put_move m p r c (d ∷ (ds ++ u)) e (and_parts (passes c) _ h).0)
         (put_leads (putting part c m) (p + len_utf8 c) r d ds u e (and_parts (passes c) _ h).1)))
 
+    put_through : (may : State → Bool) → may s ≡ true → (m : Machine) (p r c : ℕ) (cs u : List ℕ) → m.state ≡ s → list_all passes (c ∷ cs) ≡ true
+        → Through next may (standing (cleared m) p r (c ∷ (cs ++ u))) [] (standing (cleared (putting_text part (c ∷ cs) m)) (p + sum_by len_utf8 (c ∷ cs)) r u)
+    put_through may k m p r c [] u e h =
+        let P : ℕ → Type 0 = λ q. Through next may (standing (cleared m) p r (c ∷ u)) [] (standing (cleared (putting part c m)) q r u) in
+        let end : p + len_utf8 c ≡ p + sum_by len_utf8 (c ∷ []) = omega (arith, sum_by-cons len_utf8 c []) in
+        subst P end (going (ap may e ∙ k) (put_move m p r c u e (and_parts (passes c) _ h).0) done)
+    put_through may k m p r c (d ∷ ds) u e h =
+        let P : ℕ → Type 0 = λ q. Through next may (standing (cleared m) p r (c ∷ (d ∷ (ds ++ u)))) [] (standing (cleared (putting_text part (c ∷ (d ∷ ds)) m)) q r u) in
+        let Q : Machine → Type 0 = λ x. Through next may (standing (cleared m) p r (c ∷ (d ∷ (ds ++ u)))) [] (standing (cleared x) ((p + len_utf8 c) + sum_by len_utf8 (d ∷ ds)) r u) in
+        let end : (p + len_utf8 c) + sum_by len_utf8 (d ∷ ds) ≡ p + sum_by len_utf8 (c ∷ (d ∷ ds)) = omega (arith, sum_by-cons len_utf8 c (d ∷ ds)) in
+        subst P end (subst Q (sym (putting_twice part c (d ∷ ds) m)) (going (ap may e ∙ k) (put_move m p r c (d ∷ (ds ++ u)) e (and_parts (passes c) _ h).0)
+        (put_through may k (putting part c m) (p + len_utf8 c) r d ds u e (and_parts (passes c) _ h).1)))
+
     put_goes : (m : Machine) (p r q : ℕ) (cs u : List ℕ) (tokens : List Token) → m.state ≡ s → list_all passes cs ≡ true
         → 0 < length cs → q ≡ p + sum_by len_utf8 cs
         → Goes next (standing (cleared m) p r (cs ++ u)) tokens (standing (cleared (putting_text part cs m)) q r u) tokens false
@@ -226,6 +266,8 @@ module _ (has : State → Bool) (row : Machine → Option ℕ → Row) (next : L
           began = tt;
           says = refl;
           smaller = omega (arith, rank-below m.state (symbol_of u));
+          through = λ may k. going k (put_move m p r c u e (and_parts (passes c) _ h).0) done;
+          together = no_token refl;
         }
     put_goes m p r q (c ∷ (d ∷ ds)) u tokens e h some end =
         let P : ℕ → Type 0 = λ x. Goes next (standing (cleared m) p r (c ∷ (d ∷ (ds ++ u)))) tokens (standing (cleared (putting_text part (c ∷ (d ∷ ds)) m)) x r u) tokens false in
@@ -241,6 +283,11 @@ module _ (has : State → Bool) (row : Machine → Option ℕ → Row) (next : L
           began = tt;
           says = refl;
           smaller = omega (arith, rank-below m.state (symbol_of u), length-append ds u);
+          through = λ may k.
+              let T : ℕ → Type 0 = λ x. Through next may (standing (cleared m) p r (c ∷ (d ∷ (ds ++ u)))) [] (standing (cleared (putting_text part (c ∷ (d ∷ ds)) m)) x r u) in
+              let there : p + sum_by len_utf8 (c ∷ (d ∷ ds)) ≡ (p + len_utf8 c) + sum_by len_utf8 (d ∷ ds) = omega (arith, sum_by-cons len_utf8 c (d ∷ ds)) in
+              subst T there (put_through may (ap may (sym e) ∙ k) m p r c (d ∷ ds) u e h);
+          together = no_token refl;
         }
 
     pub put_ran : (l new_l : LexState) (old new : Unread) (run : List ℕ) → l.machine.state ≡ s → l.machine.after_cr ≡ false

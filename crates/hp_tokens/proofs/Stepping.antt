@@ -15,6 +15,7 @@ use Rattle.hp_tokens.specs.Reading.{Unread, first}
 use Rattle.hp_tokens.specs.Rows.{Row, Follows}
 use Rattle.hp_tokens.specs.Moves.{Lexing, Emitted, Move, Rules, needs_more, makes, ends, standing, all_began, read_as, after_row, after_end, move_on, move, end_move_on, end_move}
 use Rattle.hp_tokens.specs.Runs.{here}
+use Rattle.hp_tokens.specs.Groups.{Through, done, going, AllBegan, Together, at_once}
 use Rattle.hp_tokens.specs.Ranks.{rank, ends_name, symbol_of, weight, Falls, IsSingle, AreSingle, IsFine}
 use Rattle.hp_tokens.specs.Advancing.{unread, place_of, lexing, pair_next, single, singles, tokens_of, Began, IsRun, IsRunText, AreRuns, Appends, Says, Goes, HasRows, MovesByRows}
 
@@ -25,6 +26,10 @@ tokens_of-all_began place (t ∷ ts) = ap (λ (xs : List Token). t ∷ xs) (toke
 all_began-Began : (place : ℕ) (ts : List Token) → Began (all_began place ts) place
 all_began-Began place [] = tt
 all_began-Began place (t ∷ ts) = refl
+
+all_began-AllBegan : (place : ℕ) (ts : List Token) → AllBegan (all_began place ts) place
+all_began-AllBegan place [] = tt
+all_began-AllBegan place (t ∷ ts) = (refl, all_began-AllBegan place ts)
 
 -- tokens of one code point each are their own list
 single-alone : (t : Token) → IsSingle t → single t ≡ t ∷ []
@@ -79,16 +84,20 @@ goes_by next old new old_tokens new_tokens ts emitted made appended alone flag f
     let P : List Emitted → Type 0 = λ es. Appends old_tokens es new_tokens in
     let Q : List Emitted → Type 0 = λ es. Began es old.rested in
     let R : List Emitted → Type 0 = λ es. Says es emitted in
+    let S : List Token → List Emitted → Type 0 = λ more es. Together next old es new more in
+    let appended_all : Appends old_tokens (all ++ []) new_tokens = subst P none (Appends-row old.rested old_tokens new_tokens ts appended alone) in
     record {
       mid = new;
       first = all;
       rest = [];
       made = made;
       leads = here;
-      appends = subst P none (Appends-row old.rested old_tokens new_tokens ts appended alone);
+      appends = appended_all;
       began = subst Q none (all_began-Began old.rested ts);
       says = subst R none (Says-row old.rested old_tokens ts new_tokens emitted appended flag);
       smaller = falls;
+      through = λ may h. going h made done;
+      together = subst (S appended_all.more) none (at_once made (all_began-AllBegan old.rested ts));
     }
 
 either_below : (b : Bool) (x y : ℕ) → x < 8 → y < 8 → cond b x y < 8

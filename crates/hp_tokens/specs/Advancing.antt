@@ -1,7 +1,8 @@
 -- Where a lexer stands that has code points read ahead, and what the calls say of it.
-use Rattle.std.specs.Prelude.{◌≡◌, ℕ, ◌+◌, ◌-◌, ◌^◌, ◌<◌, ◌≤◌, ◌&&◌, Bool, true, false, List, [], ◌∷◌, ◌++◌, map, length, sum_by, Option, None, Some, IsTrue, ◌==◌}
+use Rattle.std.specs.Prelude.{◌≡◌, ℕ, ◌+◌, ◌-◌, ◌^◌, ◌<◌, ◌≤◌, ◌&&◌, Bool, true, false, List, [], ◌∷◌, ◌++◌, map, length, sum_by, Option, None, Some, IsTrue, ◌==◌, ◌⊎◌}
 use Rattle.std.specs.List.{flat_map}
 use Rattle.std.specs.Char.{len_utf8}
+use Rattle.hp_elements.specs.declared.token.CharClass.{CharClass}
 use Rattle.hp_elements.specs.declared.token.Token.{Token}
 use Rattle.hp_elements.specs.declared.token.Token.TheVariants as token
 use Rattle.hp_tokens.specs.declared.state.State.{State}
@@ -20,6 +21,7 @@ use Rattle.hp_tokens.specs.States.{is_resting}
 use Rattle.hp_tokens.specs.Moves.{Lexing, Emitted, Move, Rules, standing, move, needs_more, asks_cdata, asks_last_tag, makes, end_move, ends, row_move, row_end, after_pair}
 use Rattle.hp_tokens.specs.Runs.{Leads, Waits}
 use Rattle.hp_tokens.specs.Ranks.{weight}
+use Rattle.hp_tokens.specs.Groups.{Through, restless, AllBegan, Together}
 
 -- a lexer in a resting state, without a last start tag's name
 abbrev pub rest_state : Rest → Bool → LexState
@@ -88,6 +90,41 @@ pub record Advances (rules : Rules) (old : Lexing) (old_tokens : List Token) (ne
   pub began : Began es rested
   pub says : Says es emitted
 
+-- One group of tokens was appended. Moves that emit nothing led to a state of this part; a move was made there, and the further ones
+-- were made in states of this part in which the lexer doesn't rest. All that they emit began at one place.
+pub record OneGroup (next : Lexing → Move) (own : State → Bool) (old : Lexing) (old_tokens : List Token) (new : Lexing) (new_tokens : List Token) (place : ℕ) : Type 0 where
+  pub from : Lexing
+  pub mid : Lexing
+  pub first : List Emitted
+  pub rest : List Emitted
+  pub quiet : Leads next old [] from
+  pub inside : own from.machine.state ≡ true
+  pub made : next from ≡ makes mid first
+  pub onward : Through next (restless own) mid rest new
+  pub appends : Appends old_tokens (first ++ rest) new_tokens
+  pub one_place : AllBegan (first ++ rest) place
+
+-- One run of characters was appended as one token. Moves that emit nothing led to a rest in this part; all that were made there on
+-- were made in its state, and the lexer rests.
+pub record OneRun (next : Lexing → Move) (own : State → Bool) (old : Lexing) (old_tokens : List Token) (new : Lexing) (new_tokens : List Token) : Type 0 where
+  pub from : Lexing
+  pub es : List Emitted
+  pub class : CharClass
+  pub text : List ℕ
+  pub quiet : Leads next old [] from
+  pub inside : own from.machine.state ≡ true
+  pub rests : is_resting from.machine.state ≡ true
+  pub through : (may : State → Bool) → may from.machine.state ≡ true → Through next may from es new
+  pub appends : Appends old_tokens es new_tokens
+  pub one : new_tokens ≡ old_tokens ++ token.Characters class text ∷ []
+  pub rests_again : is_resting new.machine.state ≡ true
+
+-- All tokens that were appended began at one place, the last rest before them, and no move behind the first was made at a rest; or
+-- they are one run of characters.
+abbrev pub IsGroup : (Lexing → Move) → (State → Bool) → Lexing → List Token → Lexing → List Token → ℕ → Type 0
+IsGroup next own old old_tokens new new_tokens place =
+    OneGroup next own old old_tokens new new_tokens place ⊎ OneRun next own old old_tokens new new_tokens
+
 -- after something was emitted: the lexer rests, no move is made, or the state belongs to another crate
 pub data Stops (rules : Rules) (here : State → Bool) (l : Lexing) : Type 0 where
   at_rest : is_resting l.machine.state ≡ true → Stops rules here l
@@ -130,6 +167,9 @@ pub record Goes (next : Lexing → Move) (old : Lexing) (old_tokens : List Token
   pub began : Began (first ++ rest) old.rested
   pub says : Says (first ++ rest) emitted
   pub smaller : weight new < weight old
+  -- all of these moves are made in the state of the first
+  pub through : (may : State → Bool) → may old.machine.state ≡ true → Through next may old (first ++ rest) new
+  pub together : Together next old (first ++ rest) new appends.more
 
 -- a run was taken, or there is none and nothing changed
 abbrev pub Ran : (Lexing → Move) → Lexing → List Token → Lexing → List Token → Bool → Type 0
@@ -202,12 +242,13 @@ pub record AlongEnd (rules : Rules) (old : LexState) (old_tokens : List Token) (
   pub leads : (rested : ℕ) → (now : ℕ) × (now ≡ (lexing new new_input now).rested) × (es : List Emitted)
       × Leads (end_move rules) (lexing old end_of_text rested) es (lexing new new_input now) × Appends old_tokens es new_tokens
 
--- what holds between two steps
-pub record Along (rules : Rules) (old : LexState) (old_input : Unread) (old_rested : ℕ) (old_tokens : List Token)
+-- what holds between two steps; what was emitted is a group that goes on
+pub record Along (rules : Rules) (own : State → Bool) (old : LexState) (old_input : Unread) (old_rested : ℕ) (old_tokens : List Token)
     (new : LexState) (new_input : Unread) (rested : ℕ) (new_tokens : List Token) (emitted : Bool) : Type 0 where
   pub held : held new ≤ new_input.place
   pub settled : rested ≡ (lexing new new_input rested).rested
   pub advances : Advances rules (lexing old old_input old_rested) old_tokens (lexing new new_input rested) new_tokens rested emitted
+  pub group : emitted ≡ true → (is_resting new.machine.state ≡ false) × OneGroup (move rules) own (lexing old old_input old_rested) old_tokens (lexing new new_input rested) new_tokens rested
 
 -- the first unread code point is c, and was taken
 pub record Takes (old : LexState) (old_input : Unread) (new : LexState) (new_input : Unread) (c : ℕ) : Type 0 where

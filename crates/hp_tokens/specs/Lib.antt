@@ -6,6 +6,7 @@ pub mod Rows
 pub mod Moves
 pub mod Runs
 pub mod Ranks
+pub mod Groups
 pub mod Advancing
 pub mod Valid
 pub mod Plain

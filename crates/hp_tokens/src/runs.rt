@@ -3,7 +3,7 @@ ghost use Rattle.std.specs.Prelude.{◌≡◌, ℕ, ◌≤◌, ◌==◌, false, 
 ghost use Rattle.hp_elements.specs.Tokens.{class_of};
 ghost use Rattle.hp_elements.specs.declared.token.CharClass.TheVariants as classes;
 ghost use Rattle.hp_tokens.specs.Moves.{Lexing, Move, Rules, move};
-ghost use Rattle.hp_tokens.specs.Advancing.{held, lexing, HasRows, MovesByRows, Steps, Turned};
+ghost use Rattle.hp_tokens.specs.Advancing.{held, lexing, HasRows, MovesByRows, Steps, Turned, IsGroup};
 ghost use Rattle.hp_tokens.specs.States.{is_resting};
 ghost use Rattle.hp_tokens.specs.declared.state.State.{State};
 ghost use Rattle.hp_tokens.specs.declared.rows.Turn.TheVariants as turns;
@@ -146,6 +146,7 @@ pub fn next_text<'p, T: Table, R: TextRun>(
     requires resting { is_resting state.now.machine.state ≡ true }
     requires held { held state.now ≤ input.old.place }
     ensures turn { IfSome result (λ token. (rules : Rules) (here : State → Bool) → HasRows rules T.has_row T.row_of → Turned rules here (lexing state.now input.old rested.old) [] (lexing state.now input.new rested.new) (token ∷ []) rested.new turns.Emitted) }
+    ensures group { IfSome result (λ token. (rules : Rules) (here : State → Bool) → HasRows rules T.has_row T.row_of → here state.now.machine.state ≡ true → IsGroup (move rules) here (lexing state.now input.old rested.old) [] (lexing state.now input.new rested.new) (token ∷ []) rested.new) }
     ensures none { IfNone result ((input.new ≡ input.old) × (rested.new ≡ rested.old)) }
     ensures held { held state.now ≤ input.new.place }
 {

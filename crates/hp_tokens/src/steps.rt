@@ -7,7 +7,7 @@ ghost use Rattle.hp_tokens.specs.Reading.{first};
 ghost use Rattle.hp_tokens.specs.Rows.{Row, Follows};
 ghost use Rattle.hp_tokens.specs.Moves.{Lexing, Move, Rules, move, end_move};
 ghost use Rattle.hp_tokens.specs.Ranks.{IsFine};
-ghost use Rattle.hp_tokens.specs.Advancing.{unread, held, lexing, HasRows, MovesByRows, ReadsOne, Steps, Turned, EndSteps, EndTurned, end_of_text};
+ghost use Rattle.hp_tokens.specs.Advancing.{unread, held, lexing, HasRows, MovesByRows, ReadsOne, Steps, Turned, IsGroup, EndSteps, EndTurned, end_of_text};
 
 use crate::NoMemory;
 use crate::cursor::Cursor;
@@ -169,6 +169,7 @@ pub fn advance<'p, L: Lexes>(
     requires here { IsTrue (L.here state.old.machine.state) }
     requires held { held state.old ≤ input.old.place }
     ensures turn { IfOk result (λ turn. Turned (L.rules lexer.now) L.here (lexing state.old input.old rested.old) tokens.old (lexing state.new input.new rested.new) tokens.new rested.new turn) }
+    ensures group { IfOk result (λ turn. turn ≡ turns.Emitted → IsGroup (move (L.rules lexer.now)) L.here (lexing state.old input.old rested.old) tokens.old (lexing state.new input.new rested.new) tokens.new rested.new) }
     ensures held { IfOk result (λ turn. held state.new ≤ input.new.place) }
 {
     let mut emitted = false;

@@ -28,6 +28,9 @@ next_text-requires-in-Rawtext-clause-others c = raw_others c.args.state.now.mach
 pub returns-in-Rcdata-clause-turn : goal.returns-in-Rcdata-clause-turn
 returns-in-Rcdata-clause-turn c = IfSome_then c.next_text.result c.next_text.ensures.turn (λ token turned. turned raw_rules is_here text_rows)
 
+pub returns-in-Rcdata-clause-group : goal.returns-in-Rcdata-clause-group
+returns-in-Rcdata-clause-group c = IfSome_then c.next_text.result c.next_text.ensures.group (λ token group. group raw_rules is_here text_rows (ap is_here c.in-Rcdata.is))
+
 pub returns-in-Rcdata-clause-here : goal.returns-in-Rcdata-clause-here
 returns-in-Rcdata-clause-here c = IfSome_then c.next_text.result c.next_text.ensures.turn (λ token turned. ap is_here c.in-Rcdata.is)
 
@@ -37,3 +40,7 @@ returns-in-Rawtext-clause-turn c = IfSome_then c.next_text-in-Rawtext.result c.n
 pub returns-in-Rawtext-clause-here : goal.returns-in-Rawtext-clause-here
 returns-in-Rawtext-clause-here c =
     IfSome_then c.next_text-in-Rawtext.result c.next_text-in-Rawtext.ensures.turn (λ token turned. raw_here c.args.state.now.machine.state c.in-Rawtext.is)
+
+pub returns-in-Rawtext-clause-group : goal.returns-in-Rawtext-clause-group
+returns-in-Rawtext-clause-group c =
+    IfSome_then c.next_text-in-Rawtext.result c.next_text-in-Rawtext.ensures.group (λ token group. group raw_rules is_here text_rows (raw_here c.args.state.now.machine.state c.in-Rawtext.is))

@@ -19,5 +19,9 @@ pub returns-in-Data-clause-turn : goal.returns-in-Data-clause-turn
 returns-in-Data-clause-turn c =
     IfSome_then c.next_text.result c.next_text.ensures.turn (λ token turned. turned (tag_rules c.args.names.now) is_here (tags_rows c.args.names.now))
 
+pub returns-in-Data-clause-group : goal.returns-in-Data-clause-group
+returns-in-Data-clause-group c =
+    IfSome_then c.next_text.result c.next_text.ensures.group (λ token group. group (tag_rules c.args.names.now) is_here (tags_rows c.args.names.now) (ap is_here c.in-Data.is))
+
 pub returns-in-Data-clause-here : goal.returns-in-Data-clause-here
 returns-in-Data-clause-here c = IfSome_then c.next_text.result c.next_text.ensures.turn (λ token turned. ap is_here c.in-Data.is)

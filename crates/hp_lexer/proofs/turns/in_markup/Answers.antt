@@ -4,7 +4,7 @@ use Rattle.hp_tokens.specs.declared.rows.Turn.{Turn}
 use Rattle.hp_lex_markup.specs.Markup.{markup_rules}
 use Rattle.hp_lex_markup.specs.Rows.{is_here}
 use Rattle.hp_lexer.specs.Table.{table, gone_on}
-use Rattle.hp_lexer.proofs.Parts.{markup-part, turned}
+use Rattle.hp_lexer.proofs.Parts.{markup-part, turned, group_by, still_emitted}
 use Rattle.hp_lexer.proofs.turns.in_markup.Goals as goal
 
 pub returns-clause-turn : goal.returns-clause-turn
@@ -14,3 +14,9 @@ returns-clause-turn c =
     let same : c.gone_on.result ≡ gone_on c.in_ok-turn.turn (is_here c.advance.new.state.machine.state) =
     c.gone_on.ensures ∙ ap (λ (b : Bool). gone_on c.in_ok-turn.turn b) c.is_here.ensures in
     subst P (sym same) (turned markup_rules is_here c.args.names.now (markup-part c.args.names.now) _ _ _ _ _ c.in_ok-turn.turn c.in_ok-turn.ensures.turn)
+
+pub returns-clause-group : goal.returns-clause-group
+returns-clause-group c = λ is.
+    let same : c.gone_on.result ≡ gone_on c.in_ok-turn.turn (is_here c.advance.new.state.machine.state) =
+    c.gone_on.ensures ∙ ap (λ (b : Bool). gone_on c.in_ok-turn.turn b) c.is_here.ensures in
+    group_by markup_rules is_here c.args.names.now (markup-part c.args.names.now) (c.in_ok-turn.ensures.group (still_emitted c.in_ok-turn.turn _ (sym same ∙ is)))

@@ -3,7 +3,7 @@ use Rattle.hp_tokens.specs.Advancing.{Turned, lexing}
 use Rattle.hp_tokens.specs.declared.rows.Turn.{Turn}
 use Rattle.hp_lex_tags.specs.Tags.{is_here, tag_rules}
 use Rattle.hp_lexer.specs.Table.{table, gone_on}
-use Rattle.hp_lexer.proofs.Parts.{tags-part, turned}
+use Rattle.hp_lexer.proofs.Parts.{tags-part, turned, group_by, still_emitted}
 use Rattle.hp_lexer.proofs.turns.in_tags.Goals as goal
 
 pub returns-clause-turn : goal.returns-clause-turn
@@ -13,3 +13,9 @@ returns-clause-turn c =
     let same : c.gone_on.result ≡ gone_on c.in_ok-turn.turn (is_here c.advance.new.state.machine.state) =
     c.gone_on.ensures ∙ ap (λ (b : Bool). gone_on c.in_ok-turn.turn b) c.is_here.ensures in
     subst P (sym same) (turned (tag_rules c.args.names.now) is_here c.args.names.now (tags-part c.args.names.now) _ _ _ _ _ c.in_ok-turn.turn c.in_ok-turn.ensures.turn)
+
+pub returns-clause-group : goal.returns-clause-group
+returns-clause-group c = λ is.
+    let same : c.gone_on.result ≡ gone_on c.in_ok-turn.turn (is_here c.advance.new.state.machine.state) =
+    c.gone_on.ensures ∙ ap (λ (b : Bool). gone_on c.in_ok-turn.turn b) c.is_here.ensures in
+    group_by (tag_rules c.args.names.now) is_here c.args.names.now (tags-part c.args.names.now) (c.in_ok-turn.ensures.group (still_emitted c.in_ok-turn.turn _ (sym same ∙ is)))
