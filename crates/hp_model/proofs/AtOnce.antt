@@ -11,9 +11,10 @@ use Rattle.hp_elements.specs.declared.token.Token.TheVariants as token
 use Rattle.hp_tokens.specs.Advancing.{IsRun, IsRunText, AreRuns, singles, tokens_of}
 use Rattle.hp_tokens.specs.Moves.{Emitted}
 use Rattle.hp_control.specs.declared.edit.Edit.{Edit}
+use Rattle.hp_control.specs.Outcome.{Touch, is_older}
 use Rattle.hp_control.specs.States.{ControlState, IsFormatting, IsValid}
 use Rattle.hp_control.specs.Tree.{applied_all}
-use Rattle.hp_model.specs.AtOnce.{LeaveSame, MakeSame, after_first, built_at_once, handle_at_once, handle_rest}
+use Rattle.hp_model.specs.AtOnce.{LeaveSame, MakeSame, RunsTouchFirst, after_first, built_at_once, handle_at_once, handle_rest}
 use Rattle.hp_model.specs.Growth.{steps_left}
 use Rattle.hp_model.specs.Handling.{all_turns, bound, handle, handle_piece, settled}
 use Rattle.hp_model.specs.Rows.{entering, turn}
@@ -76,6 +77,7 @@ record Parted (n : ℕ) (class : CharClass) (a b : List ℕ) (c : ControlState) 
   pub second_is : turn (token.Characters class b) (left_by first) ≡ goes_on second
   pub whole_is : turns turn n (token.Characters class (a ++ b)) c ≡ Some whole
   pub same : LeaveSame (joined first second) whole
+  pub touched : (test : Touch → Bool) → list_any test whole.outcome.touched ≡ list_any test first.outcome.touched
   pub skip_lf : (left_by first).skip_lf ≡ c.skip_lf
   pub switch : first.switch ≡ None
 
@@ -95,6 +97,7 @@ parted_here n class a b c man f e here there =
       second_is = there b;
       whole_is = ap (λ u. after_turn u (turns turn n)) (here (a ++ b));
       same = turned_together c (carried man a c) (carried man b d) (carried man (a ++ b) c) s.mode (carried_together man a b c);
+      touched = λ test. ap (λ ts. list_any test ((entering c).outcome.touched ++ ts)) (sym (carried_together man a b c).touched);
       skip_lf = s.skip_lf;
       switch = refl;
     }
@@ -110,6 +113,9 @@ parted_later n class a b c h p = record {
   same = same_then (joined (joined h.first p.first) p.second) (joined h.first (joined p.first p.second)) (joined h.first p.whole)
       (same_by (joined (joined h.first p.first) p.second) (joined h.first (joined p.first p.second)) (joined_assoc h.first p.first p.second))
       (same_joined h.first (joined p.first p.second) p.whole p.same);
+  touched = λ test.
+      list_any-append test h.first.outcome.touched p.whole.outcome.touched
+      ∙ (ap (λ b. list_any test h.first.outcome.touched || b) (p.touched test) ∙ sym (list_any-append test h.first.outcome.touched p.first.outcome.touched));
   skip_lf = p.skip_lf ∙ h.skip_lf;
   switch = ap (λ s. later s p.first.switch) h.switch ∙ ap (λ s. later None s) p.switch;
 }
@@ -146,6 +152,7 @@ turned_once t c k e =
 
 record AllParted (class : CharClass) (a b : List ℕ) (c : ControlState) : Type 0 where
   pub same : LeaveSame (joined (all_turns c (token.Characters class a)) (all_turns (left_by (all_turns c (token.Characters class a))) (token.Characters class b))) (all_turns c (token.Characters class (a ++ b)))
+  pub touched : (test : Touch → Bool) → list_any test (all_turns c (token.Characters class (a ++ b))).outcome.touched ≡ list_any test (all_turns c (token.Characters class a)).outcome.touched
   pub skip_lf : (left_by (all_turns c (token.Characters class a))).skip_lf ≡ c.skip_lf
   pub switch : (all_turns c (token.Characters class a)).switch ≡ None
 
@@ -160,6 +167,7 @@ all_parted class a b c v =
           subst (λ h. LeaveSame (joined h (all_turns (left_by h) (token.Characters class b))) (all_turns c (token.Characters class (a ++ b)))) (sym first)
           (subst (λ k. LeaveSame (joined p.first k) (all_turns c (token.Characters class (a ++ b)))) (sym second)
           (subst (λ w. LeaveSame (joined p.first p.second) w) (sym whole) p.same));
+      touched = λ test. ap (λ (h : Handled). list_any test h.outcome.touched) whole ∙ (p.touched test ∙ ap (λ (h : Handled). list_any test h.outcome.touched) (sym first));
       skip_lf = ap (λ (h : Handled). (left_by h).skip_lf) first ∙ p.skip_lf;
       switch = ap (λ (h : Handled). h.switch) first ∙ p.switch;
     }
@@ -325,3 +333,15 @@ built_so es (token.EndTag name ∷ ts) p read runs e v = one_at_once (token.EndT
 built_so es (token.Comment text ∷ ts) p read runs e v = one_at_once (token.Comment text) ts es p read tt (sym e) v (λ fs q r f. built_so fs ts q r runs.1 f)
 built_so es (token.Doctype parts ∷ ts) p read runs e v = one_at_once (token.Doctype parts) ts es p read tt (sym e) v (λ fs q r f. built_so fs ts q r runs.1 f)
 built_so es (token.EndOfInput ∷ ts) p read runs e v = one_at_once token.EndOfInput ts es p read tt (sym e) v (λ fs q r f. built_so fs ts q r runs.1 f)
+
+-- of a run only the first code point that is handled touches something
+pub first-touches : RunsTouchFirst
+first-touches class x [] s c v e = refl
+first-touches class x (y ∷ ys) s c v e =
+    let run : Token = token.Characters class (x ∷ y ∷ ys) in
+    let test : Touch → Bool = is_older s in
+    let whole : list_any test (handle c run).outcome.touched ≡ list_any test (handle_at_once c run).outcome.touched = (characters_at_once class x (y ∷ ys) c v).touched test in
+    let at_once : handle_at_once c run ≡ all_turns (settled c) run = ap (λ b. if b then handle_rest (settled c) (after_first run) else all_turns (settled c) run) e in
+    let parts : list_any test (all_turns (settled c) run).outcome.touched ≡ list_any test (all_turns (settled c) (piece class x)).outcome.touched = (all_parted class (x ∷ []) (y ∷ ys) (settled c) (settled-valid c v)).touched test in
+    let one : handle c (piece class x) ≡ all_turns (settled c) (piece class x) = joined_last (handle_piece c (piece class x)) ∙ ap (λ b. if b then unchanged (settled c) else all_turns (settled c) (piece class x)) e in
+    whole ∙ (ap (λ (h : Handled). list_any test h.outcome.touched) at_once ∙ (parts ∙ ap (λ (h : Handled). list_any test h.outcome.touched) (sym one)))

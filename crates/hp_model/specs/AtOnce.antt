@@ -1,12 +1,13 @@
 -- The handling of a run of characters at once, and that it comes to the handling of its code points, one by one.
-use Rattle.std.specs.Prelude.{◌≡◌, ◌&&◌, Bool, if◌then◌else◌, List, [], ◌∷◌, ◌++◌, Option, None, Some}
+use Rattle.std.specs.Prelude.{◌≡◌, ℕ, ◌==◌, ◌&&◌, Bool, false, if◌then◌else◌, List, [], ◌∷◌, ◌++◌, Option, None, Some}
 use Rattle.std.specs.List.{list_any}
+use Rattle.hp_elements.specs.declared.token.CharClass.{CharClass}
 use Rattle.hp_elements.specs.declared.token.Token.{Token}
 use Rattle.hp_elements.specs.declared.token.Token.TheVariants as token
 use Rattle.hp_tokens.specs.Advancing.{AreRuns, IsRun, singles, tokens_of}
 use Rattle.hp_tokens.specs.Moves.{Emitted}
 use Rattle.hp_control.specs.declared.edit.Edit.{Edit}
-use Rattle.hp_control.specs.Outcome.{Touch}
+use Rattle.hp_control.specs.Outcome.{Touch, touches_any}
 use Rattle.hp_control.specs.States.{ControlState, IsValid}
 use Rattle.hp_control.specs.Tree.{Tree, applied_all}
 use Rattle.hp_model.specs.Handling.{all_turns, handle, settled}
@@ -57,3 +58,8 @@ built_at_once p (t ∷ ts) =
 abbrev pub BuiltAtOnce : Type 0
 BuiltAtOnce = (es : List Emitted) (ts : List Token) (p : Parser) → AreRead es → AreRuns ts → singles ts ≡ tokens_of es → IsValid p.control
     → ((built p es).parser ≡ (built_at_once p ts).parser) × MakeSame (built p es).edits (built_at_once p ts).edits
+
+-- of a run of characters only the first code point touches something older, unless it is a line feed that is dropped
+abbrev pub RunsTouchFirst : Type 0
+RunsTouchFirst = (class : CharClass) (x : ℕ) (xs : List ℕ) (s c : ControlState) → IsValid c → (c.skip_lf && (x == 0xA)) ≡ false
+    → touches_any s (handle c (token.Characters class (x ∷ xs))).outcome ≡ touches_any s (handle c (token.Characters class (x ∷ []))).outcome

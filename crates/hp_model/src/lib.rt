@@ -3,7 +3,7 @@
 #![tactic(auto)]
 
 ghost use Rattle.hp_model.specs.Apart.{AtOnceApart, AtOnceLeaves, HandlingApart, HandlingLeaves, RunsApart, RunsLeave};
-ghost use Rattle.hp_model.specs.AtOnce.{BuiltAtOnce, RunsAtOnce};
+ghost use Rattle.hp_model.specs.AtOnce.{BuiltAtOnce, RunsAtOnce, RunsTouchFirst};
 ghost use Rattle.hp_model.specs.Examples.{Examples};
 ghost use Rattle.hp_model.specs.Growth.{BuiltGrows};
 ghost use Rattle.hp_model.specs.Laws.{ForeignByActs, ModeByActs};
@@ -45,6 +45,7 @@ pub fn runs()
 pub fn at_once()
     ensures token { RunsAtOnce }
     ensures tokens { BuiltAtOnce }
+    ensures first { RunsTouchFirst }
 {}
 
 /// A text that goes into the current node as it comes, handled as one run, of white space or not, is its code points handled one

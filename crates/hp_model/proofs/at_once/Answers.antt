@@ -1,5 +1,5 @@
-use Rattle.hp_model.proofs.AtOnce.{built_so, runs_at_once}
+use Rattle.hp_model.proofs.AtOnce.{built_so, first-touches, runs_at_once}
 use Rattle.hp_model.proofs.at_once.Goals as goal
 
 pub returns : goal.returns
-returns c = record { token = runs_at_once; tokens = built_so }
+returns c = record { token = runs_at_once; tokens = built_so; first = first-touches }
