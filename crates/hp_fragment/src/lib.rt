@@ -1,6 +1,17 @@
-//! Parts of a page and whole pages: the run over a part from a known state, the end of input, and the tree of a page.
+//! Parts of a page and whole pages: the run over a part from a known state, the end of input, and the tree of a page, by one loop.
 #![tactic(auto)]
 
+mod at_end;
+mod blanks;
+mod laws;
+mod leaving;
+mod parsing;
+mod replaying;
+mod sink;
+mod told;
+mod whole;
+
+pub use at_end::ending;
 pub use hp_elements::NoMemory;
-pub use hp_replay::{ending, replay};
-pub use hp_sequential::parse_whole;
+pub use replaying::replay;
+pub use whole::parse_whole;

@@ -1,0 +1,148 @@
+-- How far a parser has come over a text, over whatever is below it (13.2).
+use Rattle.std.specs.Prelude.{◌≡◌, ℕ, ◌<◌, ◌≤◌, ◌^◌, Bool, true, false, List, [], ◌∷◌, ◌++◌, Option, None, Some, IsTrue}
+use Rattle.hp_elements.specs.declared.token.Token.{Token}
+use Rattle.hp_names.specs.BuiltIn.{built_in}
+use Rattle.hp_tokens.specs.Advancing.{held}
+use Rattle.hp_tokens.specs.Ranks.{weight}
+use Rattle.hp_tokens.specs.Reading.{Unread}
+use Rattle.hp_control.specs.declared.edit.Edit.{Edit}
+use Rattle.hp_control.specs.declared.question.Question.{Question}
+use Rattle.hp_control.specs.Agree.{AllTrue}
+use Rattle.hp_control.specs.Faithful.{Split, state_over}
+use Rattle.hp_control.specs.Plan.{Heard, noting}
+use Rattle.hp_control.specs.States.{ControlState, lex_start}
+use Rattle.hp_lexer.specs.declared.lexer.Asked.TheVariants as asked
+use Rattle.hp_lexer.specs.declared.lexer.Lexer.{Lexer}
+use Rattle.hp_lexer.specs.Standing.{PlainStepped, is_answered, load, stands}
+use Rattle.hp_views.specs.View.{split_of}
+use Rattle.hp_model.specs.AtOnce.{handle_at_once}
+use Rattle.hp_model.specs.Runs.{Parser}
+use Rattle.hp_runs.specs.Coming.{HasCome, HasEnded, untouched_at_once}
+use Rattle.hp_runs.specs.Handling.{left_after, lexer_after, made_after}
+use Rattle.hp_older.specs.Over.{IsOver, MayCome}
+use Rattle.hp_fragment.specs.Making.{Amounts}
+use Rattle.hp_fragment.specs.declared.parsing.Parsing.{Parsing}
+use Rattle.hp_fragment.specs.declared.sink.Sink.{Sink}
+
+-- a parser, whatever is below it
+pub record Stage : Type 0 where
+  pub lexer : Lexer
+  pub input : Unread
+  pub heard : Heard
+  pub split : Split
+  pub sink : Sink
+
+abbrev pub stage : {B : Type 0} → (B → Heard) → Parsing B → Stage
+stage heard p = record { lexer = p.lexer; input = p.input; heard = heard p.view.below; split = split_of p.view; sink = p.sink }
+
+-- the control state over s; where the lexer stands is told once
+abbrev pub control_at : ControlState → Stage → ControlState
+control_at s p = record (state_over p.split s) { lex = lex_start }
+
+-- A run over a text: what is older than all that is made, the last start tag's name before the text, how many bytes were read ahead, the
+-- parser with the text before it, and whether a page's tree grows.
+pub record Way : Type 0 where
+  pub older : ControlState
+  pub name : List ℕ
+  pub base : ℕ
+  pub from : Parser
+  pub grows : Bool
+
+-- that run has come to where the parser stands
+pub record HasRead (w : Way) (p : Stage) : Type 0 where
+  pub over : IsOver w.older p.split
+  pub edits : List Edit
+  pub comes : HasCome built_in w.name w.base w.older w.from (stands p.lexer p.input) (control_at w.older p) edits
+  pub amounts : Amounts w.grows p.sink w.older p.split.edits edits
+
+-- and to the end of its text
+pub record HasReadAll (w : Way) (p : Stage) : Type 0 where
+  pub over : IsOver w.older p.split
+  pub edits : List Edit
+  pub ended : HasEnded built_in w.name w.older w.from p.lexer (control_at w.older p) edits
+  pub amounts : Amounts w.grows p.sink w.older p.split.edits edits
+
+-- These questions were asked, and nothing else; and over each older state of which the answers are true the run goes on.
+pub record GoesFurther (old new : Stage) : Type 0 where
+  pub asked : List Question
+  pub noted : new.heard ≡ noting old.heard asked
+  pub reads : (w : Way) → AllTrue w.older old.heard.says asked → HasRead w old → HasRead w new
+
+-- the same, to the end of the text
+pub record GoesToEnd (old new : Stage) : Type 0 where
+  pub asked : List Question
+  pub noted : new.heard ≡ noting old.heard asked
+  pub reads : (w : Way) → AllTrue w.older old.heard.says asked → HasRead w old → HasReadAll w new
+
+abbrev pub WentOn : Stage → Stage → Bool → Type 0
+WentOn old new true = GoesFurther old new
+WentOn old new false = GoesToEnd old new
+
+-- the lexer may be called
+pub record IsReady (p : Stage) : Type 0 where
+  pub names : p.lexer.names ≡ built_in
+  pub answered : IsTrue (is_answered p.lexer.asked)
+  pub held : held p.lexer.lex ≤ p.input.place
+
+-- the text is used up
+pub record IsAtEnd (p : Stage) : Type 0 where
+  pub names : p.lexer.names ≡ built_in
+  pub asked : p.lexer.asked ≡ asked.Nothing
+  pub held : held p.lexer.lex ≤ 2 ^ 32
+  pub used : p.input.text ≡ []
+
+abbrev pub load_of : Stage → ℕ
+load_of p = load p.lexer p.input
+
+-- a step: the text goes on, and the lexer's load is smaller; or the text is used up
+abbrev pub StepsOn : Stage → Stage → Bool → Type 0
+StepsOn old new true = IsReady new × (load_of new < load_of old)
+StepsOn old new false = IsAtEnd new
+
+-- some ways were gone straight, or none
+pub record WentStraight (old new : Stage) : Type 0 where
+  pub ready : IsReady new
+  pub load : load_of new ≤ load_of old
+
+-- a way that is tried: a step was made; or the lexer's load is no larger
+abbrev pub Tried : Stage → Stage → Bool → Type 0
+Tried old new true = StepsOn old new true
+Tried old new false = WentStraight old new
+
+-- a text at the front was taken whole, and is still to be handled; or there is none, and nothing changed
+pub record TextTaken (old new : Stage) (text : List ℕ) : Type 0 where
+  pub stepped : PlainStepped old.lexer old.input new.lexer new.input text
+  pub held : held new.lexer.lex ≤ new.input.place
+  pub names : new.lexer.names ≡ old.lexer.names
+  pub same : new ≡ record old { lexer = new.lexer; input = new.input }
+
+abbrev pub TookText : Stage → Stage → Option (List ℕ) → Type 0
+TookText old new (Some text) = TextTaken old new text
+TookText old new None = new ≡ old
+
+-- the lexer was switched, or wasn't, which makes its weight no larger
+pub record IsTurned (old new : Lexer) : Type 0 where
+  pub names : new.names ≡ old.names
+  pub asked : new.asked ≡ old.asked
+  pub ahead : new.lex.ahead ≡ old.lex.ahead
+  pub weight : (input : Unread) → old.asked ≡ asked.Nothing → weight (stands new input) ≤ weight (stands old input)
+
+abbrev pub AllMayCome : ControlState → List Token → Type 0
+AllMayCome s [] = Unit {0}
+AllMayCome s (t ∷ ts) = MayCome s t × AllMayCome s ts
+
+-- over s these tokens were handled at once, one behind the other, and the lexer was switched behind each that calls for it; nothing older was touched
+pub record IsHandled (s : ControlState) (old new : Stage) (tokens : List Token) : Type 0 where
+  pub over : IsOver s new.split
+  pub lexer : new.lexer ≡ lexer_after handle_at_once (control_at s old) tokens old.lexer
+  pub control : control_at s new ≡ left_after handle_at_once (control_at s old) tokens
+  pub own : untouched_at_once s (control_at s old) tokens ≡ true
+  pub amounts : (grows : Bool) (es : List Edit) → Amounts grows old.sink s old.split.edits es → Amounts grows new.sink s new.split.edits (es ++ made_after handle_at_once (control_at s old) tokens)
+
+-- These questions were asked, and over each older state of which the answers are true the tokens were handled.
+pub record Handled (old new : Stage) (tokens : List Token) : Type 0 where
+  pub input : new.input ≡ old.input
+  pub turned : IsTurned old.lexer new.lexer
+  pub asked : List Question
+  pub noted : new.heard ≡ noting old.heard asked
+  pub over : (s : ControlState) → AllTrue s old.heard.says asked → IsOver s old.split → AllMayCome s tokens → IsHandled s old new tokens

@@ -1,0 +1,44 @@
+//! What a fault leaves behind is given back here, one function for each type, so that its drop stands in one place.
+ghost use Rattle.std.specs.Prelude.{◌≡◌};
+
+use hp_control::{Change, Control, Edits, Nothing};
+use hp_lexer::Lexer;
+use hp_tokens::LexState;
+use hp_views::View;
+
+/// Gives back a state.
+pub(crate) fn leave_control(control: Control) {
+    let Control { lex, .. } = control;
+    leave_lex(lex);
+}
+
+/// Gives back edits.
+pub(crate) fn leave_edits(edits: Edits<'_>) {
+    let _ = edits;
+}
+
+/// Gives back the lexer's part of a state.
+pub(crate) fn leave_lex(lex: LexState) {
+    let _ = lex;
+}
+
+/// Gives back a lexer.
+pub(crate) fn leave_lexer(lexer: Lexer) {
+    let Lexer { lex, .. } = lexer;
+    leave_lex(lex);
+}
+
+/// Gives back a view.
+pub(crate) fn leave_view(view: View<'_, Nothing>) {
+    leave_edits(into_edits(view));
+}
+
+/// The edits of a view, whose state is given back.
+pub(crate) fn into_edits<'p>(view: View<'p, Nothing>) -> Edits<'p>
+    ensures { result ≡ view.entry.edits }
+{
+    let View { edits, change, .. } = view;
+    let Change { lex, .. } = change;
+    leave_lex(lex);
+    edits
+}

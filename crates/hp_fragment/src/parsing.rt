@@ -1,0 +1,203 @@
+//! The sequential parser within a text, whatever is below it: a page, a part of one behind a known state, or a part behind a guess.
+ghost use Rattle.std.specs.Prelude.{◌≡◌, ◌∷◌, [], ◌≤◌, true, IfOk, OnOk};
+ghost use Rattle.hp_tokens.specs.Advancing.{AreRuns, held};
+ghost use Rattle.hp_acts.specs.Plain.{takes_text};
+ghost use Rattle.hp_views.specs.View.{split_of};
+ghost use Rattle.hp_fragment.specs.Reading.{stage, GoesFurther, Handled, IsAtEnd, IsReady, StepsOn, TookText, Tried, WentOn, WentStraight};
+
+use crate::blanks::next_blanks;
+use crate::sink::Sink;
+use hp_acts::{handle, handle_text, takes_text};
+use hp_control::{Below, Refusal};
+use hp_elements::{CharClass, Rest, Text, Token, Tokens};
+use hp_lexer::{Cursor, Lexer, Step};
+use hp_views::View;
+use std::alloc::Global;
+
+/// The sequential parser within a text: the lexer, what is still to be read, the control state over what is below, and where the
+/// edits go. After a refusal it is spent.
+#[derive(Drop)]
+pub(crate) struct Parsing<'p, B: Drop> {
+    pub lexer: Lexer,
+    /// What is still to be read of the text.
+    pub input: Cursor<'p>,
+    pub view: View<'p, B>,
+    pub sink: Sink<'p>,
+}
+
+impl<'p, B: Below + Drop> Parsing<'p, B> {
+    /// Reads the text to its end.
+    pub fn run(&mut self, alloc: Global) -> Result<(), Refusal>
+        requires ready { IsReady (stage B.heard self.old) }
+        ensures at_end { OnOk result (IsAtEnd (stage B.heard self.new)) }
+        ensures reads { OnOk result (GoesToEnd (stage B.heard self.old) (stage B.heard self.new)) }
+    {
+        'steps: loop {
+            self.read_straight(alloc)?;
+            if !self.step_by_table(alloc)? {
+                return Ok(());
+            }
+        }
+    }
+
+    /// Takes texts and tags straight, as long as such come next.
+    #[inline(never)]
+    fn read_straight(&mut self, alloc: Global) -> Result<(), Refusal>
+        requires ready { IsReady (stage B.heard self.old) }
+        ensures went { OnOk result (WentStraight (stage B.heard self.old) (stage B.heard self.new)) }
+        ensures reads { OnOk result (GoesFurther (stage B.heard self.old) (stage B.heard self.new)) }
+    {
+        'steps: loop {
+            if !self.step_straight(alloc)? {
+                return Ok(());
+            }
+        }
+    }
+
+    /// Takes the tag, the text or the white space that comes next straight: a text whole where it goes into the current node as it
+    /// comes, else white space alone. Answers whether there was one.
+    fn step_straight(&mut self, alloc: Global) -> Result<bool, Refusal>
+        requires ready { IsReady (stage B.heard self.old) }
+        ensures tried { IfOk result (Tried (stage B.heard self.old) (stage B.heard self.new)) }
+        ensures reads { OnOk result (GoesFurther (stage B.heard self.old) (stage B.heard self.new)) }
+    {
+        // `<` begins no text.
+        if let Some(b'<') = self.input.front() {
+            return self.take_tag(alloc);
+        }
+        if takes_text(&self.view) {
+            return self.take_text(alloc);
+        }
+        self.take_blanks(alloc)
+    }
+
+    /// Takes a text at the front whole, where it goes into the current node as it comes. Answers whether there was one.
+    #[inline(always)]
+    fn take_text(&mut self, alloc: Global) -> Result<bool, Refusal>
+        requires ready { IsReady (stage B.heard self.old) }
+        requires takes { takes_text (split_of self.old.view) ≡ true }
+        ensures tried { IfOk result (Tried (stage B.heard self.old) (stage B.heard self.new)) }
+        ensures reads { OnOk result (GoesFurther (stage B.heard self.old) (stage B.heard self.new)) }
+    {
+        hp_lexer::steps_fall();
+        match self.next_text() {
+            Some(text) => {
+                self.put_text(alloc, text)?;
+                Ok(true)
+            }
+            None => Ok(false),
+        }
+    }
+
+    /// Takes the white space at the front as one token. Answers whether there was any.
+    #[inline(never)]
+    fn take_blanks(&mut self, alloc: Global) -> Result<bool, Refusal>
+        requires ready { IsReady (stage B.heard self.old) }
+        ensures tried { IfOk result (Tried (stage B.heard self.old) (stage B.heard self.new)) }
+        ensures reads { OnOk result (GoesFurther (stage B.heard self.old) (stage B.heard self.new)) }
+    {
+        hp_lexer::steps_fall();
+        match next_blanks(&mut self.lexer, &mut self.input) {
+            Some(text) => {
+                let class = CharClass::White;
+                self.handle_one(alloc, Token::Characters { class, text })?;
+                Ok(true)
+            }
+            None => Ok(false),
+        }
+    }
+
+    /// The text at the front that is emitted as it stands, or what a usual reference there stands for.
+    fn next_text(&mut self) -> Option<Text<'p>>
+        requires held { held self.old.lexer.lex ≤ self.old.input.place }
+        ensures { TookText (stage B.heard self.old) (stage B.heard self.new) result }
+    {
+        match self.lexer.next_plain(&mut self.input) {
+            Some(text) => Some(text),
+            None => self.lexer.next_reference(&mut self.input),
+        }
+    }
+
+    /// Takes a usual tag at the front straight. Answers whether there was one; otherwise the lexer may have gone on a little.
+    fn take_tag(&mut self, alloc: Global) -> Result<bool, Refusal>
+        requires ready { IsReady (stage B.heard self.old) }
+        ensures tried { IfOk result (Tried (stage B.heard self.old) (stage B.heard self.new)) }
+        ensures reads { OnOk result (GoesFurther (stage B.heard self.old) (stage B.heard self.new)) }
+    {
+        hp_lexer::steps_fall();
+        match self.lexer.next_tag(alloc, &mut self.input) {
+            Ok(Some(tag)) => {
+                self.handle_one(alloc, tag)?;
+                Ok(true)
+            }
+            Ok(None) => Ok(false),
+            Err(_) => Err(Refusal::NoMemory),
+        }
+    }
+
+    /// One step by the lexer's table, and what it calls for. Answers whether the text goes on.
+    #[inline(never)]
+    fn step_by_table(&mut self, alloc: Global) -> Result<bool, Refusal>
+        requires ready { IsReady (stage B.heard self.old) }
+        ensures steps { IfOk result (StepsOn (stage B.heard self.old) (stage B.heard self.new)) }
+        ensures reads { IfOk result (WentOn (stage B.heard self.old) (stage B.heard self.new)) }
+    {
+        hp_lexer::steps_fall();
+        match self.lexer.next(alloc, &mut self.input)? {
+            Step::Tokens { tokens, .. } => {
+                self.handle_all(alloc, tokens)?;
+                Ok(true)
+            }
+            Step::AskCdata => {
+                let foreign = self.view.foreign_now(alloc)?;
+                self.lexer.answer_cdata(foreign);
+                Ok(true)
+            }
+            Step::AskLastTag => {
+                let name = self.view.last_tag(alloc)?;
+                self.lexer.answer_last_tag(alloc, &name)?;
+                Ok(true)
+            }
+            Step::AtCut => Ok(false),
+        }
+    }
+
+    /// Handles the tokens of a step, one behind the other.
+    fn handle_all(&mut self, alloc: Global, tokens: Tokens<'p>) -> Result<(), Refusal>
+        ensures { OnOk result (Handled (stage B.heard self.old) (stage B.heard self.new) tokens.entry) }
+    {
+        for token in tokens {
+            self.handle_one(alloc, token)?;
+        }
+        Ok(())
+    }
+
+    /// Handles a token, and switches the lexer where it calls for that.
+    #[inline(always)]
+    fn handle_one(&mut self, alloc: Global, token: Token<'p>) -> Result<(), Refusal>
+        ensures { OnOk result (Handled (stage B.heard self.old) (stage B.heard self.new) (token.entry ∷ [])) }
+    {
+        hp_older::tokens_over();
+        let handled = handle(alloc, &mut self.view, token)?;
+        self.sink.take(alloc, &mut self.view.edits)?;
+        match handled.switch {
+            None => Ok(()),
+            Some(rest) => {
+                self.lexer.switch(rest);
+                Ok(())
+            }
+        }
+    }
+
+    /// Handles a text without U+0000 as one run, where it goes into the current node as it comes. It calls for no switch.
+    #[inline(always)]
+    fn put_text(&mut self, alloc: Global, text: Text<'p>) -> Result<(), Refusal>
+        requires takes { takes_text (split_of self.old.view) ≡ true }
+        ensures { OnOk result (Handled (stage B.heard self.old) (stage B.heard self.new) (as_run text.entry ∷ [])) }
+    {
+        hp_older::tokens_over();
+        let _ = handle_text(alloc, &mut self.view, text)?;
+        self.sink.take(alloc, &mut self.view.edits)?;
+        Ok(())
+    }
+}
