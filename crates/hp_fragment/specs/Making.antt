@@ -20,3 +20,11 @@ Amounts false (Grows tree) s made edits = ⊥
 -- the edits of a known state were applied
 abbrev pub HasGrown : Tree → List Edit → Tree → Type 0
 HasGrown old made new = new ≡ applied_all old (map (named_edit nothing) made)
+
+abbrev pub HasGrownBy : Sink → List Edit → Tree → Type 0
+HasGrownBy (Grows tree) made new = HasGrown tree.branches made new
+HasGrownBy Keeps made new = ⊥
+
+abbrev pub is_growing : Sink → Bool
+is_growing (Grows tree) = true
+is_growing Keeps = false

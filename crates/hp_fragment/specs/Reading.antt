@@ -1,5 +1,6 @@
 -- How far a parser has come over a text, over whatever is below it (13.2).
 use Rattle.std.specs.Prelude.{◌≡◌, ℕ, ◌<◌, ◌≤◌, ◌^◌, Bool, true, false, List, [], ◌∷◌, ◌++◌, Option, None, Some, IsTrue}
+use Rattle.std.specs.Option.{is_some, unwrap_or}
 use Rattle.hp_elements.specs.declared.token.Token.{Token}
 use Rattle.hp_names.specs.BuiltIn.{built_in}
 use Rattle.hp_tokens.specs.Advancing.{held}
@@ -19,7 +20,8 @@ use Rattle.hp_model.specs.AtOnce.{handle_at_once}
 use Rattle.hp_model.specs.Runs.{Parser}
 use Rattle.hp_runs.specs.Coming.{HasCome, HasEnded, untouched_at_once}
 use Rattle.hp_runs.specs.Handling.{left_after, lexer_after, made_after}
-use Rattle.hp_older.specs.Over.{IsOver, MayCome}
+use Rattle.hp_older.specs.Over.{IsOver}
+use Rattle.hp_older.specs.Tokens.{MayAllCome}
 use Rattle.hp_fragment.specs.Making.{Amounts}
 use Rattle.hp_fragment.specs.declared.parsing.Parsing.{Parsing}
 use Rattle.hp_fragment.specs.declared.sink.Sink.{Sink}
@@ -39,17 +41,24 @@ stage heard p = record { lexer = p.lexer; input = p.input; heard = heard p.view.
 abbrev pub control_at : ControlState → Stage → ControlState
 control_at s p = record (state_over p.split s) { lex = lex_start }
 
--- A run over a text: what is older than all that is made, the last start tag's name before the text, how many bytes were read ahead, the
--- parser with the text before it, and whether a page's tree grows.
+-- A run over a text: what is older than all that is made, the last start tag's name before the text, whether the lexer was told it, how many
+-- bytes were read ahead, the parser with the text before it, and whether a page's tree grows.
 pub record Way : Type 0 where
   pub older : ControlState
   pub name : List ℕ
+  pub told : Bool
   pub base : ℕ
   pub from : Parser
   pub grows : Bool
 
+-- the lexer was told a name, and knows one; or it wasn't, and the name is that of the older state
+abbrev pub IsNamed : Bool → List ℕ → ControlState → Lexer → Type 0
+IsNamed true name s l = is_some l.lex.machine.last_tag ≡ true
+IsNamed false name s l = name ≡ unwrap_or s.lex.machine.last_tag []
+
 -- that run has come to where the parser stands
 pub record HasRead (w : Way) (p : Stage) : Type 0 where
+  pub named : IsNamed w.told w.name w.older p.lexer
   pub over : IsOver w.older p.split
   pub edits : List Edit
   pub comes : HasCome built_in w.name w.base w.older w.from (stands p.lexer p.input) (control_at w.older p) edits
@@ -57,6 +66,7 @@ pub record HasRead (w : Way) (p : Stage) : Type 0 where
 
 -- and to the end of its text
 pub record HasReadAll (w : Way) (p : Stage) : Type 0 where
+  pub named : IsNamed w.told w.name w.older p.lexer
   pub over : IsOver w.older p.split
   pub edits : List Edit
   pub ended : HasEnded built_in w.name w.older w.from p.lexer (control_at w.older p) edits
@@ -127,10 +137,6 @@ pub record IsTurned (old new : Lexer) : Type 0 where
   pub ahead : new.lex.ahead ≡ old.lex.ahead
   pub weight : (input : Unread) → old.asked ≡ asked.Nothing → weight (stands new input) ≤ weight (stands old input)
 
-abbrev pub AllMayCome : ControlState → List Token → Type 0
-AllMayCome s [] = Unit {0}
-AllMayCome s (t ∷ ts) = MayCome s t × AllMayCome s ts
-
 -- over s these tokens were handled at once, one behind the other, and the lexer was switched behind each that calls for it; nothing older was touched
 pub record IsHandled (s : ControlState) (old new : Stage) (tokens : List Token) : Type 0 where
   pub over : IsOver s new.split
@@ -145,4 +151,4 @@ pub record Handled (old new : Stage) (tokens : List Token) : Type 0 where
   pub turned : IsTurned old.lexer new.lexer
   pub asked : List Question
   pub noted : new.heard ≡ noting old.heard asked
-  pub over : (s : ControlState) → AllTrue s old.heard.says asked → IsOver s old.split → AllMayCome s tokens → IsHandled s old new tokens
+  pub over : (s : ControlState) → AllTrue s old.heard.says asked → IsOver s old.split → MayAllCome s tokens → IsHandled s old new tokens

@@ -1,20 +1,15 @@
-//! The end of input.
-ghost use Rattle.std.specs.Prelude.{◌≡◌, [], map, IfOk, OnOk};
-ghost use Rattle.hp_control.specs.Apply.{named_edit};
-ghost use Rattle.hp_control.specs.Nothing.{nothing};
-ghost use Rattle.hp_control.specs.States.{IsValid, lex_start};
-ghost use Rattle.hp_views.specs.View.{split_of};
+//! The end of input behind a state.
+ghost use Rattle.std.specs.Prelude.{◌≡◌, IfOk};
+ghost use Rattle.hp_control.specs.States.{IsValid};
 ghost use Rattle.hp_pieces.specs.Fragments.{IsEnd};
-ghost use Rattle.hp_fragment.specs.Collecting.{control_of, IsKnown};
 
 use crate::NoMemory;
-use crate::collecting::{collect_last, view_of};
-use crate::leaving::{into_edits, leave_edits, leave_view};
-use crate::told::told_all;
-use hp_control::{Control, Edits, Nothing};
-use hp_lexer::Lexer;
+use crate::leaving::{leave, leave_edits};
+use crate::parsing::Parsing;
+use crate::sink::Sink;
+use crate::told::told_edits;
+use hp_control::{Control, Edits};
 use hp_pieces::Ending;
-use hp_views::View;
 use std::alloc::Global;
 
 /// The end of input from this state: the lexer's last tokens, and what tree construction makes of them (13.2.6, 13.2.7).
@@ -37,27 +32,12 @@ fn end_edits<'p>(alloc: Global, from: &Control) -> Result<Edits<'p>, NoMemory>
     requires valid { IsValid from.now }
     ensures { IfOk result (λ edits. IsEnd (record { entry = from.now; edits = edits })) }
 {
-    let mut view = view_of(alloc, from)?;
-    match end_view(alloc, &mut view, from) {
-        Ok(()) => told_all(alloc, into_edits(view)),
-        Err(fault) => {
-            leave_view(view);
-            Err(fault)
+    let mut parsing = Parsing::before(alloc, from, "", Sink::Keeps)?;
+    match parsing.end_input(alloc) {
+        Ok(()) => told_edits(alloc, parsing),
+        Err(_) => {
+            leave(parsing);
+            Err(NoMemory)
         }
     }
-}
-
-/// Handles the tokens of the end of input.
-fn end_view<'p>(alloc: Global, view: &mut View<'p, Nothing>, from: &Control) -> Result<(), NoMemory>
-    requires valid { IsValid from.now }
-    requires known { IsKnown (split_of view.old) }
-    requires control { control_of (split_of view.old) ≡ record from.now { lex = lex_start } }
-    requires edits { view.old.edits ≡ [] }
-    ensures { OnOk result (IsEnd (record { entry = from.now; edits = map (named_edit nothing) view.new.edits })) }
-{
-    hp_model::at_once();
-    hp_pieces::ends_of_text();
-    let lex = &from.lex;
-    let tokens = Lexer::from_state(alloc, lex)?.finish(alloc)?;
-    collect_last(alloc, view, tokens)
 }

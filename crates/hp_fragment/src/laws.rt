@@ -1,12 +1,5 @@
-//! The laws of runs from known states that a run cites, each apart from the others.
-ghost use Rattle.hp_pieces.specs.Laws.{LeadsJoin, LeadsValid, NeverAsked};
-
-/// The run over two texts in a row is that over the first and then that over the second.
-pub(crate) fn runs_join()
-    ensures { LeadsJoin }
-{
-    hp_pieces::runs_between();
-}
+//! The laws of runs that the parser cites, each apart from the others.
+ghost use Rattle.hp_pieces.specs.Laws.{LeadsValid, PageBuilt};
 
 /// A run leads from a valid state to a valid one.
 pub(crate) fn runs_stay_valid()
@@ -15,9 +8,9 @@ pub(crate) fn runs_stay_valid()
     hp_pieces::runs_between();
 }
 
-/// Along a run from a valid state the last start tag's name is never asked.
-pub(crate) fn never_asked()
-    ensures { NeverAsked }
+/// The run over a page and the end of input behind it build the page's tree.
+pub(crate) fn pages_end()
+    ensures { PageBuilt }
 {
     hp_pieces::runs_between();
 }

@@ -1,10 +1,22 @@
-//! What a fault leaves behind is given back here, one function for each type, so that its drop stands in one place.
+//! What is left of a parser, and what a fault leaves behind, is given back here, one function for each type, so that its drop stands in one place.
 ghost use Rattle.std.specs.Prelude.{◌≡◌};
 
+use crate::parsing::Parsing;
+use crate::sink::Sink;
 use hp_control::{Change, Control, Edits, Nothing};
 use hp_lexer::Lexer;
 use hp_tokens::LexState;
 use hp_views::View;
+
+/// Gives back a parser.
+pub(crate) fn leave(parsing: Parsing<'_, Nothing>) {
+    let Parsing {
+        lexer, view, sink, ..
+    } = parsing;
+    leave_lexer(lexer);
+    leave_edits(into_edits(view));
+    leave_sink(sink);
+}
 
 /// Gives back a state.
 pub(crate) fn leave_control(control: Control) {
@@ -28,9 +40,9 @@ pub(crate) fn leave_lexer(lexer: Lexer) {
     leave_lex(lex);
 }
 
-/// Gives back a view.
-pub(crate) fn leave_view(view: View<'_, Nothing>) {
-    leave_edits(into_edits(view));
+/// Gives back the place of a parser's edits.
+pub(crate) fn leave_sink(sink: Sink<'_>) {
+    let _ = sink;
 }
 
 /// The edits of a view, whose state is given back.

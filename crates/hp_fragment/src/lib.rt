@@ -3,6 +3,7 @@
 
 mod at_end;
 mod blanks;
+mod known;
 mod laws;
 mod leaving;
 mod parsing;

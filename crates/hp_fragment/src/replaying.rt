@@ -1,4 +1,4 @@
-//! The run over a chunk.
+//! The run over a chunk behind a known state.
 ghost use Rattle.std.specs.Prelude.{◌≡◌, IfOk, slice_range};
 ghost use Rattle.hp_text.specs.Page.{text_of as page_text};
 ghost use Rattle.hp_control.specs.States.{IsValid};
@@ -6,8 +6,11 @@ ghost use Rattle.hp_pieces.specs.Fragments.{IsRun};
 ghost use Rattle.hp_pieces.specs.Texts.{text_of, IsExactFrom};
 
 use crate::NoMemory;
+use crate::laws::runs_stay_valid;
 use crate::leaving::leave_control;
-use crate::running::Running;
+use crate::parsing::Parsing;
+use crate::sink::Sink;
+use crate::told::told_state;
 use hp_control::{Control, Edits};
 use hp_pieces::{Exact, Fragment};
 use hp_text::Chunk;
@@ -42,12 +45,7 @@ fn run_from<'p>(
     requires { IsValid from.now }
     ensures { IfOk result (λ parts. IsRun (record { text = text.now; entry = from.now; exit = parts.0; edits = parts.1 })) }
 {
-    let mut running = Running::of_state(alloc, from)?;
-    match running.run(alloc, text) {
-        Ok(()) => running.into_parts(alloc),
-        Err(fault) => {
-            running.leave();
-            Err(fault)
-        }
-    }
+    runs_stay_valid();
+    let parsing = Parsing::behind(alloc, from, text, Sink::Keeps)?;
+    told_state(alloc, parsing)
 }

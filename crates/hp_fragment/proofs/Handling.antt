@@ -1,0 +1,154 @@
+-- Tokens that are handled over whatever is below, one behind the other.
+use Rattle.std.proofs.Common.{◌≡◌, ℕ, List, [], ◌∷◌, ◌++◌, map, Bool, true, false, refl, ap, ◌∙◌, sym, subst, append-nil, append_assoc, Option, None, Some}
+use Rattle.std.specs.Prelude.{not, ◌&&◌, Result, Ok}
+use Rattle.std.proofs.lemmas.Bool.{and_from, and_parts}
+use Rattle.hp_elements.specs.declared.token.Rest.{Rest}
+use Rattle.hp_elements.specs.declared.token.Token.{Token}
+use Rattle.hp_control.specs.declared.edit.Edit.{Edit}
+use Rattle.hp_control.specs.Agree.{AllTrue}
+use Rattle.hp_control.specs.Faithful.{Split, state_over}
+use Rattle.hp_control.specs.Outcome.{touches_any}
+use Rattle.hp_control.specs.Plan.{Heard, Runs, asked_by}
+use Rattle.hp_control.specs.States.{ControlState, lex_start}
+use Rattle.hp_lexer.specs.declared.lexer.Lexer.{Lexer}
+use Rattle.hp_lexer.specs.Standing.{SwitchesFall}
+use Rattle.hp_model.specs.Apart.{AtOnceApart, relexed, relexed_state}
+use Rattle.hp_model.specs.AtOnce.{MakeSame, handle_at_once}
+use Rattle.hp_model.specs.Turns.{Handled as Meant, left_by}
+use Rattle.hp_acts.specs.declared.turns.Handled.{Handled as Told}
+use Rattle.hp_acts.specs.HandlePlans.{handle_plan}
+use Rattle.hp_acts.specs.RowPlans.{Reached}
+use Rattle.hp_older.specs.Laws.{IsDoneOver, StayUnedited, TokensHandled}
+use Rattle.hp_older.specs.Over.{IsOver, MayCome}
+use Rattle.hp_older.specs.Tokens.{MayAllCome}
+use Rattle.hp_runs.proofs.Quiet.{left-append, made-append}
+use Rattle.hp_runs.specs.Coming.{untouched_at_once}
+use Rattle.hp_runs.specs.Handling.{Handler, left_after, lexer_after, made_after, turned}
+use Rattle.hp_fragment.proofs.Amounting.{amounts-more}
+use Rattle.hp_fragment.proofs.Asking.{noted-none, noted-then, true-front, true-then}
+use Rattle.hp_fragment.proofs.Turning.{none-turned, turned-once, turned-then}
+use Rattle.hp_fragment.specs.Making.{Amounts}
+use Rattle.hp_fragment.specs.Reading.{Handled, IsHandled, IsTurned, Stage, control_at}
+use Rattle.hp_fragment.specs.declared.sink.Sink.{Sink}
+
+lexer-append : (does : Handler) (c : ControlState) (xs ys : List Token) (l : Lexer) → lexer_after does c (xs ++ ys) l ≡ lexer_after does (left_after does c xs) ys (lexer_after does c xs l)
+lexer-append does c [] ys l = refl
+lexer-append does c (x ∷ xs) ys l = lexer-append does (left_by (does c x)) xs ys (turned (does c x).switch l)
+
+untouched-append : (s c : ControlState) (xs ys : List Token) → untouched_at_once s c xs ≡ true → untouched_at_once s (left_after handle_at_once c xs) ys ≡ true → untouched_at_once s c (xs ++ ys) ≡ true
+untouched-append s c [] ys h k = k
+untouched-append s c (x ∷ xs) ys h k =
+    let m : Meant = handle_at_once c x in
+    let both = and_parts (not (touches_any s m.outcome)) (untouched_at_once s (left_by m) xs) h in
+    and_from (not (touches_any s m.outcome)) (untouched_at_once s (left_by m) (xs ++ ys)) both.0 (untouched-append s (left_by m) xs ys both.1 k)
+
+may-front : (s : ControlState) (xs ys : List Token) → MayAllCome s (xs ++ ys) → MayAllCome s xs
+may-front s [] ys h = tt
+may-front s (x ∷ xs) ys h = (h.0, may-front s xs ys h.1)
+
+may-back : (s : ControlState) (xs ys : List Token) → MayAllCome s (xs ++ ys) → MayAllCome s ys
+may-back s [] ys h = h
+may-back s (x ∷ xs) ys h = may-back s xs ys h.1
+
+none-handled : (p : Stage) → Handled p p []
+none-handled p = record {
+  input = refl;
+  turned = none-turned p.lexer;
+  asked = [];
+  noted = noted-none p.heard;
+  over = λ s all is may. record {
+    over = is;
+    lexer = refl;
+    control = refl;
+    own = refl;
+    amounts = λ grows es am. subst (Amounts grows p.sink s p.split.edits) (sym (append-nil es)) am;
+  };
+}
+
+both-handled : (s : ControlState) (a b c : Stage) (xs ys : List Token) → IsHandled s a b xs → IsHandled s b c ys → IsHandled s a c (xs ++ ys)
+both-handled s a b c xs ys f g = record {
+  over = g.over;
+  lexer =
+      g.lexer
+      ∙ (ap (λ (d : ControlState). lexer_after handle_at_once d ys b.lexer) f.control
+      ∙ (ap (lexer_after handle_at_once (left_after handle_at_once old xs) ys) f.lexer ∙ sym (lexer-append handle_at_once old xs ys a.lexer)));
+  control = g.control ∙ (ap (λ (d : ControlState). left_after handle_at_once d ys) f.control ∙ sym (left-append handle_at_once old xs ys));
+  own = untouched-append s old xs ys f.own (subst (λ (d : ControlState). untouched_at_once s d ys ≡ true) f.control g.own);
+  amounts = λ grows es am. subst (Amounts grows c.sink s c.split.edits) (made es) (g.amounts grows (es ++ made_after handle_at_once old xs) (f.amounts grows es am));
+}
+  where
+    old : ControlState
+    old = control_at s a
+
+    made : (es : List Edit) → (es ++ made_after handle_at_once old xs) ++ made_after handle_at_once (control_at s b) ys ≡ es ++ made_after handle_at_once old (xs ++ ys)
+    made es =
+        append_assoc es (made_after handle_at_once old xs) (made_after handle_at_once (control_at s b) ys)
+        ∙ ap (λ (fs : List Edit). es ++ fs)
+        (ap (λ (d : ControlState). made_after handle_at_once old xs ++ made_after handle_at_once d ys) f.control ∙ sym (made-append handle_at_once old xs ys))
+
+pub handled-then : (a b c : Stage) (xs ys : List Token) → Handled a b xs → Handled b c ys → Handled a c (xs ++ ys)
+handled-then a b c xs ys f g = record {
+  input = g.input ∙ f.input;
+  turned = turned-then a.lexer b.lexer c.lexer f.turned g.turned;
+  asked = f.asked ++ g.asked;
+  noted = noted-then a.heard b.heard c.heard f.asked g.asked f.noted g.noted;
+  over = λ s all is may.
+      let first = f.over s (true-front s a.heard.says f.asked g.asked all) is (may-front s xs ys may) in
+      both-handled s a b c xs ys first (g.over s (true-then s a.heard b.heard f.asked g.asked f.noted all) first.over (may-back s xs ys may));
+}
+
+-- what is left of the tokens is still to be handled
+pub record Going (start now : Stage) (tokens rest : List Token) : Type 0 where
+  pub done : List Token
+  pub split : tokens ≡ done ++ rest
+  pub handled : Handled start now done
+
+pub going-start : (p : Stage) (tokens : List Token) → Going p p tokens tokens
+going-start p tokens = record { done = []; split = refl; handled = none-handled p }
+
+pub going-on : (start now next : Stage) (tokens before rest : List Token) (t : Token) → Going start now tokens before → before ≡ t ∷ rest → Handled now next (t ∷ []) → Going start next tokens rest
+going-on start now next tokens before rest t g is one = record {
+  done = g.done ++ t ∷ [];
+  split = g.split ∙ (ap (λ (ts : List Token). g.done ++ ts) is ∙ sym (append_assoc g.done (t ∷ []) rest));
+  handled = handled-then start now next g.done (t ∷ []) g.handled one;
+}
+
+pub going-end : (start now : Stage) (tokens rest : List Token) → Going start now tokens rest → rest ≡ [] → Handled start now tokens
+going-end start now tokens rest g is =
+    subst (Handled start now) (sym (g.split ∙ (ap (λ (ts : List Token). g.done ++ ts) is ∙ append-nil g.done))) g.handled
+
+-- one token
+module _ (law : TokensHandled) (apart : AtOnceApart) (stay : StayUnedited) (falls : SwitchesFall) where
+  over-one : (s : ControlState) (old new : Stage) (w : Split) (edits : List Edit) (t : Token) (handled : Told) → new.split ≡ record w { edits = edits }
+      → ((grows : Bool) (c : ControlState) (es : List Edit) → Amounts grows old.sink c w.edits es → Amounts grows new.sink c edits es)
+      → new.lexer ≡ turned handled.switch old.lexer → IsDoneOver s old.split w handled (handle_at_once (state_over old.split s) t) → IsHandled s old new (t ∷ [])
+  over-one s old new w edits t handled split take lexer d = record {
+    over = subst (IsOver s) (sym split) (stay s w edits d.over);
+    lexer = lexer ∙ ap (λ (to : Option Rest). turned to old.lexer) (d.switch ∙ sym (ap (λ (h : Meant). h.switch) same));
+    control = ap (λ (v : Split). relexed_state lex_start (state_over v s)) split ∙ (ap (relexed_state lex_start) d.control ∙ sym (ap left_by same));
+    own = and_from (not (touches_any s now.outcome)) true (ap not (ap (λ (h : Meant). touches_any s h.outcome) same ∙ d.own)) refl;
+    amounts = λ grows es am.
+        subst (λ (v : Split). Amounts grows new.sink s v.edits (es ++ made_after handle_at_once (control_at s old) (t ∷ []))) (sym split)
+        (subst (λ (fs : List Edit). Amounts grows new.sink s edits (es ++ fs)) (sym (ap (λ (h : Meant). h.outcome.edits ++ []) same ∙ append-nil was.outcome.edits))
+        (take grows s (es ++ was.outcome.edits) (amounts-more grows old.sink s old.split.edits w.edits es was.outcome.edits am d.edits)));
+  }
+    where
+      was : Meant
+      was = handle_at_once (state_over old.split s) t
+
+      now : Meant
+      now = handle_at_once (control_at s old) t
+
+      same : now ≡ relexed lex_start was
+      same = apart lex_start (state_over old.split s) t
+
+  pub one-handled : (old new : Stage) (w : Split) (edits : List Edit) (t : Token) (handled : Told) → Runs old.heard new.heard (handle_plan t old.split) (Ok (record { split = w; handled = handled }))
+      → new.split ≡ record w { edits = edits } → ((grows : Bool) (c : ControlState) (es : List Edit) → Amounts grows old.sink c w.edits es → Amounts grows new.sink c edits es)
+      → new.lexer ≡ turned handled.switch old.lexer → new.input ≡ old.input → Handled old new (t ∷ [])
+  one-handled old new w edits t handled runs split take lexer input = record {
+    input = input;
+    turned = subst (IsTurned old.lexer) (sym lexer) (turned-once falls old.lexer handled.switch);
+    asked = asked_by old.heard.says (handle_plan t old.split);
+    noted = runs.noted;
+    over = λ s all is may. over-one s old new w edits t handled split take lexer (law t s old.split old.heard new.heard (Ok (record { split = w; handled = handled })) runs all is may.0);
+  }

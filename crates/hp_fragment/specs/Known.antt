@@ -1,0 +1,42 @@
+-- The run over a text from a known state, and the end of input behind it (13.2).
+use Rattle.std.specs.Prelude.{◌≡◌, Bool, true, false, List, [], ◌++◌, ℕ}
+use Rattle.std.specs.Option.{unwrap_or}
+use Rattle.hp_names.specs.BuiltIn.{built_in}
+use Rattle.hp_tokens.specs.Advancing.{held}
+use Rattle.hp_control.specs.Faithful.{state_over}
+use Rattle.hp_control.specs.Nothing.{nothing}
+use Rattle.hp_control.specs.States.{ControlState}
+use Rattle.hp_control.specs.declared.edit.Edit.{Edit}
+use Rattle.hp_model.specs.Runs.{followed_by}
+use Rattle.hp_older.specs.Over.{IsOver}
+use Rattle.hp_pieces.specs.Running.{Ends, Leads, parser_in}
+use Rattle.hp_fragment.specs.Making.{Amounts}
+use Rattle.hp_fragment.specs.Reading.{Stage, Way}
+
+-- the run over a text from that state, with nothing older
+abbrev pub way_from : ControlState → List ℕ → Bool → Way
+way_from entry text grows = record {
+  older = nothing;
+  name = unwrap_or entry.lex.machine.last_tag [];
+  told = true;
+  base = held entry.lex;
+  from = followed_by (parser_in entry) text;
+  grows = grows;
+}
+
+-- the control state where nothing is older
+abbrev pub state_of : Stage → ControlState
+state_of p = record (state_over p.split nothing) { lex = p.lexer.lex }
+
+-- the run over the text from that state led to where the parser stands
+pub record RanFrom (entry : ControlState) (text : List ℕ) (grows : Bool) (p : Stage) : Type 0 where
+  pub over : IsOver nothing p.split
+  pub edits : List Edit
+  pub leads : Leads built_in text entry edits (state_of p)
+  pub amounts : Amounts grows p.sink nothing p.split.edits edits
+
+-- the end of input was handled
+pub record EndsInput (old new : Stage) : Type 0 where
+  pub made : List Edit
+  pub ends : Ends built_in (state_of old) made
+  pub amounts : (grows : Bool) (edits : List Edit) → Amounts grows old.sink nothing old.split.edits edits → Amounts grows new.sink nothing new.split.edits (edits ++ made)
