@@ -43,6 +43,6 @@ pub fn answers_over()
 {}
 
 /// Tokens one after the other: they are handled as the definition says and nothing older is touched, or they cross by what is touched.
-pub fn all_over()
+pub fn tokens_in_order()
     ensures { AllHandled }
 {}
