@@ -16,7 +16,7 @@ true-back s says [] ys h = h
 true-back s says (x ∷ xs) ys h = true-back s says xs ys h.1
 
 pub noted-none : (h : Heard) → h ≡ noting h []
-noted-none h = (runs_gives h tt).noted
+noted-none h = (runs_gives h (tt {0})).noted
 
 pub noted-then : (a b c : Heard) (xs ys : List Question) → b ≡ noting a xs → c ≡ noting b ys → c ≡ noting a (xs ++ ys)
 noted-then a b c xs ys f g = g ∙ (ap (λ (h : Heard). noting h ys) f ∙ noting_more a xs ys)

@@ -1,6 +1,6 @@
 -- The run over a text behind a known state: its begin and its end, and the end of input.
-use Rattle.std.proofs.Common.{◌≡◌, ℕ, ◌^◌, ◌≤◌, List, [], ◌∷◌, ◌++◌, map, Bool, true, false, refl, ap, ◌∙◌, sym, subst, append-nil, Option, None, Some}
-use Rattle.std.specs.Prelude.{All, IsSome, inr}
+use Rattle.std.proofs.Common.{◌≡◌, ℕ, ◌^◌, ◌≤◌, List, [], ◌∷◌, ◌++◌, map, Bool, true, false, refl, ap, ◌∙◌, sym, subst, append-nil, inr, Option, None, Some}
+use Rattle.std.specs.Prelude.{All, IsSome}
 use Rattle.std.proofs.lemmas.List.Elements.{All-cons, All-nil}
 use Rattle.std.specs.Option.{is_some, unwrap_or}
 use Rattle.std.specs.Str.{IsUtf8, chars}
@@ -59,7 +59,7 @@ use Rattle.hp_fragment.specs.declared.sink.Sink.TheVariants.{Grows, Keeps}
 
 some-is : {X : Type 0} (o : Option X) → IsSome o → is_some o ≡ true
 some-is (Some x) h = refl
-some-is None h = absurd h
+some-is None h = cc
 
 -- nothing was read yet
 pub begins : TextBegins → (entry : ControlState) (text : List ℕ) (p : Stage) → IsValid entry → p.lexer ≡ record { lex = entry.lex; names = built_in; asked = asked.Nothing; rested = 2 ^ 32 } → held p.lexer.lex ≤ 2 ^ 32

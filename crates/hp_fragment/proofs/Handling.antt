@@ -21,7 +21,7 @@ use Rattle.hp_acts.specs.RowPlans.{Reached}
 use Rattle.hp_older.specs.Laws.{IsDoneOver, StayUnedited, TokensHandled}
 use Rattle.hp_older.specs.Over.{IsOver, MayCome}
 use Rattle.hp_older.specs.Tokens.{MayAllCome}
-use Rattle.hp_runs.proofs.Quiet.{left-append, made-append}
+use Rattle.hp_runs.proofs.Batches.{left-append, made-append}
 use Rattle.hp_runs.specs.Coming.{untouched_at_once}
 use Rattle.hp_runs.specs.Handling.{Handler, left_after, lexer_after, made_after, turned}
 use Rattle.hp_fragment.proofs.Amounting.{amounts-more}
@@ -50,7 +50,7 @@ may-back : (s : ControlState) (xs ys : List Token) → MayAllCome s (xs ++ ys) �
 may-back s [] ys h = h
 may-back s (x ∷ xs) ys h = may-back s xs ys h.1
 
-none-handled : (p : Stage) → Handled p p []
+pub none-handled : (p : Stage) → Handled p p []
 none-handled p = record {
   input = refl;
   turned = none-turned p.lexer;

@@ -1,6 +1,6 @@
 -- What each way of the parser does to how far the run has come.
-use Rattle.std.proofs.Common.{◌≡◌, ℕ, ◌^◌, List, [], ◌∷◌, ◌++◌, Bool, true, false, refl, ap, ◌∙◌, sym, subst, append-nil, Option, None, Some}
-use Rattle.std.specs.Prelude.{not, ◌&&◌, inl, Result, Ok}
+use Rattle.std.proofs.Common.{◌≡◌, ℕ, ◌^◌, List, [], ◌∷◌, ◌++◌, Bool, true, false, refl, ap, ◌∙◌, sym, subst, append-nil, inl, Option, None, Some}
+use Rattle.std.specs.Prelude.{not, ◌&&◌, Result, Ok}
 use Rattle.std.specs.List.{list_all}
 use Rattle.std.specs.Option.{unwrap_or}
 use Rattle.std.proofs.lemmas.Bool.{and_parts, not-true}
@@ -45,7 +45,7 @@ use Rattle.hp_views.specs.Asking.{ask_last_tag}
 use Rattle.hp_views.specs.SecondPlans.{foreign_now_plan}
 use Rattle.hp_fragment.proofs.Amounting.{amounts-same}
 use Rattle.hp_fragment.proofs.Asking.{noted-none}
-use Rattle.hp_fragment.proofs.Telling.{after-named, asked-named, leads-named, section-named, told-named}
+use Rattle.hp_fragment.proofs.Telling.{after-named, asked-named, leads-named, same-named, section-named, told-named}
 use Rattle.hp_fragment.specs.Making.{Amounts}
 use Rattle.hp_fragment.specs.Reading.{GoesFurther, GoesToEnd, Handled, HasRead, IsHandled, IsNamed, IsReady, Stage, Way, control_at}
 
@@ -224,4 +224,6 @@ cut-ends law old l u ready stepped = record {
 }
   where
     cut-named : (w : Way) → HasRead w old → IsNamed w.told w.name w.older l
-    cut-named w r = leads-named w.told w.name w.older old.lexer.names old.lexer (record l { rested = stepped.rested }) old.input u stepped.advances.es stepped.advances.leads r.named
+    cut-named w r =
+        same-named w.told w.name w.older (record l { rested = stepped.rested }) l refl
+        (leads-named w.told w.name w.older old.lexer.names old.lexer (record l { rested = stepped.rested }) old.input u stepped.advances.es stepped.advances.leads r.named)

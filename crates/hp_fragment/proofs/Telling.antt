@@ -89,6 +89,10 @@ module _ (told : Bool) (name : List ℕ) (s : ControlState) where
   pub leads-named : (names : List Reference) (l k : Lexer) (u v : Unread) (es : List Emitted) → Leads (move (table names)) (stands l u) es (stands k v) → IsNamed told name s l → IsNamed told name s k
   leads-named names l k u v es leads n = named-on told name s l k n (λ h. knows-stands k v (known-leads names leads (stands-knows l u h)))
 
+  -- whatever else of the lexer changes
+  pub same-named : (l k : Lexer) → k.lex ≡ l.lex → IsNamed told name s l → IsNamed told name s k
+  same-named l k e n = named-on told name s l k n (λ h. subst (λ (x : LexState). knows x.machine) (sym e) h)
+
   -- to the question after `<![CDATA[`
   pub section-named : (l k m : Lexer) (u v : Unread) → ReachesCdata l u k v → m.lex ≡ k.lex → IsNamed told name s l → IsNamed told name s m
   section-named l k m u v r same n = named-on told name s l m n (λ h.
@@ -104,6 +108,10 @@ module _ (told : Bool) (name : List ℕ) (s : ControlState) where
   pub after-named : (does : Handler) (c : ControlState) (ts : List Token) (l k : Lexer) → k ≡ lexer_after does c ts l → IsNamed told name s l → IsNamed told name s k
   after-named does c ts l k e n = named-on told name s l k n (λ h. subst (λ (x : Lexer). knows x.lex.machine) (sym e) (after-knows does c ts l h))
 
+not-some : (o : Option (List ℕ)) → o ≡ None → is_some o ≡ true → ⊥
+not-some None e h = cc
+not-some (Some x) e h = cc
+
 -- the name is asked only where none is known, so it is that of the older state
 pub asked-named : (told : Bool) (name : List ℕ) (s : ControlState) (names : List Reference) (l k : Lexer) (u v : Unread) (es : List Emitted) → Leads (move (table names)) (stands l u) es (stands k v)
     → move (table names) (stands k v) ≡ asks_last_tag → IsNamed told name s l → name ≡ unwrap_or s.lex.machine.last_tag []
@@ -111,7 +119,7 @@ asked-named false name s names l k u v es leads asks n = n
 asked-named true name s names l k u v es leads asks h =
     let known : is_some (stands k v).machine.last_tag ≡ true = known-leads names leads (stands-knows l u h) in
     let untold : (stands k v).machine.last_tag ≡ None = untold-asks names (stands k v) asks in
-    let no : is_some {List ℕ} None ≡ true = ap is_some (sym untold) ∙ known in absurd (cc)
+    absurd (not-some (stands k v).machine.last_tag untold known)
 
 -- a lexer that knows the name is filled
 pub known-filled : (name : List ℕ) (m : Machine) → knows m → m ≡ filled name m

@@ -133,9 +133,9 @@ TookText old new None = new ≡ old
 -- the lexer was switched, or wasn't, which makes its weight no larger
 pub record IsTurned (old new : Lexer) : Type 0 where
   pub names : new.names ≡ old.names
-  pub asked : new.asked ≡ old.asked
   pub ahead : new.lex.ahead ≡ old.lex.ahead
   pub weight : (input : Unread) → old.asked ≡ asked.Nothing → weight (stands new input) ≤ weight (stands old input)
+  pub asked : new.asked ≡ old.asked
 
 -- over s these tokens were handled at once, one behind the other, and the lexer was switched behind each that calls for it; nothing older was touched
 pub record IsHandled (s : ControlState) (old new : Stage) (tokens : List Token) : Type 0 where

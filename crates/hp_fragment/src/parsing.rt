@@ -2,14 +2,15 @@
 ghost use Rattle.std.specs.Prelude.{◌≡◌, ◌∷◌, [], ◌≤◌, true, IfOk, OnOk};
 ghost use Rattle.hp_tokens.specs.Advancing.{AreRuns, held};
 ghost use Rattle.hp_acts.specs.Plain.{takes_text};
+ghost use Rattle.hp_model.specs.Texts.{as_run};
 ghost use Rattle.hp_views.specs.View.{split_of};
-ghost use Rattle.hp_fragment.specs.Reading.{stage, GoesFurther, Handled, IsAtEnd, IsReady, StepsOn, TookText, Tried, WentOn, WentStraight};
+ghost use Rattle.hp_fragment.specs.Reading.{stage, GoesFurther, GoesToEnd, Handled, IsAtEnd, IsReady, StepsOn, TookText, Tried, WentOn, WentStraight};
 
 use crate::blanks::next_blanks;
 use crate::sink::Sink;
 use hp_acts::{handle, handle_text, takes_text};
 use hp_control::{Below, Refusal};
-use hp_elements::{CharClass, Rest, Text, Token, Tokens};
+use hp_elements::{CharClass, Text, Token, Tokens};
 use hp_lexer::{Cursor, Lexer, Step};
 use hp_views::View;
 use std::alloc::Global;
@@ -174,10 +175,13 @@ impl<'p, B: Below + Drop> Parsing<'p, B> {
 
     /// Handles a token, and switches the lexer where it calls for that.
     #[inline(always)]
-    fn handle_one(&mut self, alloc: Global, token: Token<'p>) -> Result<(), Refusal>
+    pub fn handle_one(&mut self, alloc: Global, token: Token<'p>) -> Result<(), Refusal>
         ensures { OnOk result (Handled (stage B.heard self.old) (stage B.heard self.new) (token.entry ∷ [])) }
     {
+        hp_lexer::steps_fall();
+        hp_model::lexer_apart();
         hp_older::tokens_over();
+        hp_older::views_over();
         let handled = handle(alloc, &mut self.view, token)?;
         self.sink.take(alloc, &mut self.view.edits)?;
         match handled.switch {
@@ -195,7 +199,10 @@ impl<'p, B: Below + Drop> Parsing<'p, B> {
         requires takes { takes_text (split_of self.old.view) ≡ true }
         ensures { OnOk result (Handled (stage B.heard self.old) (stage B.heard self.new) (as_run text.entry ∷ [])) }
     {
+        hp_lexer::steps_fall();
+        hp_model::lexer_apart();
         hp_older::tokens_over();
+        hp_older::views_over();
         let _ = handle_text(alloc, &mut self.view, text)?;
         self.sink.take(alloc, &mut self.view.edits)?;
         Ok(())

@@ -15,7 +15,7 @@ use crate::status::Status;
 use crate::words::Words;
 use hp_arena::Tree;
 use hp_print::{Refusal, write_tree};
-use hp_sequential::parse_whole;
+use hp_fragment::parse_whole;
 use hp_text::{PAGE_LIMIT, Page, ReadRefusal, Sink, Source, check_page, read_page};
 use std::alloc::Global;
 use std::mem;
