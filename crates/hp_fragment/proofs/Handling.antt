@@ -2,8 +2,10 @@
 use Rattle.std.proofs.Common.{◌≡◌, ℕ, List, [], ◌∷◌, ◌++◌, map, Bool, true, false, refl, ap, ◌∙◌, sym, subst, append-nil, append_assoc, Option, None, Some}
 use Rattle.std.specs.Prelude.{not, ◌&&◌, Result, Ok}
 use Rattle.std.proofs.lemmas.Bool.{and_from, and_parts}
+use Rattle.hp_elements.specs.declared.token.CharClass.{CharClass}
 use Rattle.hp_elements.specs.declared.token.Rest.{Rest}
 use Rattle.hp_elements.specs.declared.token.Token.{Token}
+use Rattle.hp_elements.specs.declared.token.Token.TheVariants.{Characters}
 use Rattle.hp_control.specs.declared.edit.Edit.{Edit}
 use Rattle.hp_control.specs.Agree.{AllTrue}
 use Rattle.hp_control.specs.Faithful.{Split, state_over}
@@ -22,6 +24,7 @@ use Rattle.hp_older.specs.Laws.{IsDoneOver, StayUnedited, TokensHandled}
 use Rattle.hp_older.specs.Over.{IsOver, MayCome}
 use Rattle.hp_older.specs.Tokens.{MayAllCome}
 use Rattle.hp_runs.proofs.Batches.{left-append, made-append}
+use Rattle.hp_runs.proofs.Quiet.{at_once-quiet}
 use Rattle.hp_runs.specs.Coming.{untouched_at_once}
 use Rattle.hp_runs.specs.Handling.{Handler, left_after, lexer_after, made_after, turned}
 use Rattle.hp_fragment.proofs.Amounting.{amounts-more}
@@ -118,13 +121,13 @@ going-end start now tokens rest g is =
     subst (Handled start now) (sym (g.split ∙ (ap (λ (ts : List Token). g.done ++ ts) is ∙ append-nil g.done))) g.handled
 
 -- one token
-module _ (law : TokensHandled) (apart : AtOnceApart) (stay : StayUnedited) (falls : SwitchesFall) where
+module _ (law : TokensHandled) (apart : AtOnceApart) (stay : StayUnedited) where
   over-one : (s : ControlState) (old new : Stage) (w : Split) (edits : List Edit) (t : Token) (handled : Told) → new.split ≡ record w { edits = edits }
       → ((grows : Bool) (c : ControlState) (es : List Edit) → Amounts grows old.sink c w.edits es → Amounts grows new.sink c edits es)
-      → new.lexer ≡ turned handled.switch old.lexer → IsDoneOver s old.split w handled (handle_at_once (state_over old.split s) t) → IsHandled s old new (t ∷ [])
+      → new.lexer ≡ turned (handle_at_once (control_at s old) t).switch old.lexer → IsDoneOver s old.split w handled (handle_at_once (state_over old.split s) t) → IsHandled s old new (t ∷ [])
   over-one s old new w edits t handled split take lexer d = record {
     over = subst (IsOver s) (sym split) (stay s w edits d.over);
-    lexer = lexer ∙ ap (λ (to : Option Rest). turned to old.lexer) (d.switch ∙ sym (ap (λ (h : Meant). h.switch) same));
+    lexer = lexer;
     control = ap (λ (v : Split). relexed_state lex_start (state_over v s)) split ∙ (ap (relexed_state lex_start) d.control ∙ sym (ap left_by same));
     own = and_from (not (touches_any s now.outcome)) true (ap not (ap (λ (h : Meant). touches_any s h.outcome) same ∙ d.own)) refl;
     amounts = λ grows es am.
@@ -142,13 +145,31 @@ module _ (law : TokensHandled) (apart : AtOnceApart) (stay : StayUnedited) (fall
       same : now ≡ relexed lex_start was
       same = apart lex_start (state_over old.split s) t
 
-  pub one-handled : (old new : Stage) (w : Split) (edits : List Edit) (t : Token) (handled : Told) → Runs old.heard new.heard (handle_plan t old.split) (Ok (record { split = w; handled = handled }))
+  -- and the lexer is switched where it calls for that
+  pub one-handled : SwitchesFall → (old new : Stage) (w : Split) (edits : List Edit) (t : Token) (handled : Told) → Runs old.heard new.heard (handle_plan t old.split) (Ok (record { split = w; handled = handled }))
       → new.split ≡ record w { edits = edits } → ((grows : Bool) (c : ControlState) (es : List Edit) → Amounts grows old.sink c w.edits es → Amounts grows new.sink c edits es)
       → new.lexer ≡ turned handled.switch old.lexer → new.input ≡ old.input → Handled old new (t ∷ [])
-  one-handled old new w edits t handled runs split take lexer input = record {
+  one-handled falls old new w edits t handled runs split take lexer input = record {
     input = input;
     turned = subst (IsTurned old.lexer) (sym lexer) (turned-once falls old.lexer handled.switch);
     asked = asked_by old.heard.says (handle_plan t old.split);
     noted = runs.noted;
-    over = λ s all is may. over-one s old new w edits t handled split take lexer (law t s old.split old.heard new.heard (Ok (record { split = w; handled = handled })) runs all is may.0);
+    over = λ s all is may.
+        let d : IsDoneOver s old.split w handled (handle_at_once (state_over old.split s) t) = law t s old.split old.heard new.heard (Ok (record { split = w; handled = handled })) runs all is may.0 in
+        over-one s old new w edits t handled split take
+        (lexer ∙ ap (λ (to : Option Rest). turned to old.lexer) (d.switch ∙ sym (ap (λ (h : Meant). h.switch) (apart lex_start (state_over old.split s) t)))) d;
+  }
+
+  -- a run of characters, which calls for no switch
+  pub run-handled : (old new : Stage) (w : Split) (edits : List Edit) (class : CharClass) (text : List ℕ) (handled : Told) → Runs old.heard new.heard (handle_plan (Characters class text) old.split) (Ok (record { split = w; handled = handled }))
+      → new.split ≡ record w { edits = edits } → ((grows : Bool) (c : ControlState) (es : List Edit) → Amounts grows old.sink c w.edits es → Amounts grows new.sink c edits es)
+      → new.lexer ≡ old.lexer → new.input ≡ old.input → Handled old new (Characters class text ∷ [])
+  run-handled old new w edits class text handled runs split take lexer input = record {
+    input = input;
+    turned = subst (IsTurned old.lexer) (sym lexer) (none-turned old.lexer);
+    asked = asked_by old.heard.says (handle_plan (Characters class text) old.split);
+    noted = runs.noted;
+    over = λ s all is may.
+        over-one s old new w edits (Characters class text) handled split take (lexer ∙ ap (λ (to : Option Rest). turned to old.lexer) (sym (at_once-quiet class text (control_at s old))))
+        (law (Characters class text) s old.split old.heard new.heard (Ok (record { split = w; handled = handled })) runs all is may.0);
   }

@@ -5,4 +5,5 @@ pub mod Handling
 pub mod Turning
 pub mod Telling
 pub mod Stepping
+pub mod Taking
 pub mod Ended

@@ -13,9 +13,10 @@ use Rattle.hp_lexer.specs.declared.lexer.Asked.{Asked}
 use Rattle.hp_lexer.specs.declared.lexer.Asked.TheVariants as asked
 use Rattle.hp_lexer.specs.declared.lexer.Lexer.{Lexer}
 use Rattle.hp_lexer.specs.declared.lexer.Step.TheVariants as steps
+use Rattle.hp_lexer.specs.Places.{told}
 use Rattle.hp_lexer.specs.Standing.{Stepped, StepsFall, SwitchesFall, is_answered, load, stands}
 use Rattle.hp_runs.specs.Handling.{turned}
-use Rattle.hp_fragment.specs.Reading.{IsReady, IsTurned, Stage, StepsOn, Tried, WentStraight, load_of}
+use Rattle.hp_fragment.specs.Reading.{IsAtEnd, IsReady, IsTurned, Stage, StepsOn, Tried, WentStraight, load_of}
 
 pub none-turned : (l : Lexer) → IsTurned l l
 none-turned l = record { names = refl; asked = refl; ahead = refl; weight = λ input told. omega arith }
@@ -59,9 +60,51 @@ step-smaller fall old mid new tokens began ready stepped fits names input turned
       (untold-few (is_untold (stands new.lexer mid.input).machine.last_tag)) (turned.weight mid.input stepped.2) (fall old.lexer mid.lexer old.input mid.input (steps.Tokens began tokens) stepped)),
 )
 
+-- once a question is answered it is so too
+load-so : (w n o : ℕ) → n ≤ 1 → 2 * w + 1 < o → 2 * w + n < o
+load-so w n o h k = omega (arith, h, k)
+
+pub section-smaller : StepsFall → (old new : Stage) (l : Lexer) (u : Unread) (foreign : Bool) → IsReady old → Stepped old.lexer old.input l u steps.AskCdata → held l.lex ≤ u.place → l.names ≡ old.lexer.names
+    → new.lexer ≡ record l { asked = asked.CdataAnswered foreign } → new.input ≡ u → StepsOn old new true
+section-smaller fall old new l u foreign ready stepped fits names lexer input =
+    let told : Lexer = record l { asked = asked.CdataAnswered foreign } in (
+      record {
+        names = ap (λ (x : Lexer). x.names) lexer ∙ (names ∙ ready.names);
+        answered = ap (λ (x : Lexer). is_answered x.asked) lexer;
+        held = held-on (held new.lexer.lex) (held l.lex) new.input.place u.place fits (ap (λ (v : Unread). v.place) input) (ap (λ (x : Lexer). held x.lex) lexer);
+      },
+      subst (λ (v : Unread). load new.lexer v < load_of old) (sym input)
+          (subst (λ (x : Lexer). load x u < load_of old) (sym lexer)
+          (load-so (weight (stands told u)) (cond (is_untold (stands told u).machine.last_tag) 1 0) (load_of old) (untold-few (is_untold (stands told u).machine.last_tag))
+          (fall old.lexer l old.input u steps.AskCdata stepped foreign))),
+    )
+
+load-named : (w v o : ℕ) → w ≡ v → 2 * v < o → 2 * w + 0 < o
+load-named w v o h k = omega (arith, h, k)
+
+pub name-smaller : StepsFall → (old new : Stage) (l : Lexer) (u : Unread) (name : List ℕ) → IsReady old → Stepped old.lexer old.input l u steps.AskLastTag → held l.lex ≤ u.place → l.names ≡ old.lexer.names
+    → new.lexer ≡ told name l → new.input ≡ u → StepsOn old new true
+name-smaller fall old new l u name ready stepped fits names lexer input = (
+  record {
+    names = ap (λ (x : Lexer). x.names) lexer ∙ (names ∙ ready.names);
+    answered = ap (λ (x : Lexer). is_answered x.asked) lexer;
+    held = held-on (held new.lexer.lex) (held l.lex) new.input.place u.place fits (ap (λ (v : Unread). v.place) input) (ap (λ (x : Lexer). held x.lex) lexer);
+  },
+  subst (λ (v : Unread). load new.lexer v < load_of old) (sym input)
+      (subst (λ (x : Lexer). load x u < load_of old) (sym lexer)
+      (load-named (weight (stands (told name l) u)) (weight (stands l u)) (load_of old) (ap (λ (a : Asked). weight (stands (record l { asked = a }) u)) (sym stepped.2)) (fall old.lexer l old.input u steps.AskLastTag stepped))),
+)
+
+-- the text is used up
+pub cut-at-end : (old : Stage) (l : Lexer) (u : Unread) → IsReady old → Stepped old.lexer old.input l u steps.AtCut → l.names ≡ old.lexer.names → IsAtEnd (record old { lexer = l; input = u })
+cut-at-end old l u ready stepped names = record { names = names ∙ ready.names; asked = stepped.asked; held = stepped.held; used = stepped.used }
+
 -- ways that go straight, one behind the other
 pub none-went : (p : Stage) → IsReady p → WentStraight p p
 none-went p ready = record { ready = ready; load = omega arith }
+
+pub went-nowhere : (old new : Stage) → new ≡ old → IsReady old → WentStraight old new
+went-nowhere old new is ready = subst (WentStraight old) (sym is) (none-went old ready)
 
 pub one-went : (old mid new : Stage) (made : Bool) → WentStraight old mid → Tried mid new made → WentStraight old new
 one-went old mid new true went tried =

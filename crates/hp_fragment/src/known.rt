@@ -36,6 +36,7 @@ impl<'p> Parsing<'p, Nothing> {
         ensures at_end { IfOk result (λ p. IsAtEnd (stage Nothing.heard p)) }
         ensures ran { IfOk result (λ p. RanFrom from.now (chars text.now) (is_growing sink.entry) (stage Nothing.heard p)) }
     {
+        hp_older::answers_over();
         let mut parsing = Parsing::before(alloc, from, text, sink)?;
         match parsing.run(alloc) {
             Ok(()) => Ok(parsing),
@@ -63,6 +64,7 @@ impl<'p> Parsing<'p, Nothing> {
         ensures sink { IfOk result (λ p. p.sink ≡ sink.entry) }
         ensures reads { IfOk result (λ p. HasRead (way_from from.now (chars text.now) (is_growing sink.entry)) (stage Nothing.heard p)) }
     {
+        hp_runs::comes_on();
         let lexer = match Lexer::from_state(alloc, &from.lex) {
             Ok(lexer) => lexer,
             Err(fault) => {
@@ -93,7 +95,7 @@ impl<'p> Parsing<'p, Nothing> {
         ensures { OnOk result (EndsInput (stage Nothing.heard self.old) (stage Nothing.heard self.new)) }
     {
         hp_model::at_once();
-        hp_model::lexer_apart();
+        hp_older::answers_over();
         hp_pieces::ends_of_text();
         let tokens = Lexer::from_state(alloc, &self.lexer.lex)?.finish(alloc)?;
         self.handle_last(alloc, tokens)

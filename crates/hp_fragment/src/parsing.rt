@@ -81,6 +81,9 @@ impl<'p, B: Below + Drop> Parsing<'p, B> {
         ensures reads { OnOk result (GoesFurther (stage B.heard self.old) (stage B.heard self.new)) }
     {
         hp_lexer::steps_fall();
+        hp_older::texts_over();
+        hp_older::views_over();
+        hp_runs::comes_on();
         match self.next_text() {
             Some(text) => {
                 self.put_text(alloc, text)?;
@@ -98,6 +101,8 @@ impl<'p, B: Below + Drop> Parsing<'p, B> {
         ensures reads { OnOk result (GoesFurther (stage B.heard self.old) (stage B.heard self.new)) }
     {
         hp_lexer::steps_fall();
+        hp_older::views_over();
+        hp_runs::comes_on();
         match next_blanks(&mut self.lexer, &mut self.input) {
             Some(text) => {
                 let class = CharClass::White;
@@ -126,6 +131,8 @@ impl<'p, B: Below + Drop> Parsing<'p, B> {
         ensures reads { OnOk result (GoesFurther (stage B.heard self.old) (stage B.heard self.new)) }
     {
         hp_lexer::steps_fall();
+        hp_older::views_over();
+        hp_runs::comes_on();
         match self.lexer.next_tag(alloc, &mut self.input) {
             Ok(Some(tag)) => {
                 self.handle_one(alloc, tag)?;
@@ -144,6 +151,9 @@ impl<'p, B: Below + Drop> Parsing<'p, B> {
         ensures reads { IfOk result (WentOn (stage B.heard self.old) (stage B.heard self.new)) }
     {
         hp_lexer::steps_fall();
+        hp_older::answers_over();
+        hp_older::views_over();
+        hp_runs::comes_on();
         match self.lexer.next(alloc, &mut self.input)? {
             Step::Tokens { tokens, .. } => {
                 self.handle_all(alloc, tokens)?;
@@ -199,7 +209,6 @@ impl<'p, B: Below + Drop> Parsing<'p, B> {
         requires takes { takes_text (split_of self.old.view) ≡ true }
         ensures { OnOk result (Handled (stage B.heard self.old) (stage B.heard self.new) (as_run text.entry ∷ [])) }
     {
-        hp_lexer::steps_fall();
         hp_model::lexer_apart();
         hp_older::tokens_over();
         hp_older::views_over();

@@ -1,0 +1,26 @@
+use Rattle.std.proofs.Common.{◌∷◌, [], map, subst}
+use Rattle.std.specs.Prelude.{◌-◌, ◌^◌}
+use Rattle.hp_tokens.specs.Rows.{character}
+use Rattle.hp_model.specs.Texts.{as_run}
+use Rattle.hp_fragment.proofs.Stepping.{same-further, text-further}
+use Rattle.hp_fragment.proofs.Turning.{step-smaller, went-nowhere}
+use Rattle.hp_fragment.specs.Reading.{Handled, Stage, stage}
+use Rattle.hp_fragment.proofs.parsing.Parsing.take_text.Goals as goal
+
+pub returns-in_ok-put_text-in-Some-clause-tried : goal.returns-in_ok-put_text-in-Some-clause-tried
+returns-in_ok-put_text-in-Some-clause-tried g c =
+    step-smaller c.steps_fall.ensures.steps (stage g.B.Below.heard c.args.self.now) (stage g.B.Below.heard c.next_text.new.self) (stage g.B.Below.heard c.put_text.new.self) (map character c.in-Some.text)
+    (c.next_text.new.self.lexer.rested - 2 ^ 32) c.requires.ready c.in-Some.ensures.stepped.stepped c.in-Some.ensures.held c.in-Some.ensures.names c.in_ok-put_text-in-Some.ensures.input c.in_ok-put_text-in-Some.ensures.turned
+
+pub returns-in_ok-put_text-in-Some-clause-reads : goal.returns-in_ok-put_text-in-Some-clause-reads
+returns-in_ok-put_text-in-Some-clause-reads g c =
+    text-further c.views_over.ensures.valid c.comes_on.ensures.text c.texts_over.ensures.takes (stage g.B.Below.heard c.args.self.now) (stage g.B.Below.heard c.put_text.new.self) c.next_text.new.self.lexer c.next_text.new.self.input
+    c.in-Some.text c.requires.ready c.in-Some.ensures.stepped c.requires.takes
+    (subst (λ (p : Stage). Handled p (stage g.B.Below.heard c.put_text.new.self) (as_run c.in-Some.text ∷ [])) c.in-Some.ensures.same c.in_ok-put_text-in-Some.ensures)
+
+pub returns-in-None-clause-tried : goal.returns-in-None-clause-tried
+returns-in-None-clause-tried g c =
+    went-nowhere (stage g.B.Below.heard c.args.self.now) (stage g.B.Below.heard c.next_text.new.self) c.in-None.ensures c.requires.ready
+
+pub returns-in-None-clause-reads : goal.returns-in-None-clause-reads
+returns-in-None-clause-reads g c = same-further (stage g.B.Below.heard c.args.self.now) (stage g.B.Below.heard c.next_text.new.self) c.in-None.ensures
