@@ -266,6 +266,16 @@ impl OpenElements {
         renew(&mut self.standing, depth);
     }
 
+    /// Takes so many elements from a depth on out; the top is at 0. It takes no memory.
+    pub fn take_out_many(&mut self, depth: usize, count: usize)
+        requires { depth + count ≤ length self.old }
+        ensures { self.new ≡ take depth self.old ++ drop (depth + count) self.old }
+    {
+        let standing = &mut self.standing;
+        standing.take_out_many(depth, count);
+        renew(standing, depth);
+    }
+
     /// Takes the top `count` elements off; they come with the topmost first. At an `Err`, which comes only for want of memory,
     /// the stack is spent.
     pub fn lift(&mut self, alloc: Global, count: usize) -> Result<List<OpenElement>, NoMemory>
