@@ -13,8 +13,8 @@ taken xs now new len d n v l h e =
     let first : len - n - d ≡ length xs - (d + n) = omega (arith, m) in
     let second : len - n - d + n ≡ length xs - d = omega (arith, m, b) in
     rw (e, second) (reverse-append (take (len - n - d) xs) (drop (length xs - d) xs)
-      ∙ (ap₂ (λ a c. a ++ c) (take_reverse d xs (omega (arith, b))) (ap (λ k. reverse (take k xs)) first ∙ drop_reverse (d + n) xs b)
-      ∙ ap (λ r. take d r ++ drop (d + n) r) v))
+    ∙ (ap₂ (λ a c. a ++ c) (take_reverse d xs (omega (arith, b))) (ap (λ k. reverse (take k xs)) first ∙ drop_reverse (d + n) xs b)
+    ∙ ap (λ r. take d r ++ drop (d + n) r) v))
 
 pub returns : goal.returns
 returns g c =
