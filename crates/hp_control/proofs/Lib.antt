@@ -10,4 +10,6 @@ pub mod TextTests
 pub mod TagTests
 pub mod StartLemmas
 pub mod OlderLemmas
+pub mod TreeLengths
+pub mod TellingLemmas
 mod Setting

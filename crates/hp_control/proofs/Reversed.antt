@@ -15,7 +15,7 @@ pub drop_reverse : {X : Type 0} (n : ℕ) (xs : List X) → n ≤ length xs → 
 drop_reverse n xs h = sym (ap (drop n) (reverse_parts (length xs - n) xs) ∙ drop_at _ _ n (length_back n xs h))
 
 -- the last n of the list, turned round
-take_reverse : {X : Type 0} (n : ℕ) (xs : List X) → n ≤ length xs → reverse (drop (length xs - n) xs) ≡ take n (reverse xs)
+pub take_reverse : {X : Type 0} (n : ℕ) (xs : List X) → n ≤ length xs → reverse (drop (length xs - n) xs) ≡ take n (reverse xs)
 take_reverse n xs h = sym (ap (take n) (reverse_parts (length xs - n) xs) ∙ take_at _ _ n (length_back n xs h))
 
 -- the list without one item, counted from its end, turned round

@@ -10,6 +10,7 @@ pub mod Truth
 pub mod Viewing
 pub mod Parts
 pub mod Nothing
+pub mod Telling
 pub mod Plan
 pub mod Running
 pub mod Holds
