@@ -123,11 +123,12 @@ suits_any t c = go (c.skip_lf && is_line_feed t)
     go true = suits_rest (after_first t) (settled c)
     go false = turns_any nothing (bound (settled c)) t (settled c)
 
+-- the handling over nothing, where nothing is older
+pub handled_known : (t : Token) (v : Split) → IsRead t → StandsOn nothing v → IsValid (state_over v nothing) → EndsOver nothing v (end_by (answer_of nothing) (handle_plan t v)) (handle_at_once (state_over v nothing) t)
+handled_known t v read st valid = handled_over nothing any_act any_test acts_known tests_known t v read st valid (suits_any t (state_over v nothing))
+
 handled_whole : (t : Token) (v : Split) → IsRead t → StandsOn nothing v → IsValid (state_over v nothing) → EndsAs v (end_by (answer_of nothing) (handle_plan t v)) (handle_at_once (state_over v nothing) t)
-handled_whole t v read st valid =
-    let c = state_over v nothing in
-    whole_of v (end_by (answer_of nothing) (handle_plan t v)) (handle_at_once c t)
-    (handled_over nothing any_act any_test acts_known tests_known t v read st valid (suits_any t c))
+handled_whole t v read st valid = whole_of v (end_by (answer_of nothing) (handle_plan t v)) (handle_at_once (state_over v nothing) t) (handled_known t v read st valid)
 
 whole_end : (t : Token) (v : Split) (end : Result Reached Crossing) → EndsAs v end (handle_at_once (state_over v nothing) t) → EndsWhole t v end
 whole_end t v (Ok r) m = m

@@ -38,11 +38,11 @@ pub matches_alike : (s : ControlState) (v : Split) (end : Result Split Crossing)
 matches_alike s v (Ok w) o m = done_alike s v w o m
 matches_alike s v (Err crossing) o m = m
 
-either : (a b : Bool) → a ≡ false → b ≡ false → (a || b) ≡ false
+pub either : (a b : Bool) → a ≡ false → b ≡ false → (a || b) ≡ false
 either false b h k = k
 either true b h k = absurd (cc)
 
-alike_after : (s : ControlState) (u v w : List Edit) (o p : Outcome) → MakeSame v (u ++ o.edits) → MakeSame w (v ++ p.edits) → MakeSame w (u ++ (after o p).edits)
+pub alike_after : (s : ControlState) (u v w : List Edit) (o p : Outcome) → MakeSame v (u ++ o.edits) → MakeSame w (v ++ p.edits) → MakeSame w (u ++ (after o p).edits)
 alike_after s u v w o p h k = λ tree.
     k tree ∙ (applied_after tree v p.edits ∙ (ap (λ t. applied_all t p.edits) (h tree) ∙ (sym (applied_after tree (u ++ o.edits) p.edits) ∙ ap (applied_all tree) (append_assoc u o.edits p.edits))))
 

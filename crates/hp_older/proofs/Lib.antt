@@ -21,5 +21,10 @@ pub mod Going
 pub mod Rows
 pub mod Table
 pub mod Chunks
+pub mod Truly
+pub mod Before
+pub mod Began
 pub mod Tokens
+pub mod Texts
+pub mod Asked
 pub mod Whole

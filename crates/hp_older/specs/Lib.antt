@@ -1,3 +1,4 @@
 pub mod GoesOn
+pub mod Over
 pub mod Laws
-pub mod Chunk
+pub mod Tokens

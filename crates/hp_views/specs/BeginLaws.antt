@@ -174,14 +174,19 @@ pub record StartsOver (s : ControlState) (v : Split) : Type 0 where
   pub same : state_over v s ≡ s
   pub stands : StandsOn s v
 
-begins_by : (s : ControlState) (o : Option Rest) → rest_of s.lex.machine.state ≡ o → IsValid s → IsOlder s → is_rooted s.stack ≡ true → IsResting (entry_answer s.lex.machine.after_cr s.mode s.original s.skip_lf o) → StartsOver s (begins (entry_answer s.lex.machine.after_cr s.mode s.original s.skip_lf o))
-begins_by s None e h older root rests = absurd rests
-begins_by s (Some r) e h older root rests = record {
-  same = ap (λ l. record s { lex = l; pending = s.pending ++ []; frameset_ok = s.frameset_ok && not false; next = s.next + 0 }) (lexer_again r s.lex (rest_back s.lex.machine.state r e) h.lex) ∙ shifted_into s;
-  stands =
-      let there = open_there s.stack s.next root older.stack_ids in
-      record { older = older; text = refl; base = record { rooted = root; left = there.0; made = there.1 } };
-}
+begins_by : (s : ControlState) (o : Option Rest) → rest_of s.lex.machine.state ≡ o → IsValid s → IsResting (entry_answer s.lex.machine.after_cr s.mode s.original s.skip_lf o) → state_over (begins (entry_answer s.lex.machine.after_cr s.mode s.original s.skip_lf o)) s ≡ s
+begins_by s None e h rests = absurd rests
+begins_by s (Some r) e h rests = ap (λ l. record s { lex = l; pending = s.pending ++ []; frameset_ok = s.frameset_ok && not false; next = s.next + 0 }) (lexer_again r s.lex (rest_back s.lex.machine.state r e) h.lex) ∙ shifted_into s
+
+-- a view that begins over a state is that state
+pub begins_same : (s : ControlState) → IsValid s → IsResting (answer_of s ask.Entry) → state_over (begins (answer_of s ask.Entry)) s ≡ s
+begins_same s h rests = begins_by s (rest_of s.lex.machine.state) refl h rests
+
+stands_by : (s : ControlState) (o : Option Rest) → IsOlder s → is_rooted s.stack ≡ true → IsResting (entry_answer s.lex.machine.after_cr s.mode s.original s.skip_lf o) → StandsOn s (begins (entry_answer s.lex.machine.after_cr s.mode s.original s.skip_lf o))
+stands_by s None older root rests = absurd rests
+stands_by s (Some r) older root rests =
+    let there = open_there s.stack s.next root older.stack_ids in
+    record { older = older; text = refl; base = record { rooted = root; left = there.0; made = there.1 } }
 
 pub starts_over : (s : ControlState) → IsValid s → IsOlder s → is_rooted s.stack ≡ true → IsResting (answer_of s ask.Entry) → StartsOver s (begins (answer_of s ask.Entry))
-starts_over s h older root rests = begins_by s (rest_of s.lex.machine.state) refl h older root rests
+starts_over s h older root rests = record { same = begins_same s h rests; stands = stands_by s (rest_of s.lex.machine.state) older root rests }

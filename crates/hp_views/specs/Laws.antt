@@ -133,8 +133,9 @@ pub record RemovesMean : Type 0 where
   pub take_off : (number : ℕ) → FaithfulToOwn (take_off_plan number) take_off number
   pub remove_entry : (number : ℕ) → FaithfulToOwn (remove_entry_plan number) remove_entry number
 
--- a view begins where its state is
+-- a view begins where its state is, and stands on it where html is open
 pub record BeginsMean : Type 0 where
+  pub same : (s : ControlState) → IsValid s → IsResting (answer_of s ask.Entry) → state_over (begins (answer_of s ask.Entry)) s ≡ s
   pub over : (s : ControlState) → IsValid s → IsOlder s → is_rooted s.stack ≡ true → IsResting (answer_of s ask.Entry) → StartsOver s (begins (answer_of s ask.Entry))
 
 -- over a known state each act is done as it is in that state, and none crosses

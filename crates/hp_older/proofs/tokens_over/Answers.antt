@@ -1,5 +1,5 @@
-use Rattle.hp_older.proofs.Tokens.{chunks-stay, tokens-go_on, tokens-handled, tokens-told}
+use Rattle.hp_older.proofs.Tokens.{tokens-go_on, tokens-handled, tokens-told}
 use Rattle.hp_older.proofs.tokens_over.Goals as goal
 
 pub returns : goal.returns
-returns c = record { told = tokens-told; goes_on = tokens-go_on; handled = tokens-handled; stays = chunks-stay }
+returns c = record { told = tokens-told; goes_on = tokens-go_on; handled = tokens-handled }
