@@ -86,7 +86,7 @@ impl TellingWrite for Flushes<'_> {
     ghost is_flushed = { λ w. w.flushed };
 
     fn flush_told(&mut self) -> bool {
-        self.flush().is_ok() && self.flushed
+        io::Write::flush(self).is_ok() && self.flushed
     }
 
     ghost always = { λ w. refl };
