@@ -10,4 +10,7 @@ pub mod TextTests
 pub mod TagTests
 pub mod StartLemmas
 pub mod OlderLemmas
+pub mod QuestionLemmas
+pub mod Once
+pub mod KeptOnce
 mod Setting
