@@ -12,4 +12,7 @@ pub mod StartLemmas
 pub mod OlderLemmas
 pub mod TreeLengths
 pub mod TellingLemmas
+pub mod QuestionLemmas
+pub mod Once
+pub mod KeptOnce
 mod Setting

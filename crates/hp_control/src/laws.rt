@@ -1,5 +1,5 @@
 //! The laws of plans and acts, for the crates above. Each contract is one of them; the bodies do nothing.
-ghost use Rattle.hp_control.specs.Laws.{FaithfulInOrder, FaithfulByTest, MeansWhereTrue, KeptWhereTrue, NothingOlder, ValidIsOlder};
+ghost use Rattle.hp_control.specs.Laws.{FaithfulInOrder, FaithfulByTest, MeansWhereTrue, KeptWhereTrue, KeptOnceWhereTrue, StayDistinct, NothingOlder, ValidIsOlder};
 ghost use Rattle.hp_control.specs.Telling.{NamedOver, FixedMeansSame, NamedOnce, NamedRoom, ToldOnce, ToldRoom, ToldMakesSame};
 ghost use Rattle.hp_control.specs.Examples.{Examples};
 
@@ -13,6 +13,8 @@ pub fn plans_follow()
 pub fn answers_tell()
     ensures means { MeansWhereTrue }
     ensures kept { KeptWhereTrue }
+    ensures once { KeptOnceWhereTrue }
+    ensures distinct { StayDistinct }
 {}
 
 /// Without an older state no act touches one.
