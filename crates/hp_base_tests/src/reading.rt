@@ -57,15 +57,17 @@ fn a_reader_is_a_source(rt: HostRuntime) {
     assert!(rt; reads_one(rt.alloc(), false) && reads_one(rt.alloc(), true));
 }
 
-/// A writer whose flushes fail, where it says so.
+/// A writer whose flushes fail, where it says so. It keeps whether the last one went well and nothing was written since.
 #[derive(Drop)]
 struct Flushes<'b> {
     into: &'b mut [u8],
     fails: bool,
+    flushed: bool,
 }
 
 impl io::Write for Flushes<'_> {
     fn write(&mut self, piece: &[u8]) -> io::Result<usize> {
+        self.flushed = false;
         self.into.write(piece)
     }
 
@@ -73,12 +75,19 @@ impl io::Write for Flushes<'_> {
         if self.fails {
             return Err(io::Error::from(io::ErrorKind::Other));
         }
+        self.flushed = true;
         Ok(())
     }
 }
 
 impl TellingWrite for Flushes<'_> {
     ghost tells = { false };
+
+    ghost is_flushed = { λ w. w.flushed };
+
+    fn flush_told(&mut self) -> bool {
+        io::Write::flush(self).is_ok() && self.flushed
+    }
 
     ghost always = { λ w. refl };
 }
@@ -88,7 +97,12 @@ impl TellingWrite for Flushes<'_> {
 fn writes_hello(room: usize, fails: bool, fault: Option<u64>, wanted: &[u8]) -> bool {
     let mut bytes = [b'.'; 5];
     let into = &mut bytes[..room.min(5)];
-    let mut sink = StreamSink::new(Flushes { into, fails });
+    let writer = Flushes {
+        into,
+        fails,
+        flushed: true,
+    };
+    let mut sink = StreamSink::new(writer);
     let found = match write_whole(&mut sink, b"hello") {
         Ok(()) => None,
         Err(fault) => Some(fault.taken),

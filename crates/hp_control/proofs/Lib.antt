@@ -10,4 +10,9 @@ pub mod TextTests
 pub mod TagTests
 pub mod StartLemmas
 pub mod OlderLemmas
+pub mod TreeLengths
+pub mod TellingLemmas
+pub mod QuestionLemmas
+pub mod Once
+pub mod KeptOnce
 mod Setting

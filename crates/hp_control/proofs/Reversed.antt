@@ -1,5 +1,5 @@
 -- What a list turned round is, where a part is taken off.
-use Rattle.std.proofs.Common.{◌≡◌, ℕ, suc, ◌+◌, ◌-◌, ◌<◌, ◌≤◌, List, ◌∷◌, ◌++◌, length, take, drop, get_or, reverse, ap, sym, ◌∙◌, arith, length-drop, drop-cons}
+use Rattle.std.proofs.Common.{◌≡◌, ℕ, suc, ◌+◌, ◌-◌, ◌<◌, ◌≤◌, List, ◌∷◌, ◌++◌, length, take, drop, reverse, ap, sym, ◌∙◌, arith, length-drop}
 use Rattle.std.proofs.lemmas.List.{length-reverse, reverse-append, take-append-drop, take_at, drop_at}
 use Rattle.std.specs.List.{remove, insert}
 use Rattle.hp_control.proofs.Setting.{turned}
@@ -15,7 +15,7 @@ pub drop_reverse : {X : Type 0} (n : ℕ) (xs : List X) → n ≤ length xs → 
 drop_reverse n xs h = sym (ap (drop n) (reverse_parts (length xs - n) xs) ∙ drop_at _ _ n (length_back n xs h))
 
 -- the last n of the list, turned round
-take_reverse : {X : Type 0} (n : ℕ) (xs : List X) → n ≤ length xs → reverse (drop (length xs - n) xs) ≡ take n (reverse xs)
+pub take_reverse : {X : Type 0} (n : ℕ) (xs : List X) → n ≤ length xs → reverse (drop (length xs - n) xs) ≡ take n (reverse xs)
 take_reverse n xs h = sym (ap (take n) (reverse_parts (length xs - n) xs) ∙ take_at _ _ n (length_back n xs h))
 
 -- the list without one item, counted from its end, turned round

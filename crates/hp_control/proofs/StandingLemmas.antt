@@ -103,32 +103,32 @@ renewed_summaries ss us vs d n s t o u dn h at was first second same e a =
     let r = summaries_renewed (elements_of ss) (summaries_of ss) d s.element u.summary k (summaries_number ss) (element_at ss d s h at) i b in
     subst (λ es. AreSummaries (drop d es) (drop d (summaries_of vs))) (sym f) (subst (λ ws. AreSummaries (drop d (elements_of ss)) (drop d ws)) (sym g) r)
 
--- one taken out
-pub room_above : (ss ts : List Standing) (d : ℕ) → d < length ss → ts ≡ take d ss ++ drop (d + 1) ss → d ≤ length ts
-room_above ss ts d h e =
+-- what stands from a depth on, up to another, taken out
+pub room_above : (ss ts : List Standing) (d n : ℕ) → d ≤ length ss → ts ≡ take d ss ++ drop n ss → d ≤ length ts
+room_above ss ts d n h e =
     let t : length (take d ss) ≡ d = length-take-le d ss (omega (arith, h)) in
-    let l : length ts ≡ length (take d ss) + length (drop (d + 1) ss) = ap length e ∙ length-append (take d ss) (drop (d + 1) ss) in
+    let l : length ts ≡ length (take d ss) + length (drop n ss) = ap length e ∙ length-append (take d ss) (drop n ss) in
     omega (arith, t, l)
 
-pub elements_without : (ss ts : List Standing) (d : ℕ) → ts ≡ take d ss ++ drop (d + 1) ss → elements_of ts ≡ take d (elements_of ss) ++ drop (d + 1) (elements_of ss)
-elements_without ss ts d e =
-    ap elements_of e ∙ (elements_joined (take d ss) (drop (d + 1) ss)
-    ∙ (ap (λ es. es ++ elements_of (drop (d + 1) ss)) (elements_taken d ss)
-    ∙ ap (λ es. take d (elements_of ss) ++ es) (elements_dropped (d + 1) ss)))
+pub elements_without : (ss ts : List Standing) (d n : ℕ) → ts ≡ take d ss ++ drop n ss → elements_of ts ≡ take d (elements_of ss) ++ drop n (elements_of ss)
+elements_without ss ts d n e =
+    ap elements_of e ∙ (elements_joined (take d ss) (drop n ss)
+    ∙ (ap (λ es. es ++ elements_of (drop n ss)) (elements_taken d ss)
+    ∙ ap (λ es. take d (elements_of ss) ++ es) (elements_dropped n ss)))
 
-summaries_without_one : (ss ts : List Standing) (d : ℕ) → ts ≡ take d ss ++ drop (d + 1) ss → summaries_of ts ≡ take d (summaries_of ss) ++ drop (d + 1) (summaries_of ss)
-summaries_without_one ss ts d e =
-    ap summaries_of e ∙ (summaries_joined (take d ss) (drop (d + 1) ss)
-    ∙ (ap (λ ws. ws ++ summaries_of (drop (d + 1) ss)) (summaries_above d ss)
-    ∙ ap (λ ws. take d (summaries_of ss) ++ ws) (summaries_below (d + 1) ss)))
+summaries_without : (ss ts : List Standing) (d n : ℕ) → ts ≡ take d ss ++ drop n ss → summaries_of ts ≡ take d (summaries_of ss) ++ drop n (summaries_of ss)
+summaries_without ss ts d n e =
+    ap summaries_of e ∙ (summaries_joined (take d ss) (drop n ss)
+    ∙ (ap (λ ws. ws ++ summaries_of (drop n ss)) (summaries_above d ss)
+    ∙ ap (λ ws. take d (summaries_of ss) ++ ws) (summaries_below n ss)))
 
-pub told_under : (ss ts : List Standing) (d : ℕ) → d < length ss → ts ≡ take d ss ++ drop (d + 1) ss → AreSummaries (elements_of ss) (summaries_of ss) → AreSummaries (drop d (elements_of ts)) (drop d (summaries_of ts))
-told_under ss ts d h e a =
-    let k : d < length (elements_of ss) = omega (arith, h, elements_count ss) in
-    let r = summaries_under (elements_of ss) (summaries_of ss) d k a in
+pub told_under : (ss ts : List Standing) (d n : ℕ) → d ≤ length ss → ts ≡ take d ss ++ drop n ss → AreSummaries (elements_of ss) (summaries_of ss) → AreSummaries (drop d (elements_of ts)) (drop d (summaries_of ts))
+told_under ss ts d n h e a =
+    let k : d ≤ length (elements_of ss) = omega (arith, h, elements_count ss) in
+    let r = summaries_under (elements_of ss) (summaries_of ss) d n k a in
     let xs = elements_of ss in
     let ws = summaries_of ss in
-    subst (λ es. AreSummaries (drop d es) (drop d (summaries_of ts))) (sym (elements_without ss ts d e)) (subst (λ vs. AreSummaries (drop d (take d (elements_of ss) ++ drop (d + 1) (elements_of ss))) (drop d vs)) (sym (summaries_without_one ss ts d e)) r)
+    subst (λ es. AreSummaries (drop d es) (drop d (summaries_of ts))) (sym (elements_without ss ts d n e)) (subst (λ vs. AreSummaries (drop d (take d (elements_of ss) ++ drop n (elements_of ss))) (drop d vs)) (sym (summaries_without ss ts d n e)) r)
 
-pub shown_without : (ss ts : List Standing) (es : List OpenElement) (d : ℕ) → elements_of ss ≡ es → ts ≡ take d ss ++ drop (d + 1) ss → elements_of ts ≡ take d es ++ drop (d + 1) es
-shown_without ss ts es d v e = elements_without ss ts d e ∙ ap (λ xs. take d xs ++ drop (d + 1) xs) v
+pub shown_without : (ss ts : List Standing) (es : List OpenElement) (d n : ℕ) → elements_of ss ≡ es → ts ≡ take d ss ++ drop n ss → elements_of ts ≡ take d es ++ drop n es
+shown_without ss ts es d n v e = elements_without ss ts d n e ∙ ap (λ xs. take d xs ++ drop n xs) v

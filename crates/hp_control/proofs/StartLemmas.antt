@@ -13,7 +13,7 @@ use Rattle.std.specs.Prelude.{true}
 use Rattle.hp_control.specs.States.{ControlState, IsValid, LexFits, start, lex_start, IsFormatting, is_template_mode}
 
 start_lex : LexFits lex_start
-start_lex = record { parts = refl; ahead = refl; last_tag = refl }
+start_lex = record { parts = refl; token = refl; ahead = refl; last_tag = refl }
 
 pub start_valid : IsValid start
 start_valid = record {

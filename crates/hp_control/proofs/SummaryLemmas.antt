@@ -1,10 +1,10 @@
 -- What is known at each element of a stack of it and all below, as the stack changes.
-use Rattle.std.proofs.Common.{◌≡◌, ℕ, zero, suc, ◌+◌, ◌-◌, ◌<◌, List, [], ◌∷◌, ◌++◌, length, take, drop, get_or, set, refl, ap, sym, subst, ◌∙◌, arith, drop-cons, drop_at, length-append, length-drop}
+use Rattle.std.proofs.Common.{◌≡◌, ℕ, zero, suc, ◌+◌, ◌<◌, ◌≤◌, List, [], ◌∷◌, ◌++◌, length, take, drop, get_or, set, refl, ap, sym, subst, ◌∙◌, arith, drop-cons, drop_at}
 use Rattle.std.proofs.lemmas.List.{drop-set, length-take-le}
 use Rattle.hp_control.specs.declared.element.OpenElement.{OpenElement}
 use Rattle.hp_control.specs.declared.open_elements.Summary.{Summary}
 use Rattle.hp_control.specs.Ends.{paragraph_from, paragraph_end}
-use Rattle.hp_control.specs.Standings.{highest_id, summary_of, summary_from, summaries, AreSummaries, first_summary}
+use Rattle.hp_control.specs.Standings.{summary_of, summary_from, summaries, AreSummaries, first_summary}
 
 counted : (xs : List OpenElement) → length (summaries xs) ≡ length xs
 counted [] = refl
@@ -48,12 +48,12 @@ summaries_renewed xs ws d x w h l at e a =
 pub summaries_put : {xs : List OpenElement} {ws : List Summary} (x : OpenElement) (w : Summary) → AreSummaries xs ws → w ≡ summary_from x (summary_of xs) → AreSummaries (x ∷ xs) (w ∷ ws)
 summaries_put {xs} {ws} x w a e = summaries_pushed x w a (e ∙ ap (summary_from x) (sym (summaries_first a)))
 
--- the same item taken out of both
-under : {X : Type 0} (d : ℕ) (xs : List X) → d < length xs → drop d (take d xs ++ drop (d + 1) xs) ≡ drop (d + 1) xs
-under d xs h = drop_at (take d xs) (drop (d + 1) xs) d (length-take-le d xs (omega (arith, h)))
+-- the same items taken out of both
+under : {X : Type 0} (d n : ℕ) (xs : List X) → d ≤ length xs → drop d (take d xs ++ drop n xs) ≡ drop n xs
+under d n xs h = drop_at (take d xs) (drop n xs) d (length-take-le d xs h)
 
-pub summaries_under : (xs : List OpenElement) (ws : List Summary) (d : ℕ) → d < length xs → AreSummaries xs ws → AreSummaries (drop d (take d xs ++ drop (d + 1) xs)) (drop d (take d ws ++ drop (d + 1) ws))
-summaries_under xs ws d h a =
+pub summaries_under : (xs : List OpenElement) (ws : List Summary) (d n : ℕ) → d ≤ length xs → AreSummaries xs ws → AreSummaries (drop d (take d xs ++ drop n xs)) (drop d (take d ws ++ drop n ws))
+summaries_under xs ws d n h a =
     let l : length ws ≡ length xs = summaries_count a in
-    let k : d < length ws = omega (arith, h, l) in
-    subst (λ ys. AreSummaries ys (drop d (take d ws ++ drop (d + 1) ws))) (sym (under d xs h)) (subst (AreSummaries (drop (d + 1) xs)) (sym (under d ws k)) (summaries_dropped (d + 1) a))
+    let k : d ≤ length ws = omega (arith, h, l) in
+    subst (λ ys. AreSummaries ys (drop d (take d ws ++ drop n ws))) (sym (under d n xs h)) (subst (AreSummaries (drop n xs)) (sym (under d n ws k)) (summaries_dropped n a))

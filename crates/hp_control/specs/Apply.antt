@@ -26,6 +26,11 @@ abbrev pub shifted_entry : ℕ → FormattingEntry → FormattingEntry
 shifted_entry from Marker = Marker
 shifted_entry from (Element id tag) = Element (from + id) tag
 
+-- so counted, its id stays within 64 bits
+abbrev pub IsShiftable : ℕ → FormattingEntry → Type 0
+IsShiftable from Marker = Unit {0}
+IsShiftable from (Element id tag) = from + id < 2 ^ 64
+
 -- the form pointer after the change
 abbrev pub form_after : FormChange → ControlState → Option ℕ
 form_after form.Kept s = s.form

@@ -3,12 +3,14 @@ use Rattle.std.specs.Prelude.{◌≡◌, Bool, true, false, List, Result}
 use Rattle.hp_control.specs.declared.question.Crossing.{Crossing}
 use Rattle.hp_control.specs.declared.question.Question.{Question}
 use Rattle.hp_control.specs.declared.question.Answer.{Answer}
+use Rattle.hp_control.specs.declared.question.Kept.{Kept}
 use Rattle.hp_control.specs.States.{ControlState, IsValid, Fits}
 use Rattle.hp_control.specs.Nothing.{nothing}
 use Rattle.hp_control.specs.Apply.{IsOlder}
 use Rattle.hp_control.specs.Holds.{Holds}
 use Rattle.hp_control.specs.Outcome.{Outcome, Act, touches, and_then, choose}
-use Rattle.hp_control.specs.Plan.{Plan, followed_by, asked_by, kept_pairs, Heard, Runs}
+use Rattle.hp_control.specs.Plan.{Plan, followed_by, asked_by, added_each, kept_pairs, Heard, Runs}
+use Rattle.hp_control.specs.Guessing.{AreDistinct, AreSaid}
 use Rattle.hp_control.specs.Agree.{AllTrue}
 use Rattle.hp_control.specs.Faithful.{Split, state_over, StandsOn, Matches, IsSaid, Faithful, FaithfulTest}
 use Rattle.hp_control.specs.Steps.{Step}
@@ -28,6 +30,16 @@ MeansWhereTrue = (step : Step) (old new : Heard) (v : Split) (end : Result Split
 -- what is kept of questions holds exactly where what is said to them is true
 abbrev pub KeptWhereTrue : Type 0
 KeptWhereTrue = (s : ControlState) (says : Question → Answer) (qs : List Question) → (AllTrue s says qs → Holds (kept_pairs says qs) s) × (Holds (kept_pairs says qs) s → AllTrue s says qs)
+
+-- what is kept of questions, each once, holds with what was kept before exactly where what is said to them is true
+abbrev pub KeptOnceWhereTrue : Type 0
+KeptOnceWhereTrue =
+    (s : ControlState) (says : Question → Answer) (kept : List Kept) (qs : List Question) → AreSaid says kept
+    → (Holds kept s → AllTrue s says qs → Holds (added_each kept (kept_pairs says qs)) s) × (Holds (added_each kept (kept_pairs says qs)) s → Holds kept s × AllTrue s says qs)
+
+-- pairs stay distinct
+abbrev pub StayDistinct : Type 0
+StayDistinct = (kept more : List Kept) → AreDistinct kept → AreDistinct (added_each kept more)
 
 -- without an older state no act touches one
 abbrev pub NothingOlder : Type 0

@@ -10,7 +10,11 @@ pub mod Truth
 pub mod Viewing
 pub mod Parts
 pub mod Nothing
+pub mod Telling
+pub mod QuestionParts
+pub mod Hashing
 pub mod Plan
+pub mod Guessing
 pub mod Running
 pub mod Holds
 pub mod Agree

@@ -1,9 +1,11 @@
 -- What a step asks of the older state, and how it goes on by each answer.
-use Rattle.std.specs.Prelude.{◌≡◌, List, [], ◌∷◌, ◌++◌, Option, Some, None, Result, Ok, Err, map}
+use Rattle.std.specs.Prelude.{◌≡◌, Bool, if◌then◌else◌, List, [], ◌∷◌, ◌++◌, Option, Some, None, Result, Ok, Err, map}
+use Rattle.std.specs.List.{list_any}
 use Rattle.hp_control.specs.declared.question.Crossing.{Crossing}
 use Rattle.hp_control.specs.declared.question.Question.{Question}
 use Rattle.hp_control.specs.declared.question.Answer.{Answer}
 use Rattle.hp_control.specs.declared.question.Kept.{Kept}
+use Rattle.hp_control.specs.QuestionParts.{same_question}
 
 pub data Plan (X : Type 0) : Type 0 where
   gives : (x : X) → Plan X
@@ -36,9 +38,22 @@ pub record Heard : Type 0 where
 abbrev pub kept_pairs : (Question → Answer) → List Question → List Kept
 kept_pairs says qs = map (λ q. record { question = q; answer = says q }) qs
 
+-- whether the question is among those of the pairs
+abbrev pub is_asked : List Kept → Question → Bool
+is_asked kept q = list_any (λ k. same_question k.question q) kept
+
+-- with that pair behind, where its question isn't among them
+abbrev pub added : List Kept → Kept → List Kept
+added kept pair = if is_asked kept pair.question then kept else kept ++ pair ∷ []
+
+-- with each of these pairs, in their order
+abbrev pub added_each : List Kept → List Kept → List Kept
+added_each kept [] = kept
+added_each kept (pair ∷ more) = added_each (added kept pair) more
+
 abbrev pub kept_with : Option (List Kept) → List Kept → Option (List Kept)
 kept_with None more = None
-kept_with (Some kept) more = Some (kept ++ more)
+kept_with (Some kept) more = Some (added_each kept more)
 
 -- after these questions
 abbrev pub noting : Heard → List Question → Heard

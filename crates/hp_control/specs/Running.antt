@@ -1,12 +1,12 @@
 -- Plans carried out one after the other, and what remains of one: the invariant of each loop over acts.
 use Rattle.std.specs.Prelude.{◌≡◌, List, [], ◌∷◌, ◌++◌, Option, Some, None, Result, Ok, Err, refl}
 use Rattle.hp_control.specs.declared.question.Crossing.{Crossing}
-use Rattle.std.proofs.Common.{sym, subst, ap, ◌∙◌, append_assoc}
+use Rattle.std.proofs.Common.{sym, subst, ap, ◌∙◌}
 use Rattle.std.proofs.lemmas.List.{append-nil, map-append}
 use Rattle.hp_control.specs.declared.question.Question.{Question}
 use Rattle.hp_control.specs.declared.question.Answer.{Answer}
 use Rattle.hp_control.specs.declared.question.Kept.{Kept}
-use Rattle.hp_control.specs.Plan.{Plan, gives, crosses, asks, followed_by, end_by, asked_by, Heard, kept_pairs, kept_with, noting, Runs}
+use Rattle.hp_control.specs.Plan.{Plan, gives, crosses, asks, followed_by, end_by, asked_by, Heard, added, added_each, kept_pairs, kept_with, noting, Runs}
 
 abbrev pub on_end : {X Y : Type 0} → Result X Crossing → (X → Result Y Crossing) → Result Y Crossing
 on_end (Err crossing) next = Err crossing
@@ -26,13 +26,17 @@ asked_then says (gives x) next = refl
 asked_then says (crosses crossing) next = refl
 asked_then says (asks q go) next = ap (λ l. q ∷ l) (asked_then says (go (says q)) next)
 
+pub added_twice : (kept xs ys : List Kept) → added_each (added_each kept xs) ys ≡ added_each kept (xs ++ ys)
+added_twice kept [] ys = refl
+added_twice kept (x ∷ xs) ys = added_twice (added kept x) xs ys
+
 kept_twice : (kept : Option (List Kept)) (xs ys : List Kept) → kept_with (kept_with kept xs) ys ≡ kept_with kept (xs ++ ys)
 kept_twice None xs ys = refl
-kept_twice (Some kept) xs ys = ap Some (append_assoc kept xs ys)
+kept_twice (Some kept) xs ys = ap Some (added_twice kept xs ys)
 
 kept_none : (kept : Option (List Kept)) → kept ≡ kept_with kept []
 kept_none None = refl
-kept_none (Some kept) = ap Some (sym (append-nil kept))
+kept_none (Some kept) = refl
 
 pub noting_more : (h : Heard) (qs rs : List Question) → noting (noting h qs) rs ≡ noting h (qs ++ rs)
 noting_more h qs rs = ap (λ k. record { says = h.says; kept = k }) (kept_twice h.kept (kept_pairs h.says qs) (kept_pairs h.says rs) ∙ ap (kept_with h.kept) (sym (map-append (λ q. record { question = q; answer = h.says q }) qs rs)))

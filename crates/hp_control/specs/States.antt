@@ -3,7 +3,7 @@ use Rattle.std.specs.Prelude.{◌≡◌, ℕ, ◌<◌, ◌≤◌, ◌^◌, Bool,
 use Rattle.std.specs.Str.{bytes_eq}
 use Rattle.std.specs.Char.{is_ascii_alphanumeric}
 use Rattle.std.specs.List.{list_all}
-use Rattle.hp_elements.specs.Names.{text_of, lowered}
+use Rattle.hp_elements.specs.Names.{text_of}
 use Rattle.hp_elements.specs.Kinds.{is_html as is_html_space}
 use Rattle.hp_elements.specs.declared.known.Known.{Known}
 use Rattle.hp_elements.specs.KnownNames as known
@@ -15,6 +15,7 @@ use Rattle.hp_elements.specs.declared.token.Rest.TheVariants.{Data}
 use Rattle.hp_tokens.specs.declared.lexing.LexState.{LexState}
 use Rattle.hp_tokens.specs.Rows.{resting}
 use Rattle.hp_tokens.specs.States.{enter}
+use Rattle.hp_tokens.specs.Valid.{has_token, is_front, is_front_without_case}
 use Rattle.hp_tokens.specs.declared.state.State.{State}
 use Rattle.hp_tokens.specs.declared.state.State.TheVariants.{MarkupDeclarationOpen, AfterDoctypeName, NamedCharacterReference}
 use Rattle.hp_control.specs.declared.element.OpenElement.{OpenElement}
@@ -144,24 +145,19 @@ abbrev pub IsFormatting : FormattingEntry → Type 0
 IsFormatting Marker = Unit {0}
 IsFormatting (Element id tag) = (tag.namespace ≡ Html) × (in_set Formatting tag.namespace tag.name ≡ true)
 
--- the first is a part of the second that isn't the whole, from its start on
-abbrev pub is_proper_prefix : List ℕ → List ℕ → Bool
-is_proper_prefix [] [] = false
-is_proper_prefix [] (y ∷ ys) = true
-is_proper_prefix (x ∷ xs) [] = false
-is_proper_prefix (x ∷ xs) (y ∷ ys) = x == y && is_proper_prefix xs ys
-
 -- code points of which the lexer doesn't know yet what they mean (13.2.5.42, 13.2.5.56, 13.2.5.73)
 abbrev pub may_be_ahead : State → List ℕ → Bool
 may_be_ahead MarkupDeclarationOpen text =
-    is_proper_prefix text (codes "--") || is_proper_prefix (lowered text) (codes "doctype") || is_proper_prefix text (codes "[CDATA[")
-may_be_ahead AfterDoctypeName text = is_proper_prefix (lowered text) (codes "public") || is_proper_prefix (lowered text) (codes "system")
+    is_front text (codes "--") || (is_front_without_case text (codes "doctype") || is_front text (codes "[CDATA["))
+may_be_ahead AfterDoctypeName text = is_front_without_case text (codes "public") || is_front_without_case text (codes "system")
 may_be_ahead NamedCharacterReference text = list_all is_ascii_alphanumeric text
 may_be_ahead _ text = bytes_eq text []
 
--- the machine has no parts but those that its state uses, and code points are read ahead only where they are needed
+-- The machine has exactly the parts that its state uses: none that the state doesn't use, and the token that it does. Code points
+-- are read ahead only where they are needed.
 pub record LexFits (l : LexState) : Type 0 where
   pub parts : enter l.machine.state l.machine ≡ l.machine
+  pub token : has_token l.machine.state l.machine.return_to l.machine.building ≡ true
   pub ahead : may_be_ahead l.machine.state l.ahead ≡ true
   pub last_tag : IsSome l.machine.last_tag
 

@@ -1,14 +1,13 @@
 //! The state below a chunk, as far as it is known.
-ghost use Rattle.std.specs.Prelude.{◌≡◌, ◌∷◌, ◌++◌, [], IfOk, Some, None, Ok};
+ghost use Rattle.std.specs.Prelude.{◌≡◌, IfOk, OnErr, None, Ok};
 ghost use Rattle.hp_control.specs.Truth.{answer_of};
 ghost use Rattle.hp_control.specs.Nothing.{nothing};
 ghost use Rattle.hp_control.specs.Plan.{Heard, Runs, asks, gives};
 ghost use Rattle.hp_control.specs.declared.question.Question.{Question};
 ghost use Rattle.hp_control.specs.declared.question.Answer.{Answer};
 
-use crate::items::lose;
-use crate::question::{Answer, Assumptions, EntryKind, FactKind, Kept, Question};
-use hp_elements::{List, Mode, Name, NoMemory, Rest};
+use crate::question::{Answer, EntryKind, FactKind, Question};
+use hp_elements::{Mode, Name, NoMemory, Rest};
 use std::alloc::Global;
 
 /// What is below a chunk: a state that is asked.
@@ -16,9 +15,11 @@ pub trait Below {
     /// What is answered to each question, and what was kept of the answers.
     ghost heard: { Self → Heard };
 
-    /// Asks the state. The answer is what it says, and the pair is kept where answers are kept.
+    /// Asks the state. The answer is what it says, and the pair is kept where answers are kept. At an `Err`, which comes only
+    /// for want of memory, nothing is kept.
     fn ask(&mut self, alloc: Global, question: Question) -> Result<Answer, NoMemory>
-        ensures { IfOk result (λ answer. Runs (heard self.old) (heard self.new) (asks question gives) (Ok answer)) };
+        ensures asked { IfOk result (λ answer. Runs (heard self.old) (heard self.new) (asks question gives) (Ok answer)) }
+        ensures unchanged { OnErr result (heard self.new ≡ heard self.old) };
 }
 
 /// No older state: it answers as a state with empty lists, and keeps nothing.
@@ -88,50 +89,5 @@ impl<P: Predictor> Predictor for &P {
 
     fn say(&self, alloc: Global, question: &Question) -> Result<Answer, NoMemory> {
         (**self).say(alloc, question)
-    }
-}
-
-/// An older state that is guessed: it answers as the predictor, and keeps each pair.
-#[derive(Drop)]
-pub struct Guess<P: Drop> {
-    pub predictor: P,
-    pub kept: Assumptions,
-}
-
-impl<P: Drop> Guess<P> {
-    /// The guesses of that predictor, of which none was made yet.
-    pub fn new(predictor: P) -> Guess<P>
-        ensures { result ≡ record { predictor = predictor; kept = [] } }
-    {
-        Guess {
-            predictor,
-            kept: List::new(),
-        }
-    }
-}
-
-impl<P: Predictor + Drop> Below for Guess<P> {
-    ghost heard = { λ guess. record { says = P.says guess.predictor; kept = Some guess.kept } };
-
-    fn ask(&mut self, alloc: Global, question: Question) -> Result<Answer, NoMemory> {
-        match self.predictor.say(alloc, &question) {
-            Ok(answer) => keep(alloc, &mut self.kept, Kept { question, answer }),
-            Err(failed) => {
-                lose(question);
-                Err(failed)
-            }
-        }
-    }
-}
-
-/// Keeps a pair, and gives its answer.
-fn keep(alloc: Global, pairs: &mut Assumptions, pair: Kept) -> Result<Answer, NoMemory>
-    ensures kept { IfOk result (λ _. pairs.new ≡ pairs.old ++ pair ∷ []) }
-    ensures answer { IfOk result (λ answer. answer ≡ pair.answer) }
-{
-    pairs.push(alloc, pair)?;
-    match pairs.last() {
-        Some(pair) => pair.answer.copy(alloc),
-        None => unreachable!(),
     }
 }

@@ -3,16 +3,21 @@
 #![tactic(auto)]
 
 mod answers;
+mod asked;
 mod below;
 mod change;
 mod control;
 mod copies;
 mod edit;
 mod element;
+mod guess;
+mod hashing;
 mod items;
 mod kinds;
 pub mod laws;
+mod laying;
 mod open_elements;
+mod pairs;
 mod question;
 mod reset;
 mod sameness;
@@ -25,13 +30,15 @@ mod truths;
 mod walks;
 
 pub use answers::answer;
-pub use below::{Below, Guess, Nothing, Predictor};
+pub use below::{Below, Nothing, Predictor};
 pub use change::{Change, FormChange, Refusal};
 pub use control::{Control, lex_start};
 pub use edit::{Child, Edit, Edits, Place, Ref};
 pub use element::{FormattingEntry, OpenElement};
+pub use guess::Guess;
 pub use kinds::{is_html, is_named, is_within};
-pub use open_elements::{OpenElements, WalkEnd};
+pub use laying::put_listed;
+pub use open_elements::{OpenElements, WalkEnd, put_open};
 pub use question::{Answer, Assumptions, Crossing, EntryKind, FactKind, Kept, Question};
 pub use reset::{mode_of, reset_from};
 pub use spelled::same_name;

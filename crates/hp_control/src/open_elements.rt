@@ -1,6 +1,6 @@
 //! The stack of open elements (13.2.4.2), which knows at each element whether a p element is in button scope, and the highest id
 //! from there down.
-ghost use Rattle.std.specs.Prelude.{◌≡◌, ◌+◌, ◌-◌, ◌<◌, ◌≤◌, ◌==◌, true, [], ◌∷◌, ◌++◌, length, take, drop, is_some, OnOk, OnErr, IfOk, MatchOption, slice_index_or};
+ghost use Rattle.std.specs.Prelude.{◌≡◌, ◌+◌, ◌-◌, ◌<◌, ◌≤◌, ◌==◌, true, [], ◌∷◌, ◌++◌, length, take, drop, is_some, OnOk, OnErr, IfOk, IfErr, MatchOption, slice_index_or};
 ghost use Rattle.hp_control.specs.Ends.{paragraph_from, paragraph_end};
 ghost use Rattle.hp_control.specs.Standings.{elements_of, summaries_of, highest_id, summary_from, AreSummaries, first_summary};
 ghost use Rattle.hp_control.specs.Walks.{open_at};
@@ -9,7 +9,7 @@ use crate::element::OpenElement;
 use crate::kinds::is_within;
 use crate::stack::Stack;
 use hp_elements::{Kinds, Known, List, Name, Namespace, NoMemory, Point, SetName};
-use std::alloc::Global;
+use std::alloc::{AllocFailed, Global};
 use std::marker::Model;
 
 /// Where a walk down a stack ends: at a goal, at a stop, or below the last element.
@@ -266,6 +266,16 @@ impl OpenElements {
         renew(&mut self.standing, depth);
     }
 
+    /// Takes so many elements from a depth on out; the top is at 0. It takes no memory.
+    pub fn take_out_many(&mut self, depth: usize, count: usize)
+        requires { depth + count ≤ length self.old }
+        ensures { self.new ≡ take depth self.old ++ drop (depth + count) self.old }
+    {
+        let standing = &mut self.standing;
+        standing.take_out_many(depth, count);
+        renew(standing, depth);
+    }
+
     /// Takes the top `count` elements off; they come with the topmost first. At an `Err`, which comes only for want of memory,
     /// the stack is spent.
     pub fn lift(&mut self, alloc: Global, count: usize) -> Result<List<OpenElement>, NoMemory>
@@ -292,5 +302,25 @@ impl OpenElements {
             self.push(alloc, item)?;
         }
         Ok(())
+    }
+}
+
+/// Puts an element on top of the stack. At an `Err`, which comes only for want of memory, the stack is as before and the element
+/// comes back.
+pub fn put_open(
+    alloc: Global,
+    stack: &mut OpenElements,
+    element: OpenElement,
+) -> Result<(), AllocFailed<OpenElement>>
+    ensures ok { OnOk result (stack.new ≡ element ∷ stack.old) }
+    ensures err { OnErr result (stack.new ≡ stack.old) }
+    ensures returned { IfErr result (λ failed. failed.value ≡ element) }
+{
+    let summary = summary_from(&element, summary_at(&stack.standing, 0));
+    match stack.standing.push(alloc, Standing { element, summary }) {
+        Ok(()) => Ok(()),
+        Err(failed) => Err(AllocFailed {
+            value: failed.value.element,
+        }),
     }
 }

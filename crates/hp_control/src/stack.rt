@@ -1,5 +1,5 @@
 //! Stacks, which contracts see as lists with their top first.
-ghost use Rattle.std.specs.Prelude.{◌≡◌, ◌+◌, ◌-◌, ◌<◌, ◌≤◌, ◌==◌, [], ◌∷◌, ◌++◌, length, take, drop, OnOk, OnErr, IfErr, slice_index_or};
+ghost use Rattle.std.specs.Prelude.{◌≡◌, ◌+◌, ◌-◌, ◌<◌, ◌≤◌, ◌==◌, [], ◌∷◌, ◌++◌, length, take, drop, OnOk, OnErr, IfErr, slice_index_or, vec_len};
 
 use crate::items::{add, as_slice, begin};
 use hp_elements::NoMemory;
@@ -128,4 +128,24 @@ impl<T: Drop> Stack<T> {
             None => unreachable!(),
         }
     }
+
+    /// Takes so many items from a depth on out; the top is at 0. It takes no memory.
+    pub fn take_out_many(&mut self, depth: usize, count: usize)
+        requires { depth + count ≤ length self.old }
+        ensures { self.new ≡ take depth self.old ++ drop (depth + count) self.old }
+    {
+        let rest = self.len() - count;
+        let Some(items) = &mut self.items else {
+            return;
+        };
+        cut_out(items, rest - depth, count);
+    }
+}
+
+/// Takes so many items from a place on out.
+fn cut_out<T: Drop>(items: &mut Vec<T>, from: usize, count: usize)
+    requires { from + count ≤ vec_len items.old }
+    ensures { items.new.items ≡ take from items.old.items ++ drop (from + count) items.old.items }
+{
+    drop(items.drain(from..from + count));
 }

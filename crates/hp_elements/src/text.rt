@@ -1,5 +1,5 @@
 //! A text, which contracts see as its code points.
-ghost use Rattle.std.specs.Prelude.{◌≡◌, ◌+◌, ◌-◌, ◌<◌, ◌≤◌, ◌==◌, ◌↔◌, [], ◌∷◌, ◌++◌, length, take, drop, slice_range, sum_by, OnOk, OnErr, IfOk, IfSome, IfNone, IsNone, IsTrue, IsUtf8, string_bytes};
+ghost use Rattle.std.specs.Prelude.{◌≡◌, ◌+◌, ◌-◌, ◌<◌, ◌≤◌, ◌==◌, ◌↔◌, [], ◌∷◌, ◌++◌, length, take, drop, slice_range, sum_by, OnSome, OnOk, OnErr, IfOk, IfSome, IfNone, IsNone, IsTrue, IsUtf8, string_bytes};
 ghost use Rattle.std.specs.Str.{chars, IsCharBoundary};
 ghost use Rattle.std.specs.Char.{len_utf8};
 
@@ -202,12 +202,13 @@ impl<'p> Text<'p> {
     }
 
     /// Appends the next text where that takes no memory: where this one is empty, where it is a part of the page and the bytes
-    /// that stand behind it there are those of the next text, or where both are so short that they fit into the value itself.
-    /// Otherwise nothing changes, and the next text comes back.
+    /// that stand behind it there are those of the next text, or where both are so short that they fit into the value itself, in
+    /// 30 bytes. Otherwise nothing changes, and the next text comes back.
     pub fn join(&mut self, next: Text<'p>) -> Option<Text<'p>>
         ensures joined { IfNone result (self.new ≡ self.old ++ next.entry) }
         ensures kept { IfSome result (λ back. (back ≡ next.entry) × (self.new ≡ self.old)) }
         ensures empty { self.old ≡ [] → IsNone result }
+        ensures long { OnSome result (30 < sum_by len_utf8 self.old + sum_by len_utf8 next.entry) }
     {
         if self.is_empty() {
             *self = next;
@@ -242,7 +243,8 @@ fn put_behind(bytes: &[u8; SHORT], len: u8, more: &[u8]) -> [u8; SHORT]
 /// One text and then another, where both fit into the value itself.
 #[inline]
 fn both_here<'p>(front: &str, back: &str) -> Option<Text<'p>>
-    ensures { IfSome result (λ both. both ≡ chars front.now ++ chars back.now) }
+    ensures both { IfSome result (λ both. both ≡ chars front.now ++ chars back.now) }
+    ensures long { IfNone result (30 < length front.now + length back.now) }
 {
     if front.len() > SHORT || back.len() > SHORT - front.len() {
         return None;

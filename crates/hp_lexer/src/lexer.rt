@@ -1,5 +1,6 @@
 //! The lexer that a run over a page holds.
-ghost use Rattle.std.specs.Prelude.{◌≡◌, ◌-◌, ◌≤◌, ◌^◌, ℕ, IfOk, OnOk, IfSome, IfNone, IsTrue, true, false, Bool, [], ◌∷◌, Some, length};
+ghost use Rattle.std.specs.Prelude.{◌≡◌, ◌-◌, ◌≤◌, ◌^◌, ℕ, nat_lt, IfOk, OnOk, IfSome, IfNone, IsTrue, true, false, Bool, [], ◌∷◌, Some, length};
+ghost use Rattle.hp_tokens.specs.Advancing.{held};
 ghost use Rattle.hp_tokens.specs.declared.rows.Turn.TheVariants as turns;
 ghost use Rattle.hp_lexer.specs.Standing.{behind_cdata};
 
@@ -52,7 +53,7 @@ pub struct Lexer {
 
 impl Lexer {
     ghost use Rattle.hp_names.specs.BuiltIn.{built_in};
-    ghost use Rattle.hp_tokens.specs.Advancing.{held, unread, rest_state, end_of_text, lexing, Ends};
+    ghost use Rattle.hp_tokens.specs.Advancing.{unread, rest_state, end_of_text, lexing, Ends};
     ghost use Rattle.hp_tokens.specs.States.{enter, state_of_rest};
     ghost use Rattle.hp_lexer.specs.declared.lexer.Asked.TheVariants as asked;
     ghost use Rattle.hp_lexer.specs.declared.lexer.Step.TheVariants as steps;
@@ -78,7 +79,7 @@ impl Lexer {
         ensures lexer { IfOk result (λ lexer. lexer ≡ record { lex = state.now; names = built_in; asked = asked.Nothing; rested = 2 ^ 32 }) }
         ensures held { IfOk result (λ lexer. held lexer.lex ≤ 2 ^ 32) }
     {
-        if state.ahead.len_bytes() > ORIGIN {
+        if is_too_far_ahead(state) {
             return Err(NoMemory);
         }
         Ok(Lexer {
@@ -335,7 +336,7 @@ impl Lexer {
         ensures cut { OnOk result (held self.now.lex ≤ 2 ^ 32) }
         ensures used { OnOk result (input.now.text ≡ []) }
     {
-        if self.lex.ahead.len_bytes() > ORIGIN || input.peek().is_some() {
+        if is_too_far_ahead(&self.lex) || input.peek().is_some() {
             return Err(NoMemory);
         }
         Ok(())
@@ -366,6 +367,13 @@ impl Lexer {
         let names = self.names;
         make_all_end_moves(alloc, &mut state, &names)
     }
+}
+
+/// Whether more than 4 GiB were read ahead.
+fn is_too_far_ahead(state: &LexState) -> bool
+    ensures { result ≡ nat_lt (2 ^ 32) (held state.now) }
+{
+    state.ahead.len_bytes() > ORIGIN
 }
 
 /// The state behind `[CDATA[`: a CDATA section, or a comment.

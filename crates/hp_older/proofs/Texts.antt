@@ -1,5 +1,5 @@
 -- A text that goes into the current node as it comes, over any older state.
-use Rattle.std.proofs.Common.{◌≡◌, ℕ, List, [], ◌∷◌, ◌++◌, map, true, refl, sym, ap, ◌∙◌, subst, inl}
+use Rattle.std.proofs.Common.{◌≡◌, ℕ, List, [], ◌∷◌, ◌++◌, map, true, refl, sym, ap, ◌∙◌, arith, inl}
 use Rattle.std.specs.Prelude.{not, ◌&&◌, drop, Result, Ok, Err}
 use Rattle.std.proofs.lemmas.Bool.{and_parts, not-true}
 use Rattle.hp_tokens.specs.Rows.{character}
@@ -55,7 +55,8 @@ comes_alike s v (Ok r) h k same m = record {
 }
 
 pub texts-handled : TextsHandled
-texts-handled x xs s v old new end r true_all over takes none =
+texts-handled [] s v old new end r true_all over takes none some = absurd (omega (arith, some))
+texts-handled (x ∷ xs) s v old new end r true_all over takes none some =
     let c = state_over v s in
     let comes = texts_at_once x xs c (are-valid s v over) (texts-taken s v takes) none in
     comes_alike s v end (handle_at_once c (as_run (x ∷ xs))) (each_at_once c (map character (x ∷ xs))) comes.same

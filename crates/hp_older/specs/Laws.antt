@@ -1,6 +1,6 @@
 -- The laws of this crate: a view that begins over any older state, and what is handled and asked over it, as long as nothing older
 -- is touched (13.2.6).
-use Rattle.std.specs.Prelude.{◌≡◌, ℕ, Bool, true, false, List, [], ◌∷◌, ◌++◌, map, Result, Ok, Err}
+use Rattle.std.specs.Prelude.{◌≡◌, ℕ, ◌<◌, Bool, true, false, List, [], ◌∷◌, ◌++◌, length, map, Result, Ok, Err}
 use Rattle.std.specs.List.{list_all}
 use Rattle.std.specs.Option.{unwrap_or}
 use Rattle.hp_elements.specs.declared.token.Token.{Token}
@@ -98,9 +98,8 @@ TextsTaken = (s : ControlState) (v : Split) → takes_text v ≡ true → TakesT
 
 -- a text without U+0000 that is handled as one run is its code points, one by one
 abbrev pub TextsHandled : Type 0
-TextsHandled = (x : ℕ) (xs : List ℕ) (s : ControlState) (v : Split) (old new : Heard) (end : Result Reached Crossing) → Runs old new (handle_plan (as_run (x ∷ xs)) v) end
-    → AllTrue s old.says (asked_by old.says (handle_plan (as_run (x ∷ xs)) v)) → IsOver s v → takes_text v ≡ true → list_all (none_of (0 ∷ [])) (x ∷ xs) ≡ true
-    → ComesOver s v end (each_at_once (state_over v s) (map character (x ∷ xs)))
+TextsHandled = (text : List ℕ) (s : ControlState) (v : Split) (old new : Heard) (end : Result Reached Crossing) → Runs old new (handle_plan (as_run text) v) end → AllTrue s old.says (asked_by old.says (handle_plan (as_run text) v))
+    → IsOver s v → takes_text v ≡ true → list_all (none_of (0 ∷ [])) text ≡ true → 0 < length text → ComesOver s v end (each_at_once (state_over v s) (map character text))
 
 -- what is found out of the current node, by answers that are true of s, is so of the whole state
 abbrev pub ForeignTold : Type 0

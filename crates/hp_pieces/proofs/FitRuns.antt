@@ -4,7 +4,9 @@ use Rattle.std.specs.Prelude.{IsSome}
 use Rattle.hp_elements.specs.declared.token.Mode.{Mode}
 use Rattle.hp_elements.specs.declared.token.Mode.TheVariants as mode
 use Rattle.hp_elements.specs.declared.token.Rest.{Rest}
+use Rattle.hp_elements.specs.declared.token.Rest.TheVariants as rest
 use Rattle.hp_names.specs.BuiltIn.{built_in}
+use Rattle.hp_names.specs.References.{Reference}
 use Rattle.hp_tokens.specs.Moves.{Lexing, Emitted, Move, needs_more, asks_cdata, asks_last_tag, makes, ends, move}
 use Rattle.hp_tokens.specs.States.{enter, state_of_rest, uses_buffer, uses_return, uses_value}
 use Rattle.hp_tokens.specs.declared.building.Building.{Building}
@@ -26,6 +28,7 @@ use Rattle.hp_runs.specs.Pages.{Runs}
 use Rattle.hp_pieces.specs.Running.{parser_in, state_at}
 use Rattle.hp_pieces.proofs.FitRows.{Fits, entered}
 use Rattle.hp_pieces.proofs.FitTable.{MoveKeeps, move_keeps}
+use Rattle.hp_pieces.proofs.TokenTable.{MoveOwns, Own, move_owns, token_owned, token_there}
 
 switched-fits : (o : Option Rest) (l : Lexing) → Fits l.machine → Fits (switched o l).machine
 switched-fits None l h = h
@@ -54,6 +57,38 @@ goes_keep : {p q : Parser} {es : List Edit} → Goes (step (table built_in)) p e
 goes_keep here h = h
 goes_keep {p} (onward {q = q} {es = es} e g) h =
     goes_keep g (subst StepKeeps e (step_keeps p (move (table built_in) p.lexing) p.lexing.machine.state p.lexing.unread (move_keeps p.lexing h)))
+
+-- the same of the token under construction
+switched-owns : (o : Option Rest) (l : Lexing) → Own l → Own (switched o l)
+switched-owns None l h = h
+switched-owns (Some r) l h = rested r
+  where
+    rested : (q : Rest) → Own (switched (Some q) l)
+    rested rest.Data = refl
+    rested _ = refl
+
+built-owns : (es : List Emitted) (p : Parser) → Own p.lexing → Own (built p es).parser.lexing
+built-owns [] p h = h
+built-owns (e ∷ es) p h = built-owns es (told p (handle p.control e.token)) (switched-owns (handle p.control e.token).switch p.lexing h)
+
+abbrev StepOwns : Step → Type 0
+StepOwns rests = Unit {0}
+StepOwns (goes q es) = Own q.lexing
+
+step_owns : (p : Parser) (m : Move) → MoveOwns m → StepOwns (step_by p m)
+step_owns p needs_more k = tt
+step_owns p (asks_cdata f h) k = chosen (is_foreign_now p.control)
+  where
+    chosen : (b : Bool) → Own (cond b f h)
+    chosen true = k.0
+    chosen false = k.1
+step_owns p asks_last_tag k = tt
+step_owns p (makes l es) k = built-owns es (at_lexing p l) k
+step_owns p (ends es) k = tt
+
+goes_own : {names : List Reference} {p q : Parser} {es : List Edit} → Goes (step (table names)) p es q → Own p.lexing → Own q.lexing
+goes_own here h = h
+goes_own {names} {p} (onward {q = q} {es = es} e g) h = goes_own g (subst StepOwns e (step_owns p (move (table names) p.lexing) (move_owns names p.lexing h)))
 
 -- where no step is made, more text is needed
 needs : (p : Parser) (m : Move) (s : State) (text : List ℕ) → MoveKeeps s text m → ((q : Parser) (es : List Edit) → step_by p m ≡ goes q es → ⊥) → m ≡ needs_more
@@ -109,9 +144,12 @@ relex_valid c l v f = record {
 
 lex_fits : (s : ControlState) (text : List ℕ) (es : List Edit) (there : Parser) → Runs built_in (parser_in s) text es there → LexFits s.lex → LexFits (state_at there).lex
 lex_fits s text es there run f =
-    let h : Fits there.lexing.machine = goes_keep run.goes (from_parts s.lex.machine f.parts f.last_tag) in record {
-      parts = to_parts there.lexing.machine h;
-      ahead = subst (MoveKeeps there.lexing.machine.state there.lexing.unread) (needs_there run h) (move_keeps there.lexing h);
+    let m : Machine = there.lexing.machine in
+    let h : Fits m = goes_keep run.goes (from_parts s.lex.machine f.parts f.last_tag) in
+    let ahead : may_be_ahead m.state there.lexing.unread ≡ true = subst (MoveKeeps m.state there.lexing.unread) (needs_there run h) (move_keeps there.lexing h) in record {
+      parts = to_parts m h;
+      token = token_there m.state there.lexing.unread m.return_to m.building ahead (goes_own run.goes (token_owned s.lex.machine.state _ s.lex.machine.return_to s.lex.machine.building f.token));
+      ahead = ahead;
       last_tag = h.told;
     }
 

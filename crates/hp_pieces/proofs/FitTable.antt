@@ -1,7 +1,6 @@
 -- The moves of the whole table keep a machine that fits. Where more is needed, what is unread decides nothing yet.
-use Rattle.std.proofs.Common.{◌≡◌, ℕ, List, [], ◌∷◌, map, Bool, true, false, ◌&&◌, ◌||◌, cond, refl, ap, ◌∙◌, sym, subst, Option, None, Some}
+use Rattle.std.proofs.Common.{◌≡◌, ℕ, List, [], ◌∷◌, Bool, true, false, ◌&&◌, ◌||◌, cond, refl, sym, subst, Option, None, Some}
 use Rattle.std.specs.Prelude.{◌==◌, IsSome, IsTrue, codes}
-use Rattle.std.specs.Char.{to_ascii_lowercase}
 use Rattle.hp_names.specs.BuiltIn.{built_in}
 use Rattle.hp_names.specs.Longest.{is_open as is_open_name, longest}
 use Rattle.hp_names.specs.declared.names.Found.{Found}
@@ -9,7 +8,6 @@ use Rattle.hp_tokens.specs.Moves.{Lexing, Move, needs_more, asks_cdata, asks_las
 use Rattle.hp_tokens.specs.Ranks.{Falls}
 use Rattle.hp_tokens.specs.Rows.{Row, flushed, new_comment, putting_text}
 use Rattle.hp_tokens.specs.States.{return_state}
-use Rattle.hp_tokens.specs.Valid.{is_front}
 use Rattle.hp_tokens.specs.declared.building.Part.TheVariants as parts
 use Rattle.hp_tokens.specs.declared.machine.Machine.{Machine}
 use Rattle.hp_tokens.specs.declared.rows.Reads.{Reads}
@@ -26,11 +24,11 @@ use Rattle.hp_lex_raw.specs.Rows as raw_rows
 use Rattle.hp_lex_markup.specs.Fine as markup_fine
 use Rattle.hp_lex_markup.specs.Markup as markup
 use Rattle.hp_lex_markup.specs.Rows as markup_rows
-use Rattle.hp_lex_markup.specs.Words.{asks, count, is_open, is_open_keyword, is_open_markup, word}
+use Rattle.hp_lex_markup.specs.Words.{asks, count, is_open, word}
 use Rattle.hp_lex_markup.specs.declared.words.Word.{Word}
 use Rattle.hp_lex_markup.specs.declared.words.Word.TheVariants.{Hyphens, Doctype, Cdata, Public, System}
 use Rattle.hp_lexer.specs.Table.{table}
-use Rattle.hp_control.specs.States.{is_proper_prefix, may_be_ahead}
+use Rattle.hp_control.specs.States.{may_be_ahead}
 use Rattle.hp_pieces.proofs.FitNames.{open-built_in}
 use Rattle.hp_pieces.proofs.FitRows.{Fits, Keeps, cr-fits, entered, flushed-told}
 use Rattle.hp_pieces.proofs.FitMarkup as markup_fits
@@ -111,41 +109,16 @@ word_keeps None l c cs s h k =
     (no_end l.machine.state (read_as c) (markup_rows.row l.machine (Some (read_as c))).to.state (markup_rows.row l.machine (Some (read_as c))).reads (markup_fine.here_fine l.machine (Some (read_as c)) k).falls)
 word_keeps (Some w) l c cs s h k = asked_keeps (asks w) w l s l.unread h.told
 
--- the two ways in which the front of a word is said
-front-same : (xs ys : List ℕ) → is_front xs ys ≡ is_proper_prefix xs ys
-front-same [] [] = refl
-front-same [] (y ∷ ys) = refl
-front-same (x ∷ xs) [] = refl
-front-same (x ∷ xs) (y ∷ ys) = ap (λ b. x == y && b) (front-same xs ys)
-
-or-assoc : (a b c : Bool) → (a || (b || c)) ≡ true → ((a || b) || c) ≡ true
-or-assoc true b c h = refl
-or-assoc false b c h = h
-
-open_markup : (text : List ℕ) → is_open_markup text ≡ true → may_be_ahead MarkupDeclarationOpen text ≡ true
-open_markup text h =
-    let low : List ℕ = map to_ascii_lowercase text in
-    or-assoc (is_proper_prefix text (codes "--")) (is_proper_prefix low (codes "doctype")) (is_proper_prefix text (codes "[CDATA["))
-    (sym (ap (λ b. b || (is_front low (codes "doctype") || is_front text (codes "[CDATA["))) (front-same text (codes "--"))
-    ∙ (ap (λ b. is_proper_prefix text (codes "--") || (b || is_front text (codes "[CDATA["))) (front-same low (codes "doctype"))
-    ∙ ap (λ b. is_proper_prefix text (codes "--") || (is_proper_prefix low (codes "doctype") || b)) (front-same text (codes "[CDATA["))))
-    ∙ h)
-
-open_keyword : (text : List ℕ) → is_open_keyword text ≡ true → may_be_ahead AfterDoctypeName text ≡ true
-open_keyword text h =
-    let low : List ℕ = map to_ascii_lowercase text in
-    sym (ap (λ b. b || is_front low (codes "system")) (front-same low (codes "public")) ∙ ap (λ b. is_proper_prefix low (codes "public") || b) (front-same low (codes "system"))) ∙ h
-
 markup_keep : (s : State) (l : Lexing) (c : ℕ) (cs : List ℕ) → l.machine.state ≡ s → Fits l.machine → IsTrue (markup_rows.is_here s) → MoveKeeps s l.unread (markup.on_state s l c cs)
 markup_keep MarkupDeclarationOpen l c cs e h k = by_cases (is_open l.machine.state l.unread) refl
   where
     by_cases : (b : Bool) → is_open l.machine.state l.unread ≡ b → MoveKeeps MarkupDeclarationOpen l.unread (cond b needs_more (markup.word_read (word l.machine.state l.unread) l c cs))
-    by_cases true q = open_markup l.unread (subst (λ x. is_open x l.unread ≡ true) e q)
+    by_cases true q = subst (λ x. is_open x l.unread ≡ true) e q
     by_cases false q = word_keeps (word l.machine.state l.unread) l c cs MarkupDeclarationOpen h (subst (λ x. IsTrue (markup_rows.is_here x)) (sym e) refl)
 markup_keep AfterDoctypeName l c cs e h k = by_cases (is_open l.machine.state l.unread) refl
   where
     by_cases : (b : Bool) → is_open l.machine.state l.unread ≡ b → MoveKeeps AfterDoctypeName l.unread (cond b needs_more (markup.word_read (word l.machine.state l.unread) l c cs))
-    by_cases true q = open_keyword l.unread (subst (λ x. is_open x l.unread ≡ true) e q)
+    by_cases true q = subst (λ x. is_open x l.unread ≡ true) e q
     by_cases false q = word_keeps (word l.machine.state l.unread) l c cs AfterDoctypeName h (subst (λ x. IsTrue (markup_rows.is_here x)) (sym e) refl)
 markup_keep s l c cs e h k =
     row_here (markup_rows.has_row s) (markup_rows.row l.machine (Some (read_as c))) l c cs s l.unread k

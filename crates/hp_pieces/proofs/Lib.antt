@@ -4,6 +4,11 @@ pub mod FitRaw
 pub mod FitMarkup
 pub mod FitNames
 pub mod FitTable
+pub mod TokenRows
+pub mod TokenTags
+pub mod TokenRaw
+pub mod TokenMarkup
+pub mod TokenTable
 pub mod FitRuns
 pub mod SameRuns
 pub mod Joining

@@ -18,18 +18,18 @@ use Rattle.hp_predict.proofs.PartLemmas.{page, page_length, rooted, tall, stack_
 use Rattle.hp_predict.proofs.LengthLemmas.{names_length}
 
 rest_fits : (r : Rest) (after_cr : Bool) (name : List ℕ) → LexFits (record { machine = record (resting r after_cr) { last_tag = Some name }; ahead = [] })
-rest_fits rest.Data after_cr name = record { parts = refl; ahead = refl; last_tag = refl }
-rest_fits rest.Rcdata after_cr name = record { parts = refl; ahead = refl; last_tag = refl }
-rest_fits rest.Rawtext after_cr name = record { parts = refl; ahead = refl; last_tag = refl }
-rest_fits rest.Script after_cr name = record { parts = refl; ahead = refl; last_tag = refl }
-rest_fits rest.Plaintext after_cr name = record { parts = refl; ahead = refl; last_tag = refl }
-rest_fits rest.Escaped after_cr name = record { parts = refl; ahead = refl; last_tag = refl }
-rest_fits rest.EscapedDash after_cr name = record { parts = refl; ahead = refl; last_tag = refl }
-rest_fits rest.EscapedDashDash after_cr name = record { parts = refl; ahead = refl; last_tag = refl }
-rest_fits rest.Double after_cr name = record { parts = refl; ahead = refl; last_tag = refl }
-rest_fits rest.DoubleDash after_cr name = record { parts = refl; ahead = refl; last_tag = refl }
-rest_fits rest.DoubleDashDash after_cr name = record { parts = refl; ahead = refl; last_tag = refl }
-rest_fits rest.Cdata after_cr name = record { parts = refl; ahead = refl; last_tag = refl }
+rest_fits rest.Data after_cr name = record { parts = refl; token = refl; ahead = refl; last_tag = refl }
+rest_fits rest.Rcdata after_cr name = record { parts = refl; token = refl; ahead = refl; last_tag = refl }
+rest_fits rest.Rawtext after_cr name = record { parts = refl; token = refl; ahead = refl; last_tag = refl }
+rest_fits rest.Script after_cr name = record { parts = refl; token = refl; ahead = refl; last_tag = refl }
+rest_fits rest.Plaintext after_cr name = record { parts = refl; token = refl; ahead = refl; last_tag = refl }
+rest_fits rest.Escaped after_cr name = record { parts = refl; token = refl; ahead = refl; last_tag = refl }
+rest_fits rest.EscapedDash after_cr name = record { parts = refl; token = refl; ahead = refl; last_tag = refl }
+rest_fits rest.EscapedDashDash after_cr name = record { parts = refl; token = refl; ahead = refl; last_tag = refl }
+rest_fits rest.Double after_cr name = record { parts = refl; token = refl; ahead = refl; last_tag = refl }
+rest_fits rest.DoubleDash after_cr name = record { parts = refl; token = refl; ahead = refl; last_tag = refl }
+rest_fits rest.DoubleDashDash after_cr name = record { parts = refl; token = refl; ahead = refl; last_tag = refl }
+rest_fits rest.Cdata after_cr name = record { parts = refl; token = refl; ahead = refl; last_tag = refl }
 
 pub state_valid : (after_cr : Bool) (names : Names) → IsValid (state_for after_cr (names ++ page))
 state_valid after_cr names =

@@ -6,7 +6,7 @@
 //!   `TemplateInStack`, `older_reset` by `Reset`, `older_quiet` by `Reconstruct`, `older_listed` by `Listed`, `older_same` by `AppendToList`,
 //!   `older_pointer` by `HasForm`, `older_quirks` by `IsQuirks`, `older_frameset` by `FramesetOk`, `older_body` by `SecondIsBody`, `older_there` by that
 //!   test behind an own `body`, `older_foreign` by `IsHtml` where no element is left, `older_last_tag` by `LastTag`.
-//! - Calls within others: `is_seen`, `close` and `implied_except` by `CloseItem`, `has_paragraph` by `CloseParagraph`, `through_named` and
+//! - Calls within others: `is_seen` by `InScope`, `through` by `CloseItem`, `close`, `implied_except` and `has_paragraph` by `CloseParagraph`, `through_named` and
 //!   `end_form_in_template` by `EndForm` in a template, `pop_run` by `Implied`, `place` and `put` by `Characters`, `remove_entry` and `take_off` by
 //!   `CloseLink`, `append_entry` by `AppendToList`, `switch_to` by `Switch`.
 //! - `hp_foreign::goes_to_foreign` by `Handles`, `put_replacements` by `Replacement`; `hp_acts::handle` and `handle_text` by `Handles` and `Reads`.

@@ -2,10 +2,7 @@
 use Rattle.std.specs.Prelude.{ℕ, ◌+◌, ◌-◌, ◌^◌, ◌==◌, ◌||◌, ◌&&◌, not, Bool, min, List, ◌++◌, length, take, drop, Result, Ok, Err, if◌then◌else◌}
 use Rattle.std.specs.List.{list_any}
 use Rattle.hp_text.specs.declared.devices.Failed.{Failed}
-
--- the next number of a count in 64 bits, which stands still at its end
-abbrev pub next_count : ℕ → ℕ
-next_count n = min (n + 1) (2 ^ 64 - 1)
+use Rattle.hp_text.specs.Device.{next_count}
 
 -- a source: the bytes that are left, the most that a call gives, the numbers of the calls that fail, the
 -- number of the next call, and how many calls failed

@@ -1,9 +1,17 @@
 -- Streams: what is known of the bytes, and how many calls failed.
-use Rattle.std.specs.Prelude.{ℕ, ◌-◌, List, Option, option_map, length, take}
+use Rattle.std.specs.Prelude.{ℕ, ◌-◌, Bool, List, Option, option_map, length, take}
 
--- the bytes that a reader has left, or that a writer took and flushed, where they are told; and the count of faults
-pub record StreamState : Type 0 where
+-- a source over a reader: the bytes that the reader has left, where they are told, and the count of faults
+pub record SourceStream : Type 0 where
   pub bytes : Option (List ℕ)
+  pub faults : ℕ
+
+-- a sink over a writer: the bytes that were taken, where they are told; how many more the writer holds, since their flush failed; whether
+-- the writer has flushed all that it holds; and the count of faults
+pub record SinkStream : Type 0 where
+  pub bytes : Option (List ℕ)
+  pub unflushed : ℕ
+  pub is_flushed : Bool
   pub faults : ℕ
 
 -- the known bytes but the last ones, which are so many

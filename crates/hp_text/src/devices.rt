@@ -1,7 +1,7 @@
 //! What a page is read from and what its tree is written to.
 ghost use Rattle.std.specs.Prelude.{◌≡◌, ℕ, ◌+◌, ◌<◌, ◌≤◌, List, length, take, Option, IfOk, OnOk, OnErr};
 ghost use Rattle.std.specs.Io.KnownBytes.{prepend_known, append_known, IsAtEnd};
-ghost use Rattle.hp_text.specs.Device.{Rose};
+ghost use Rattle.hp_text.specs.Device.{next_count};
 
 use thiserror::Error;
 
@@ -28,8 +28,8 @@ pub trait Source {
         ensures given { IfOk result (λ n. left self.old ≡ prepend_known (take n room.new) (left self.new)) }
         ensures end { IfOk result (λ n. n ≡ 0 → 0 < length room.new → IsAtEnd (left self.new)) }
 
-        // A failure moves nothing, and the count of faults shows it, which rises at no other call.
-        ensures failed { OnErr result (Rose (faults self.old) (faults self.new)) }
+        // A failure moves nothing, and the count of faults shows it: it rises by one, and at no other call.
+        ensures failed { OnErr result (faults self.new ≡ next_count (faults self.old)) }
         ensures steady { OnOk result (faults self.new ≡ faults self.old) }
         ensures unmoved { OnErr result (left self.new ≡ left self.old) }
 
@@ -51,8 +51,8 @@ pub trait Sink {
         ensures took { IfOk result (λ n. taken self.new ≡ append_known (taken self.old) (take n piece.now)) }
         ensures some { IfOk result (λ n. 0 < length piece.now → 0 < n) }
 
-        // A failure takes nothing, and the count of faults shows it, which rises at no other call.
-        ensures failed { OnErr result (Rose (faults self.old) (faults self.new)) }
+        // A failure takes nothing, and the count of faults shows it: it rises by one, and at no other call.
+        ensures failed { OnErr result (faults self.new ≡ next_count (faults self.old)) }
         ensures steady { OnOk result (faults self.new ≡ faults self.old) }
         ensures unmoved { OnErr result (taken self.new ≡ taken self.old) }
 

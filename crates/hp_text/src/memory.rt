@@ -1,7 +1,7 @@
 //! Sources and sinks in memory.
 ghost use Rattle.std.specs.Prelude.{◌≡◌, ℕ, ◌+◌, ◌<◌, ◌≤◌, List, [], Some, Ok, IfOk, OnOk, OnErr, take, drop, min, length, vec_len, vec_capacity};
 ghost use Rattle.std.specs.Io.KnownBytes.{append_known, prepend_known, IsAtEnd};
-ghost use Rattle.hp_text.specs.Device.{Rose};
+ghost use Rattle.hp_text.specs.Device.{next_count};
 ghost use Rattle.hp_text.specs.Memory.{SourceState, source_answer, after_read, SinkState, sink_answer, after_write};
 
 use crate::NoMemory;
@@ -43,7 +43,7 @@ impl<'b> Source for SteadySource<'b> {
         ensures bound { IfOk result (λ n. n ≤ length room.new) }
         ensures given { IfOk result (λ n. Some self.old ≡ prepend_known (take n room.new) (Some self.new)) }
         ensures end { IfOk result (λ n. n ≡ 0 → 0 < length room.new → IsAtEnd (Some self.new)) }
-        ensures failed { OnErr result (Rose 0 0) }
+        ensures failed { OnErr result (0 ≡ next_count 0) }
         ensures steady { OnOk result (◌≡◌ {A = ℕ} 0 0) }
         ensures unmoved { OnErr result (Some self.new ≡ Some self.old) }
         ensures never_falls { 0 ≤ 0 }
@@ -126,7 +126,7 @@ impl Source for MemorySource {
         ensures bound { IfOk result (λ n. n ≤ length room.new) }
         ensures given { IfOk result (λ n. Some self.old.left ≡ prepend_known (take n room.new) (Some self.new.left)) }
         ensures end { IfOk result (λ n. n ≡ 0 → 0 < length room.new → IsAtEnd (Some self.new.left)) }
-        ensures failed { OnErr result (Rose self.old.faults self.new.faults) }
+        ensures failed { OnErr result (self.new.faults ≡ next_count self.old.faults) }
         ensures steady { OnOk result (self.new.faults ≡ self.old.faults) }
         ensures unmoved { OnErr result (Some self.new.left ≡ Some self.old.left) }
         ensures never_falls { self.old.faults ≤ self.new.faults }
@@ -217,7 +217,7 @@ impl Sink for MemorySink {
         ensures bound { IfOk result (λ n. n ≤ length piece.now) }
         ensures took { IfOk result (λ n. Some self.new.taken ≡ append_known (Some self.old.taken) (take n piece.now)) }
         ensures some { IfOk result (λ n. 0 < length piece.now → 0 < n) }
-        ensures failed { OnErr result (Rose self.old.faults self.new.faults) }
+        ensures failed { OnErr result (self.new.faults ≡ next_count self.old.faults) }
         ensures steady { OnOk result (self.new.faults ≡ self.old.faults) }
         ensures unmoved { OnErr result (Some self.new.taken ≡ Some self.old.taken) }
         ensures never_falls { self.old.faults ≤ self.new.faults }

@@ -1,8 +1,9 @@
 //! Sources and sinks over std's readers and writers. They tell of the bytes what the reader or the writer tells: nothing,
 //! where those are the standard input and output.
-ghost use Rattle.std.specs.Prelude.{◌≡◌, ◌<◌, ◌≤◌, Bool, true, false, is_some, IfSome, IfNone, length, take, refl};
-ghost use Rattle.std.specs.Io.KnownBytes.{append_known};
-ghost use Rattle.hp_text.specs.Streams.{StreamState, without_last};
+ghost use Rattle.std.specs.Prelude.{◌≡◌, ◌<◌, ◌≤◌, Bool, true, false, is_some, IsErr, IfOk, OnOk, OnErr, IfSome, OnSome, IfNone, length, take, refl};
+ghost use Rattle.std.specs.Io.KnownBytes.{append_known, Keeps};
+ghost use Rattle.hp_text.specs.Device.{next_count};
+ghost use Rattle.hp_text.specs.Streams.{SourceStream, SinkStream, without_last};
 
 use crate::devices::{Failed, Sink, Source};
 use std::io::{Read, Stderr, Stdin, Stdout, Write};
@@ -33,17 +34,37 @@ pub trait TellingWrite: Write {
     /// Whether they tell them.
     ghost tells: { Bool };
 
+    /// Whether a writer has flushed all that it holds. Always true of writers that don't tell this.
+    ghost is_flushed: { Self → Bool };
+
+    /// Flushes, and answers whether that went well: std's `flush` tells nothing of the bytes by its answer.
+    fn flush_told(&mut self) -> bool
+        ensures kept { Keeps (Self.contents self.old) (Self.contents self.new) }
+        ensures flushed { result ≡ true → is_flushed self.new ≡ true };
+
     ghost always: { (w : Self) → is_some (Self.contents w) ≡ tells };
 }
 
 impl TellingWrite for Stdout {
     ghost tells = { false };
 
+    ghost is_flushed = { λ _. true };
+
+    fn flush_told(&mut self) -> bool {
+        self.flush().is_ok()
+    }
+
     ghost always = { λ w. refl };
 }
 
 impl TellingWrite for Stderr {
     ghost tells = { false };
+
+    ghost is_flushed = { λ _. true };
+
+    fn flush_told(&mut self) -> bool {
+        self.flush().is_ok()
+    }
 
     ghost always = { λ w. refl };
 }
@@ -57,7 +78,7 @@ pub struct StreamSource<R: TellingRead> {
 }
 
 impl<R: TellingRead> Model for StreamSource<R> {
-    ghost Value = { StreamState };
+    ghost Value = { SourceStream };
 
     ghost view = { λ s. record { bytes = R.remaining s.reader; faults = s.faults } };
 }
@@ -98,8 +119,7 @@ impl<R: TellingRead> Source for StreamSource<R> {
 
 /// A sink that writes to a writer and flushes it after each write, so that no byte waits in a buffer. A
 /// write of no byte of a piece that has one, and a failed flush, count as failed writes. After a failed flush of some
-/// bytes nothing more is written, and each write fails. A contract sees the bytes that were written and flushed, where the
-/// writer tells them, and the count of faults.
+/// bytes nothing more is written, and each write fails. A contract sees a `SinkStream`.
 #[derive(Drop)]
 pub struct StreamSink<W: TellingWrite> {
     writer: W,
@@ -108,15 +128,25 @@ pub struct StreamSink<W: TellingWrite> {
 }
 
 impl<W: TellingWrite> Model for StreamSink<W> {
-    ghost Value = { StreamState };
+    ghost Value = { SinkStream };
 
-    ghost view = { λ s. record { bytes = without_last s.unflushed (W.contents s.writer); faults = s.faults } };
+    ghost view = { λ s. record {
+      bytes = without_last s.unflushed (W.contents s.writer);
+      unflushed = s.unflushed;
+      is_flushed = W.is_flushed s.writer;
+      faults = s.faults;
+    } };
 }
 
 impl<W: TellingWrite> StreamSink<W> {
     /// A sink into the writer.
     pub fn new(writer: W) -> Self
-        ensures { result ≡ record { bytes = W.contents writer; faults = 0 } }
+        ensures { result ≡ record {
+          bytes = W.contents writer;
+          unflushed = 0;
+          is_flushed = W.is_flushed writer;
+          faults = 0;
+        } }
     {
         StreamSink {
             writer,
@@ -137,6 +167,8 @@ impl<W: TellingWrite> StreamSink<W> {
         ensures bound { IfSome result (λ n. n ≤ length piece.now) }
         ensures took { IfSome result (λ n. self.new.bytes ≡ append_known self.old.bytes (take n piece.now)) }
         ensures some { IfSome result (λ n. 0 < length piece.now → 0 < n) }
+        ensures flushed { OnSome result (self.new.is_flushed ≡ true) }
+        ensures halted { 0 < self.old.unflushed → (result ≡ None) × (self.new ≡ self.old) }
         ensures unmoved { IfNone result (self.new.bytes ≡ self.old.bytes) }
         ensures faults { self.new.faults ≡ self.old.faults }
     {
@@ -147,7 +179,7 @@ impl<W: TellingWrite> StreamSink<W> {
         if taken == 0 && !piece.is_empty() {
             return None;
         }
-        if self.writer.flush().is_err() {
+        if !self.writer.flush_told() {
             self.unflushed = taken;
             return None;
         }
@@ -160,7 +192,20 @@ impl<W: TellingWrite> Sink for StreamSink<W> {
 
     ghost faults = { λ s. s.faults };
 
-    fn write(&mut self, piece: &[u8]) -> Result<usize, Failed> {
+    fn write(&mut self, piece: &[u8]) -> Result<usize, Failed>
+        ensures bound { IfOk result (λ n. n ≤ length piece.now) }
+        ensures took { IfOk result (λ n. self.new.bytes ≡ append_known self.old.bytes (take n piece.now)) }
+        ensures some { IfOk result (λ n. 0 < length piece.now → 0 < n) }
+        ensures failed { OnErr result (self.new.faults ≡ next_count self.old.faults) }
+        ensures steady { OnOk result (self.new.faults ≡ self.old.faults) }
+        ensures unmoved { OnErr result (self.new.bytes ≡ self.old.bytes) }
+        ensures never_falls { self.old.faults ≤ self.new.faults }
+
+        // What was written is flushed too. After a failed flush nothing more is written.
+        ensures flushed { OnOk result (self.new.is_flushed ≡ true) }
+        ensures halted { 0 < self.old.unflushed → IsErr result
+            × (self.new ≡ record self.old { faults = next_count self.old.faults }) }
+    {
         if let Some(taken) = self.pass_on(piece) {
             return Ok(taken);
         }

@@ -11,4 +11,3 @@ pub mod PlainRuns
 pub mod WholeTexts
 pub mod Searching
 pub mod Blocks
-pub mod Cutting

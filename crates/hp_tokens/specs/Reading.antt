@@ -1,5 +1,5 @@
 -- What a cursor has still to read.
-use Rattle.std.specs.Prelude.{◌≡◌, ◌≢◌, ℕ, ◌+◌, ◌<◌, ◌≤◌, ◌^◌, ◌++◌, ◌==◌, ◌&&◌, MatchOption, IfSome, nat_lt, true, false, sum_by, length, drop, take, slice_index, List, [], ◌∷◌, Option, None, Some, Bool}
+use Rattle.std.specs.Prelude.{◌≡◌, ℕ, ◌+◌, ◌<◌, ◌≤◌, ◌^◌, ◌++◌, ◌==◌, ◌&&◌, MatchOption, IfSome, nat_lt, true, false, sum_by, length, drop, take, slice_index, List, [], ◌∷◌, Option, None, Some, Bool}
 use Rattle.std.specs.List.{list_all}
 use Rattle.std.specs.Char.{len_utf8, encode_utf8, is_ascii_alphabetic}
 use Rattle.std.specs.Str.{IsUtf8, IsCharBoundary}
@@ -87,23 +87,3 @@ pub record IsAsciiFront (count : ℕ) (text : List ℕ) : Type 0 where
 pub record ReadsAscii (count : ℕ) (old new : Unread) : Type 0 where
   pub text : new.text ≡ drop count old.text
   pub place : new.place ≡ old.place + count
-
--- nothing stands behind a `>`
-abbrev pub EndsAtTag : List ℕ → Type 0
-EndsAtTag [] = Unit {0}
-EndsAtTag (c ∷ cs) = (c ≡ 62 → cs ≡ []) × EndsAtTag cs
-
--- the first bytes, up to the first `>` and with it; all of them where there is none
-pub record EndsBehindTag (bytes : List ℕ) (count : ℕ) : Type 0 where
-  pub within : count ≤ length bytes
-  pub closed : EndsAtTag (take count bytes)
-  pub some : count ≡ 0 → bytes ≡ []
-  pub boundary : IsUtf8 bytes → IsCharBoundary bytes count
-
--- a text up to its first `>` and with it, and what follows; both keep their places
-pub record SplitsAtTag (old front back : Unread) : Type 0 where
-  pub text : old.text ≡ front.text ++ back.text
-  pub front_place : front.place ≡ old.place
-  pub back_place : back.place ≡ old.place + sum_by len_utf8 front.text
-  pub closed : EndsAtTag front.text
-  pub some : old.text ≢ [] → front.text ≢ []

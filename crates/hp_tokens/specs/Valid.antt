@@ -1,16 +1,13 @@
--- Which states of the lexer can stand between two texts: each has exactly the parts that it uses, and its code points read
--- ahead decide nothing yet.
-use Rattle.std.specs.Prelude.{◌≡◌, ℕ, ◌==◌, ◌&&◌, ◌||◌, Bool, if◌then◌else◌, true, false, List, [], ◌∷◌, map, length, IsSome, Option, None, Some, codes}
-use Rattle.std.specs.List.{list_all}
-use Rattle.std.specs.Char.{is_ascii_alphanumeric, to_ascii_lowercase}
+-- Which token is under construction in each state of the lexer between two texts, and what the front of a word is.
+use Rattle.std.specs.Prelude.{ℕ, ◌==◌, ◌&&◌, Bool, if◌then◌else◌, true, false, List, [], ◌∷◌, map, Option, None, Some}
+use Rattle.std.specs.Char.{to_ascii_lowercase}
 use Rattle.hp_tokens.specs.declared.state.State.{State}
-use Rattle.hp_tokens.specs.declared.state.State.TheVariants.{TagName, RcdataEndTagName, RawtextEndTagName, ScriptDataEndTagName, ScriptDataEscapedEndTagName, BeforeAttributeName, AttributeName, AfterAttributeName, BeforeAttributeValue, AttributeValueDoubleQuoted, AttributeValueSingleQuoted, AttributeValueUnquoted, AfterAttributeValueQuoted, SelfClosingStartTag, BogusComment, MarkupDeclarationOpen, CommentStart, CommentStartDash, Comment, CommentLessThanSign, CommentLessThanSignBang, CommentLessThanSignBangDash, CommentLessThanSignBangDashDash, CommentEndDash, CommentEnd, CommentEndBang, DoctypeName, AfterDoctypeName, AfterDoctypePublicKeyword, BeforeDoctypePublicIdentifier, DoctypePublicIdentifierDoubleQuoted, DoctypePublicIdentifierSingleQuoted, AfterDoctypePublicIdentifier, BetweenDoctypePublicAndSystemIdentifiers, AfterDoctypeSystemKeyword, BeforeDoctypeSystemIdentifier, DoctypeSystemIdentifierDoubleQuoted, DoctypeSystemIdentifierSingleQuoted, AfterDoctypeSystemIdentifier, BogusDoctype, CharacterReference, NamedCharacterReference, AmbiguousAmpersand, NumericCharacterReference, HexadecimalCharacterReferenceStart, DecimalCharacterReferenceStart, HexadecimalCharacterReference, DecimalCharacterReference, NumericCharacterReferenceEnd}
+use Rattle.hp_tokens.specs.declared.state.State.TheVariants.{TagName, RcdataEndTagName, RawtextEndTagName, ScriptDataEndTagName, ScriptDataEscapedEndTagName, BeforeAttributeName, AttributeName, AfterAttributeName, BeforeAttributeValue, AttributeValueDoubleQuoted, AttributeValueSingleQuoted, AttributeValueUnquoted, AfterAttributeValueQuoted, SelfClosingStartTag, BogusComment, CommentStart, CommentStartDash, Comment, CommentLessThanSign, CommentLessThanSignBang, CommentLessThanSignBangDash, CommentLessThanSignBangDashDash, CommentEndDash, CommentEnd, CommentEndBang, DoctypeName, AfterDoctypeName, AfterDoctypePublicKeyword, BeforeDoctypePublicIdentifier, DoctypePublicIdentifierDoubleQuoted, DoctypePublicIdentifierSingleQuoted, AfterDoctypePublicIdentifier, BetweenDoctypePublicAndSystemIdentifiers, AfterDoctypeSystemKeyword, BeforeDoctypeSystemIdentifier, DoctypeSystemIdentifierDoubleQuoted, DoctypeSystemIdentifierSingleQuoted, AfterDoctypeSystemIdentifier, BogusDoctype, CharacterReference, NamedCharacterReference, AmbiguousAmpersand, NumericCharacterReference, HexadecimalCharacterReferenceStart, DecimalCharacterReferenceStart, HexadecimalCharacterReference, DecimalCharacterReference, NumericCharacterReferenceEnd}
 use Rattle.hp_tokens.specs.declared.state.Return.{Return}
 use Rattle.hp_tokens.specs.declared.building.Building.{Building}
 use Rattle.hp_tokens.specs.declared.building.Building.TheVariants as building
 use Rattle.hp_tokens.specs.declared.building.NewAttribute.{NewAttribute}
-use Rattle.hp_tokens.specs.declared.lexing.LexState.{LexState}
-use Rattle.hp_tokens.specs.States.{enter, is_in_value}
+use Rattle.hp_tokens.specs.States.{is_in_value}
 
 abbrev pub is_nothing : Building → Bool
 is_nothing building.Nothing = true
@@ -43,7 +40,11 @@ abbrev pub is_doctype : Building → Bool
 is_doctype (building.Doctype d) = true
 is_doctype _ = false
 
--- the token under construction is one of the state's
+-- a reference in a value stands in its tag; elsewhere nothing is under construction
+abbrev pub has_value : Return → Building → Bool
+has_value r b = if is_in_value r then is_tag_with_attribute b else is_nothing b
+
+-- The token under construction is the state's. Behind an attribute's name the attribute is under construction still.
 abbrev pub has_token : State → Return → Building → Bool
 has_token TagName r b = is_tag b
 has_token RcdataEndTagName r b = is_end_tag b
@@ -52,7 +53,7 @@ has_token ScriptDataEndTagName r b = is_end_tag b
 has_token ScriptDataEscapedEndTagName r b = is_end_tag b
 has_token BeforeAttributeName r b = is_tag b
 has_token AttributeName r b = is_tag_with_attribute b
-has_token AfterAttributeName r b = is_tag b
+has_token AfterAttributeName r b = is_tag_with_attribute b
 has_token BeforeAttributeValue r b = is_tag_with_attribute b
 has_token AttributeValueDoubleQuoted r b = is_tag_with_attribute b
 has_token AttributeValueSingleQuoted r b = is_tag_with_attribute b
@@ -84,15 +85,15 @@ has_token DoctypeSystemIdentifierDoubleQuoted r b = is_doctype b
 has_token DoctypeSystemIdentifierSingleQuoted r b = is_doctype b
 has_token AfterDoctypeSystemIdentifier r b = is_doctype b
 has_token BogusDoctype r b = is_doctype b
-has_token CharacterReference r b = (if is_in_value r then is_tag_with_attribute b else is_nothing b)
-has_token NamedCharacterReference r b = (if is_in_value r then is_tag_with_attribute b else is_nothing b)
-has_token AmbiguousAmpersand r b = (if is_in_value r then is_tag_with_attribute b else is_nothing b)
-has_token NumericCharacterReference r b = (if is_in_value r then is_tag_with_attribute b else is_nothing b)
-has_token HexadecimalCharacterReferenceStart r b = (if is_in_value r then is_tag_with_attribute b else is_nothing b)
-has_token DecimalCharacterReferenceStart r b = (if is_in_value r then is_tag_with_attribute b else is_nothing b)
-has_token HexadecimalCharacterReference r b = (if is_in_value r then is_tag_with_attribute b else is_nothing b)
-has_token DecimalCharacterReference r b = (if is_in_value r then is_tag_with_attribute b else is_nothing b)
-has_token NumericCharacterReferenceEnd r b = (if is_in_value r then is_tag_with_attribute b else is_nothing b)
+has_token CharacterReference r b = has_value r b
+has_token NamedCharacterReference r b = has_value r b
+has_token AmbiguousAmpersand r b = has_value r b
+has_token NumericCharacterReference r b = has_value r b
+has_token HexadecimalCharacterReferenceStart r b = has_value r b
+has_token DecimalCharacterReferenceStart r b = has_value r b
+has_token HexadecimalCharacterReference r b = has_value r b
+has_token DecimalCharacterReference r b = has_value r b
+has_token NumericCharacterReferenceEnd r b = has_value r b
 has_token _ r b = is_nothing b
 
 -- the text is the front of a longer word
@@ -105,16 +106,3 @@ is_front (c ∷ cs) (w ∷ ws) = c == w && is_front cs ws
 -- the same without ASCII case, of a word in lower case
 abbrev pub is_front_without_case : List ℕ → List ℕ → Bool
 is_front_without_case text word = is_front (map to_ascii_lowercase text) word
-
--- what was read ahead decides nothing yet; of a name it is enough here that it consists of letters and digits
-abbrev pub may_hold : State → List ℕ → Bool
-may_hold MarkupDeclarationOpen text = is_front text (codes "--") || is_front_without_case text (codes "doctype") || is_front text (codes "[CDATA[")
-may_hold AfterDoctypeName text = is_front_without_case text (codes "public") || is_front_without_case text (codes "system")
-may_hold NamedCharacterReference text = list_all is_ascii_alphanumeric text
-may_hold _ text = length text == 0
-
-pub record IsValid (s : LexState) : Type 0 where
-  pub parts : enter s.machine.state s.machine ≡ s.machine
-  pub token : has_token s.machine.state s.machine.return_to s.machine.building ≡ true
-  pub ahead : may_hold s.machine.state s.ahead ≡ true
-  pub last_tag : IsSome s.machine.last_tag

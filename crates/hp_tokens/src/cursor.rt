@@ -1,11 +1,10 @@
 //! A cursor over a text, which contracts see as its unread code points and the place of the first.
 ghost use Rattle.std.specs.Prelude.{◌≡◌, ℕ, List, [], ◌∷◌, ◌++◌, length, drop, take, IsUtf8, ◌+◌, ◌<◌, ◌≤◌, ◌^◌, MatchOption, true, false, slice_index, Bool};
 ghost use Rattle.std.specs.List.{list_all};
-ghost use Rattle.hp_tokens.specs.Reading.{EndsBehindTag};
 
 use crate::stops::four_stops_len;
 use hp_elements::Text;
-use memchr::{memchr, memchr3};
+use memchr::memchr3;
 use std::marker::Model;
 
 /// The place of a text's first byte. Places count from here, so that the few code points that stood before a text, and
@@ -55,7 +54,7 @@ impl<'p> Model for Cursor<'p> {
 
 impl<'p> Cursor<'p> {
     ghost use Rattle.std.specs.Str.{chars};
-    ghost use Rattle.hp_tokens.specs.Reading.{Unread, first, Reads, ReadsRun, StopsRun, ReadsAscii, SkipsRun, SkipsPairCr, IsFront, IsAsciiFront, SplitsAtTag, opens_start_tag, opens_end_tag};
+    ghost use Rattle.hp_tokens.specs.Reading.{Unread, first, Reads, ReadsRun, StopsRun, ReadsAscii, SkipsRun, SkipsPairCr, IsFront, IsAsciiFront, opens_start_tag, opens_end_tag};
     ghost use Rattle.std.specs.Prelude.{◌≢◌, Some, IsUtf8};
     ghost use Rattle.hp_tokens.specs.Plain.{none_of, whole_data_stops, whole_raw_stops};
     ghost use Rattle.hp_tokens.specs.Rows.{is_blank};
@@ -114,20 +113,6 @@ impl<'p> Cursor<'p> {
         let c = self.text[self.at..].chars().next()?;
         self.at += c.len_utf8();
         Some(c)
-    }
-
-    /// Takes the text up to its next `>` and with it, as a cursor of its own that counts from the same start; all of it where there
-    /// is no `>`.
-    pub fn split_at_tag(&mut self) -> Cursor<'p>
-        ensures { SplitsAtTag self.old result self.new }
-    {
-        let end = self.at + through_tag_len(&self.text.as_bytes()[self.at..]);
-        let front = Cursor {
-            text: &self.text[..end],
-            at: self.at,
-        };
-        self.at = end;
-        front
     }
 
     /// The unread bytes.
@@ -328,14 +313,4 @@ fn blanks_len(bytes: &[u8], at: usize) -> usize
         }
     }
     bytes.len() - at
-}
-
-/// How many bytes there are up to the first `>` and with it; all of them where there is none.
-fn through_tag_len(bytes: &[u8]) -> usize
-    ensures { EndsBehindTag bytes.now result }
-{
-    match memchr(b'>', bytes) {
-        Some(at) => at + 1,
-        None => bytes.len(),
-    }
 }

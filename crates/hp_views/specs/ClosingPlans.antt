@@ -2,7 +2,6 @@
 use Rattle.std.specs.Prelude.{ℕ, Bool, true, false, List}
 use Rattle.hp_elements.specs.Names.{text_of}
 use Rattle.hp_elements.specs.declared.act.Scope.TheVariants as scope
-use Rattle.hp_elements.specs.declared.kinds.Kinds.{Kinds}
 use Rattle.hp_elements.specs.declared.kinds.Kinds.TheVariants as kinds
 use Rattle.hp_elements.specs.declared.known.Known.{Known}
 use Rattle.hp_elements.specs.KnownNames as known
@@ -10,7 +9,7 @@ use Rattle.hp_elements.specs.declared.sets.SetName.TheVariants as sets
 use Rattle.hp_control.specs.Composed.{implied_but}
 use Rattle.hp_control.specs.Faithful.{Split}
 use Rattle.hp_control.specs.Plan.{Plan, gives, followed_by}
-use Rattle.hp_views.specs.StackPlans.{seen_plan, in_scope_plan, pop_run_plan, through_plan}
+use Rattle.hp_views.specs.StackPlans.{in_scope_plan, pop_run_plan, through_plan}
 
 -- the first, then the second
 abbrev pub first_then : (Split → Plan Split) → (Split → Plan Split) → Split → Plan Split
@@ -50,18 +49,12 @@ close_plan name = first_then (implied_except_plan name) (through_named_plan (tex
 abbrev pub close_paragraph_plan : Split → Plan Split
 close_paragraph_plan = by_test (in_scope_plan scope.Button (kinds.Html (text_of known.P))) (close_plan known.P) leaves_it
 
-abbrev pub is_item_plan : Kinds → Split → Plan Bool
-is_item_plan items = seen_plan items (kinds.Set sets.ItemBarriers)
-
+-- the list item, and the term or description, that a new one ends: popped up to and with it, unless a barrier stands above it
 abbrev pub close_item_plan : Split → Plan Split
-close_item_plan = by_test (is_item_plan (kinds.Html (text_of known.Li))) (close_plan known.Li) leaves_it
-
-abbrev pub close_term_plan : Split → Plan Split
-close_term_plan = by_test (is_item_plan (kinds.Html (text_of known.Dt))) (close_plan known.Dt) leaves_it
+close_item_plan = through_plan (kinds.Html (text_of known.Li)) (kinds.Set sets.ItemBarriers)
 
 abbrev pub close_description_plan : Split → Plan Split
-close_description_plan =
-    by_test (is_item_plan (kinds.Html (text_of known.Dd))) (close_plan known.Dd) close_term_plan
+close_description_plan = through_plan (kinds.Set sets.DescriptionItems) (kinds.Set sets.ItemBarriers)
 
 abbrev pub through_form_plan : Split → Plan Split
 through_form_plan = first_then implied_plan (through_named_plan (text_of known.Form))

@@ -22,10 +22,10 @@ use Rattle.hp_views.specs.declared.walks.Walk.{Walk}
 use Rattle.hp_views.specs.declared.walks.Walk.TheVariants.{Found, Stopped, PastAll}
 use Rattle.hp_views.specs.Asking.{pointed_in, pointed_at, depth_from}
 use Rattle.hp_views.specs.ClosingLaws.{by_test_faithful, implied_faithful, end_form_in_template_faithful}
-use Rattle.hp_views.specs.ClosingPlans.{implied_plan, end_form_in_template_plan}
+use Rattle.hp_views.specs.ClosingPlans.{first_then, implied_plan, end_form_in_template_plan}
 use Rattle.hp_views.specs.FieldLaws.{empty_form_faithful}
 use Rattle.hp_views.specs.FieldPlans.{form_cleared}
-use Rattle.hp_views.specs.FormPlans.{form_emptied, own_form_on, own_form_plan, older_off_at, older_off_plan, leave_older_on, pointed_plan, outside_on, outside_plan, end_form_plan}
+use Rattle.hp_views.specs.FormPlans.{form_emptied, own_form_on, own_form_plan, older_off_at, older_off_plan, older_form_on, pointed_plan, outside_on, outside_plan, end_form_plan}
 use Rattle.hp_views.specs.OlderIds.{scope_older, scope_own, scope_by, scope_below, scope_open, open_within, open_drop, open_gone, open_left, open_below}
 use Rattle.hp_views.specs.OwnIds.{ids_drop}
 use Rattle.hp_views.specs.PopLaws.{pop_faithful, nothing_popped}
@@ -119,43 +119,56 @@ older_scope s v x i b l e d =
     ap (λ es. is_some (scope_at i es)) (same_stack s v x d ∙ full_stack s v)
     ∙ (scope_below s.next i v.change.stack (drop v.change.popped s.stack) l ∙ ap (scope_by (walk_of kinds.Nothing scope_ends v.change.stack)) e)
 
-left_way : (s : ControlState) (x : Split) (i depth : ℕ) (w : Walk) → StandsOn s x → i < s.next → open_at i s.stack ≡ Some depth → IsSaid x.page (form_left_by (scope_by w true) i (state_over x s)) → Matches s x (end_by (answer_of s) (leave_older_on depth x w)) (form_left_by (scope_by w true) i (state_over x s))
-left_way s x i depth (Found k) st l e u = nothing_popped s x st
-left_way s x i depth Stopped st l e u = nothing_popped s x st
-left_way s x i depth PastAll st l e u = matches_then s x implied_plan (older_off_plan depth) implied (take_off i) st u (λ m. implied_faithful s x st refl m) (λ y d m. older_off s y i depth d.stands l e m)
+left_way : (s : ControlState) (x : Split) (i depth : ℕ) → StandsOn s x → i < s.next → open_at i s.stack ≡ Some depth → IsSaid x.page (and_then implied (take_off i) (state_over x s)) → Matches s x (end_by (answer_of s) (first_then implied_plan (older_off_plan depth) x)) (and_then implied (take_off i) (state_over x s))
+left_way s x i depth st l e u = matches_then s x implied_plan (older_off_plan depth) implied (take_off i) st u (λ m. implied_faithful s x st refl m) (λ y d m. older_off s y i depth d.stands l e m)
 
 emptied : (s : ControlState) (v : Split) (f : Act) → StandsOn s v → IsSaid v.page (and_then empty_form f (state_over v s)) → IsDone s v (form_emptied v) (empty_form (state_over v s))
 emptied s v f st u = empty_form_faithful s v st refl (said_first v.page (empty_form (state_over v s)) (f (empty_form (state_over v s)).control) u)
 
-away_follows : (s : ControlState) (v : Split) (i : ℕ) → i < s.next → is_some (scope_at i (drop v.change.popped s.stack)) ≡ false → Follows s v (λ x. gives x) (empty_form (state_over v s)) (form_left i)
+away_follows : (s : ControlState) (v : Split) (i : ℕ) → i < s.next → scope_by (walk_of kinds.Nothing scope_ends v.change.stack) (is_some (scope_at i (drop v.change.popped s.stack))) ≡ false → Follows s v (λ x. gives x) (empty_form (state_over v s)) (form_left i)
 away_follows s v i l e = λ x d u.
     let P : Bool → Type 0 = λ b. Matches s x (Ok x) (form_left_by b i (state_over x s)) in
-    subst P (sym (older_scope s v x i false l e d ∙ by_false (walk_of kinds.Nothing scope_ends v.change.stack))) (nothing_popped s x d.stands)
+    subst P (sym (older_scope s v x i (is_some (scope_at i (drop v.change.popped s.stack))) l refl d ∙ e)) (nothing_popped s x d.stands)
 
-here_follows : (s : ControlState) (v : Split) (i depth : ℕ) → i < s.next → open_at i s.stack ≡ Some depth → is_some (scope_at i (drop v.change.popped s.stack)) ≡ true → Follows s v (λ x. leave_older_on depth x (walk_of kinds.Nothing scope_ends v.change.stack)) (empty_form (state_over v s)) (form_left i)
-here_follows s v i depth l o e = λ x d u.
-    let w = walk_of kinds.Nothing scope_ends v.change.stack in
-    let P : Bool → Type 0 = λ b. IsSaid x.page (form_left_by b i (state_over x s)) → Matches s x (end_by (answer_of s) (leave_older_on depth x w)) (form_left_by b i (state_over x s)) in
-    subst P (sym (older_scope s v x i true l e d)) (left_way s x i depth w d.stands l o) u
+here_follows : (s : ControlState) (v : Split) (i depth : ℕ) → i < s.next → open_at i s.stack ≡ Some depth → walk_of kinds.Nothing scope_ends v.change.stack ≡ PastAll → is_some (scope_at i (drop v.change.popped s.stack)) ≡ true → Follows s v (first_then implied_plan (older_off_plan depth)) (empty_form (state_over v s)) (form_left i)
+here_follows s v i depth l o w e = λ x d u.
+    let P : Bool → Type 0 = λ b. IsSaid x.page (form_left_by b i (state_over x s)) → Matches s x (end_by (answer_of s) (first_then implied_plan (older_off_plan depth) x)) (form_left_by b i (state_over x s)) in
+    subst P (sym (older_scope s v x i true l e d ∙ ap (λ y. scope_by y true) w)) (λ m. left_way s x i depth d.stands l o m) u
 
 read_back : (s : ControlState) (v : Split) (i k : ℕ) → StandsOn s v → scope_at i (drop v.change.popped s.stack) ≡ Some k → depth_from v.change.popped (depth_answer v.change.popped (Some k)) ≡ Some k
 read_back s v i k st e = depth_back v.change.popped (length s.stack) (Some k) (λ j q. (let z : k ≡ j = cc in let m : k < length (drop v.change.popped s.stack) = open_within i (drop v.change.popped s.stack) k (scope_open i (drop v.change.popped s.stack) k e) in omega (arith, z, m, length-drop v.change.popped s.stack))) st.older.short
 
-older_some : (s : ControlState) (v : Split) (i : ℕ) (r : Option ℕ) → scope_at i (drop v.change.popped s.stack) ≡ r → i < s.next → StandsOn s v → IsSaid v.page (end_form_of (Some i) (state_over v s)) → Matches s v (end_by (answer_of s) (pointed_plan (form_emptied v) (pointed_in v.change.popped (away_or v.change.popped r)))) (end_form_of (Some i) (state_over v s))
-older_some s v i None e l st u = then_matches s v (λ x. gives x) empty_form (form_left i) (state_over v s) (Ok (form_emptied v)) st u (away_follows s v i l (ap is_some e)) (emptied s v (form_left i) st u)
-older_some s v i (Some k) e l st u =
+older_some : (s : ControlState) (v : Split) (i : ℕ) (r : Option ℕ) → walk_of kinds.Nothing scope_ends v.change.stack ≡ PastAll → scope_at i (drop v.change.popped s.stack) ≡ r → i < s.next → StandsOn s v → IsSaid v.page (end_form_of (Some i) (state_over v s)) → Matches s v (end_by (answer_of s) (pointed_plan (form_emptied v) (pointed_in v.change.popped (away_or v.change.popped r)))) (end_form_of (Some i) (state_over v s))
+older_some s v i None w e l st u =
+    let apart = ap (scope_by (walk_of kinds.Nothing scope_ends v.change.stack)) (ap is_some e) ∙ by_false (walk_of kinds.Nothing scope_ends v.change.stack) in
+    then_matches s v (λ x. gives x) empty_form (form_left i) (state_over v s) (Ok (form_emptied v)) st u (away_follows s v i l apart) (emptied s v (form_left i) st u)
+older_some s v i (Some k) w e l st u =
     let depth = v.change.popped + k in
     let stands : open_at i s.stack ≡ Some depth = open_drop 0 s.next i v.change.popped s.stack k st.older.stack_ids (scope_open i (drop v.change.popped s.stack) k e) in
     let P : Option ℕ → Type 0 = λ o. Matches s v (end_by (answer_of s) (pointed_plan (form_emptied v) (pointed_at v.change.popped o))) (end_form_of (Some i) (state_over v s)) in
     subst P (sym (read_back s v i k st e))
-    (then_matches s v (λ x. leave_older_on depth x (walk_of kinds.Nothing scope_ends v.change.stack)) empty_form (form_left i) (state_over v s) (Ok (form_emptied v)) st u (here_follows s v i depth l stands (ap is_some e)) (emptied s v (form_left i) st u))
+    (then_matches s v (first_then implied_plan (older_off_plan depth)) empty_form (form_left i) (state_over v s) (Ok (form_emptied v)) st u (here_follows s v i depth l stands w (ap is_some e)) (emptied s v (form_left i) st u))
 
-older_way : (s : ControlState) (v : Split) (o : Option ℕ) → o ≡ s.form → IfSome o (IsId s.next) → form.Kept ≡ v.change.form → StandsOn s v → IsSaid v.page (end_form_of o (state_over v s)) → Matches s v (end_by (answer_of s) (pointed_plan (form_emptied v) (pointed_in v.change.popped (pointer_answer v.change.popped o (drop v.change.popped s.stack))))) (end_form_of o (state_over v s))
-older_way s v None e h f st u = quiet s v (form_cleared v.change) (λ c. c) st refl (λ p c. refl) (ap (λ o. record (applied v.change s) { form = o }) (e ∙ ap (λ g. form_after g s) f))
-older_way s v (Some i) e h f st u = older_some s v i (scope_at i (drop v.change.popped s.stack)) refl h.1 st u
+-- no form is left open: the pointer was empty already
+none_open : (s : ControlState) (v : Split) → None ≡ s.form → form.Kept ≡ v.change.form → StandsOn s v → IsDone s v (form_emptied v) (end_form_of None (state_over v s))
+none_open s v e f st = quiet s v (form_cleared v.change) (λ c. c) st refl (λ p c. refl) (ap (λ o. record (applied v.change s) { form = o }) (e ∙ ap (λ g. form_after g s) f))
+
+older_way : (s : ControlState) (v : Split) (o : Option ℕ) → walk_of kinds.Nothing scope_ends v.change.stack ≡ PastAll → o ≡ s.form → IfSome o (IsId s.next) → form.Kept ≡ v.change.form → StandsOn s v → IsSaid v.page (end_form_of o (state_over v s)) → Matches s v (end_by (answer_of s) (pointed_plan (form_emptied v) (pointed_in v.change.popped (pointer_answer v.change.popped o (drop v.change.popped s.stack))))) (end_form_of o (state_over v s))
+older_way s v None w e h f st u = none_open s v e f st
+older_way s v (Some i) w e h f st u = older_some s v i (scope_at i (drop v.change.popped s.stack)) w refl h.1 st u
+
+-- an own end of a scope stands above it
+hidden_way : (s : ControlState) (v : Split) (o : Option ℕ) → ((b : Bool) → scope_by (walk_of kinds.Nothing scope_ends v.change.stack) b ≡ false) → o ≡ s.form → IfSome o (IsId s.next) → form.Kept ≡ v.change.form → StandsOn s v → IsSaid v.page (end_form_of o (state_over v s)) → Matches s v (Ok (form_emptied v)) (end_form_of o (state_over v s))
+hidden_way s v None w e h f st u = none_open s v e f st
+hidden_way s v (Some i) w e h f st u = then_matches s v (λ x. gives x) empty_form (form_left i) (state_over v s) (Ok (form_emptied v)) st u (away_follows s v i h.1 (w (is_some (scope_at i (drop v.change.popped s.stack))))) (emptied s v (form_left i) st u)
+
+kept_way : (s : ControlState) (v : Split) (w : Walk) → walk_of kinds.Nothing scope_ends v.change.stack ≡ w → form.Kept ≡ v.change.form → StandsOn s v → IsSaid v.page (end_form_of s.form (state_over v s)) → Matches s v (end_by (answer_of s) (older_form_on v w)) (end_form_of s.form (state_over v s))
+kept_way s v PastAll w f st u = older_way s v s.form w refl st.older.form f st u
+kept_way s v Stopped w f st u = hidden_way s v s.form (λ b. ap (λ y. scope_by y b) w) refl st.older.form f st u
+kept_way s v (Found k) w f st u = hidden_way s v s.form (λ b. ap (λ y. scope_by y b) w) refl st.older.form f st u
 
 outside_by : (s : ControlState) (v : Split) (f : FormChange) → f ≡ v.change.form → StandsOn s v → IsSaid v.page (end_form_of (form_after f s) (state_over v s)) → Matches s v (end_by (answer_of s) (outside_on f v)) (end_form_of (form_after f s) (state_over v s))
-outside_by s v form.Kept e st u = older_way s v s.form refl st.older.form e st u
+outside_by s v form.Kept e st u = kept_way s v (walk_of kinds.Nothing scope_ends v.change.stack) refl e st u
 outside_by s v form.Cleared e st u = nothing_popped s v st
 outside_by s v (form.Own id) e st u = own_form s v id st u
 

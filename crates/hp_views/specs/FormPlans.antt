@@ -38,21 +38,19 @@ older_off_at depth v (e ∷ es) = crosses X3
 abbrev pub older_off_plan : ℕ → Split → Plan Split
 older_off_plan depth v = if nat_lt depth v.change.popped then gives v else older_off_at depth v v.change.stack
 
--- an older form, unless an own end of a scope stands above it
-abbrev pub leave_older_on : ℕ → Split → Walk → Plan Split
-leave_older_on depth v PastAll = first_then implied_plan (older_off_plan depth) v
-leave_older_on depth v _ = gives v
-
-abbrev pub leave_older_plan : ℕ → Split → Plan Split
-leave_older_plan depth v = leave_older_on depth v (walk_of kinds.Nothing scope_ends v.change.stack)
-
+-- a form of the older state, which is in scope there or isn't
 abbrev pub pointed_plan : Split → Pointed → Plan Split
 pointed_plan w Nowhere = gives w
 pointed_plan w Away = gives w
-pointed_plan w (Here k) = leave_older_plan (w.change.popped + k) w
+pointed_plan w (Here k) = first_then implied_plan (older_off_plan (w.change.popped + k)) w
+
+-- where an own end of a scope stands above what is older, no older form is in scope, and where the pointer points isn't asked
+abbrev pub older_form_on : Split → Walk → Plan Split
+older_form_on v PastAll = followed_by (ask_pointer v.change.popped) (pointed_plan (form_emptied v))
+older_form_on v _ = gives (form_emptied v)
 
 abbrev pub older_form_plan : Split → Plan Split
-older_form_plan v = followed_by (ask_pointer v.change.popped) (pointed_plan (form_emptied v))
+older_form_plan v = older_form_on v (walk_of kinds.Nothing scope_ends v.change.stack)
 
 abbrev pub outside_on : FormChange → Split → Plan Split
 outside_on form.Cleared v = gives v

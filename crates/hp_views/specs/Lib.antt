@@ -25,6 +25,7 @@ pub mod Steps
 pub mod ClosingPlans
 pub mod Encodings
 pub mod FormPlans
+pub mod ItemLaws
 pub mod ClosingLaws
 pub mod OwnIds
 pub mod OlderIds

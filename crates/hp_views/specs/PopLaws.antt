@@ -32,7 +32,7 @@ use Rattle.hp_views.specs.Walks.{walk_of, run_walk}
 abbrev pub stack_over : ControlState → Change → List OpenElement
 stack_over s c = map (shifted s.next) c.stack ++ drop c.popped s.stack
 
-popped_few : (k : ℕ) (es : List OpenElement) → k < length es → popped_by k es ≡ drop k es
+pub popped_few : (k : ℕ) (es : List OpenElement) → k < length es → popped_by k es ≡ drop k es
 popped_few k es h = ap (λ m. drop m es) (let e : min k (length es - 1) ≡ k = omega arith in e)
 
 popped_map : (f : OpenElement → OpenElement) (k : ℕ) (es : List OpenElement) → popped_by k (map f es) ≡ map f (popped_by k es)

@@ -9,7 +9,6 @@ ghost use Rattle.hp_views.specs.View.{Answers};
 ghost use Rattle.hp_views.specs.StackPlans.{in_scope_plan};
 ghost use Rattle.hp_elements.specs.declared.act.Scope.TheVariants as scope;
 ghost use Rattle.hp_elements.specs.KnownNames as known;
-ghost use Rattle.hp_views.specs.ClosingPlans.{is_item_plan};
 
 use crate::view::View;
 use hp_control::{Below, Refusal, WalkEnd};
@@ -107,38 +106,21 @@ impl<'p, B: Below> View<'p, B> {
         }
     }
 
-    /// Whether the first element that is the item or a barrier is the item.
-    #[inline(always)]
-    fn is_item(&mut self, alloc: Global, item: Known) -> Result<bool, Refusal>
-        ensures { Answers result (sight B.heard self.old) (sight B.heard self.new) (is_item_plan (kinds.Html (text_of item))) }
-    {
-        let items = Kinds::Html(Name::of_known(item));
-        self.is_seen(alloc, items, Kinds::Set(SetName::ItemBarriers))
-    }
-
-    /// Closes a list item that a new one ends.
+    /// Closes a list item that a new one ends: all down to it is popped, and what its end implies with that.
     #[inline(always)]
     pub fn close_item(&mut self, alloc: Global) -> Result<(), Refusal>
         ensures { Meets result (sight B.heard self.old) (sight B.heard self.new) close_item_step }
     {
-        if self.is_item(alloc, Known::LI)? {
-            self.close(alloc, Known::LI)
-        } else {
-            Ok(())
-        }
+        let items = Kinds::Html(Name::of_known(Known::LI));
+        self.through(alloc, items, Kinds::Set(SetName::ItemBarriers))
     }
 
     /// Closes a term or a description that a new one ends.
     pub fn close_description(&mut self, alloc: Global) -> Result<(), Refusal>
         ensures { Meets result (sight B.heard self.old) (sight B.heard self.new) close_description_step }
     {
-        if self.is_item(alloc, Known::DD)? {
-            self.close(alloc, Known::DD)
-        } else if self.is_item(alloc, Known::DT)? {
-            self.close(alloc, Known::DT)
-        } else {
-            Ok(())
-        }
+        let items = Kinds::Set(SetName::DescriptionItems);
+        self.through(alloc, items, Kinds::Set(SetName::ItemBarriers))
     }
 
     /// The end of a form in a template.

@@ -1,8 +1,8 @@
 //! The end of a form (13.2.6.4.7).
-ghost use Rattle.std.specs.Prelude.{◌≡◌, ◌<◌, ◌^◌};
-ghost use Rattle.hp_views.specs.FormPlans.{own_form_plan, older_form_plan, leave_older_plan, older_off_plan};
+ghost use Rattle.hp_views.specs.FormPlans.{own_form_plan, older_form_on, older_form_plan, older_off_plan};
 ghost use Rattle.hp_views.specs.Steps.{end_form_step};
 ghost use Rattle.hp_views.specs.View.{sight, Carries, Meets};
+ghost use Rattle.hp_views.specs.declared.walks.Walk.TheVariants.{PastAll};
 
 use crate::asking::{Pointed, older_pointer};
 use crate::view::View;
@@ -40,35 +40,35 @@ impl<'p, B: Below> View<'p, B> {
         }
     }
 
-    /// The same of a form that stands in the older state, if one does.
+    /// The same of a form that stands in the older state, if one does. Where an own end of a scope stands above it, it isn't in scope,
+    /// and nothing is asked.
     fn end_older_form(&mut self, alloc: Global) -> Result<(), Refusal>
         ensures { Carries result (sight B.heard self.old) (sight B.heard self.new) older_form_plan }
+    {
+        let ends = Kinds::Set(SetName::DefaultScopeEnds);
+        let walk = element_walk(&self.change.stack, &Kinds::Nothing, &ends);
+        match walk {
+            Walk::PastAll => self.end_pointed_form(alloc),
+            _ => {
+                self.change.form = FormChange::Cleared;
+                Ok(())
+            }
+        }
+    }
+
+    /// The same where the older state tells whether it is in scope.
+    fn end_pointed_form(&mut self, alloc: Global) -> Result<(), Refusal>
+        ensures { Carries result (sight B.heard self.old) (sight B.heard self.new) (λ v. older_form_on v PastAll) }
     {
         let depth = self.change.popped;
         let pointed = older_pointer(&mut self.below, alloc, depth)?;
         self.change.form = FormChange::Cleared;
         match pointed {
-            Pointed::Here(count) => self.leave_older_form(alloc, depth + count),
-            Pointed::Nowhere | Pointed::Away => Ok(()),
-        }
-    }
-
-    /// The older element at that depth leaves the stack, unless an end of scope stands above it.
-    fn leave_older_form(&mut self, alloc: Global, depth: u64) -> Result<(), Refusal>
-        requires { depth < 2 ^ 60 }
-        ensures { Carries result (sight B.heard self.old) (sight B.heard self.new) (leave_older_plan depth) }
-    {
-        let walk = element_walk(
-            &self.change.stack,
-            &Kinds::Nothing,
-            &Kinds::Set(SetName::DefaultScopeEnds),
-        );
-        match walk {
-            Walk::PastAll => {
+            Pointed::Here(count) => {
                 self.implied(alloc)?;
-                self.take_older_off(alloc, depth)
+                self.take_older_off(alloc, depth + count)
             }
-            _ => Ok(()),
+            Pointed::Nowhere | Pointed::Away => Ok(()),
         }
     }
 

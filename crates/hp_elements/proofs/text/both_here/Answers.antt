@@ -16,4 +16,7 @@ pub returns : goal.returns
 returns c =
     let e : take (length c.args.front.now + length c.args.back.now) c.put_behind-longer.result ≡ c.args.front.now ++ c.args.back.now =
     short_both c.args.front.now c.args.back.now c.as_bytes.result.now c.as_bytes-2.result.now c.short_bytes.result c.put_behind-longer.result c.as_bytes.ensures.value c.as_bytes-2.ensures.value c.short_bytes.ensures c.put_behind-longer.ensures in
-    ap chars e ∙ chars-append c.args.front.now c.args.back.now c.utf8.front
+    record {
+      both = ap chars e ∙ chars-append c.args.front.now c.args.back.now c.utf8.front;
+      long = tt;
+    }

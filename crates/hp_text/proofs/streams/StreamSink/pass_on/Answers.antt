@@ -2,7 +2,7 @@ use Rattle.std.proofs.Common.{◌≡◌, ℕ, ◌-◌, Bool, List, ◌++◌, Opt
 use Rattle.std.specs.Prelude.{is_some}
 use Rattle.std.specs.Io.KnownBytes.{append_known, Appends, Keeps}
 use Rattle.std.proofs.lemmas.List.{take_all}
-use Rattle.hp_text.specs.Streams.{StreamState, without_last}
+use Rattle.hp_text.specs.Streams.{SinkStream, without_last}
 use Rattle.hp_text.proofs.streams.StreamSink.pass_on.Goals as goal
 
 none_left : (u : ℕ) (xs : List ℕ) → u ≡ 0 → take (length xs - u) xs ≡ xs
@@ -26,5 +26,5 @@ pub returns-clause-took : goal.returns-clause-took
 returns-clause-took g c =
     let appended : Appends (g.W.Write.contents c.self.inside.writer) (g.W.Write.contents c.write.new.self) (take c.in_ok-taken.taken c.args.piece.now) = search rules in
     took_all g.W.TellingWrite.tells c.self.inside.unflushed _ _ _ c.args.self.now.bytes (take c.in_ok-taken.taken c.args.piece.now) (omega arith)
-    (ap (λ (s : StreamState). s.bytes) c.self.view_is) (g.met.W.TellingWrite.always c.self.inside.writer) (g.met.W.TellingWrite.always c.write.new.self)
-    (g.met.W.TellingWrite.always c.flush.new.self) appended c.flush.ensures.bytes
+    (ap (λ (s : SinkStream). s.bytes) c.self.view_is) (g.met.W.TellingWrite.always c.self.inside.writer) (g.met.W.TellingWrite.always c.write.new.self)
+    (g.met.W.TellingWrite.always c.flush_told.new.self) appended c.flush_told.ensures.kept

@@ -1,0 +1,133 @@
+//! An older state that is guessed.
+ghost use Rattle.std.specs.Prelude.{◌≡◌, ◌<◌, false, [], Ok, IfOk, OnErr};
+ghost use Rattle.hp_control.specs.Guessing.{AreDistinct, AreSaid, heard_by};
+ghost use Rattle.hp_control.specs.Plan.{Runs, asks, gives, is_asked};
+
+use crate::below::{Below, Predictor};
+use crate::items::lose;
+use crate::pairs::Pairs;
+use crate::question::{Answer, Assumptions, Kept, Question};
+use hp_elements::{Kinds, NoMemory};
+use std::alloc::Global;
+use std::marker::Model;
+
+/// How many sorts of questions there are, of each of which the last one is remembered.
+const SORTS: usize = 8;
+
+/// An older state that is guessed: it answers as the predictor, and keeps each question that it was asked once, with its answer.
+#[derive(Drop)]
+pub struct Guess<P: Predictor + Drop> {
+    predictor: P,
+    pairs: Pairs,
+    /// Where the last question of each sort stands. Asked again, it is answered by one comparison.
+    last: [usize; SORTS],
+}
+
+impl<P: Predictor + Drop> Model for Guess<P> {
+    ghost use Rattle.hp_control.specs.Guessing.{AreSaid, Guessing};
+
+    ghost Value = { Guessing P };
+
+    ghost view = { λ g. record { predictor = g.predictor; kept = g.pairs } };
+
+    ghost invariant = { λ g. AreSaid (P.says g.predictor) g.pairs };
+}
+
+/// The sort of a question: those that texts and tags ask again and again are apart.
+#[inline]
+fn sort_of(question: &Question) -> usize
+    ensures { result < 8 }
+{
+    match question {
+        Question::Seen {
+            goals: Kinds::AnyHtml,
+            ..
+        } => 0,
+        Question::Seen { .. } => 1,
+        Question::Quiet { .. } => 2,
+        Question::Listed { .. } => 3,
+        Question::Same { .. } => 4,
+        Question::Reach { .. } => 5,
+        Question::Elem { .. } => 6,
+        _ => 7,
+    }
+}
+
+impl<P: Predictor + Drop> Guess<P> {
+    /// The guesses of that predictor, of which none was made yet.
+    pub fn new(predictor: P) -> Guess<P>
+        ensures { result ≡ record { predictor = predictor; kept = [] } }
+    {
+        Guess {
+            predictor,
+            pairs: Pairs::new(),
+            last: [0; SORTS],
+        }
+    }
+
+    /// Who answers.
+    pub fn predictor(&self) -> &P
+        ensures { result.now ≡ self.now.predictor }
+    {
+        &self.predictor
+    }
+
+    /// What was asked and answered, in the order in which it was first asked. No question stands twice.
+    pub fn kept(&self) -> &Assumptions
+        ensures same { result.now ≡ self.now.kept }
+        ensures distinct { AreDistinct self.now.kept }
+        ensures said { AreSaid (P.says self.now.predictor) self.now.kept }
+    {
+        self.pairs.kept()
+    }
+
+    /// The same, alone.
+    pub fn into_kept(self) -> Assumptions
+        ensures same { result ≡ self.kept }
+        ensures distinct { AreDistinct self.kept }
+        ensures said { AreSaid (P.says self.predictor) self.kept }
+    {
+        let Guess { pairs, .. } = self;
+        pairs.into_kept()
+    }
+}
+
+impl<P: Predictor + Drop> Guess<P> {
+    /// Asks what wasn't asked before.
+    #[inline(never)]
+    fn ask_first(
+        &mut self,
+        alloc: Global,
+        question: Question,
+        sort: usize,
+    ) -> Result<Answer, NoMemory>
+        requires sort { sort < 8 }
+        requires new { is_asked self.old.kept question ≡ false }
+        ensures asked { IfOk result (λ answer. Runs (heard_by P.says self.old) (heard_by P.says self.new) (asks question gives) (Ok answer)) }
+        ensures unchanged { OnErr result (self.new ≡ self.old) }
+    {
+        let answer = self.predictor.say(alloc, &question)?;
+        let copy = answer.copy(alloc)?;
+        let place = self.pairs.kept().len();
+        self.pairs.add(alloc, Kept { question, answer })?;
+        self.last[sort] = place;
+        Ok(copy)
+    }
+}
+
+impl<P: Predictor + Drop> Below for Guess<P> {
+    ghost heard = { heard_by P.says };
+
+    fn ask(&mut self, alloc: Global, question: Question) -> Result<Answer, NoMemory> {
+        let sort = sort_of(&question);
+        match self.pairs.find(&question, self.last[sort]) {
+            Some((place, pair)) => {
+                let answer = pair.answer.copy(alloc);
+                self.last[sort] = place;
+                lose(question);
+                answer
+            }
+            None => self.ask_first(alloc, question, sort),
+        }
+    }
+}

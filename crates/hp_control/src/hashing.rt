@@ -1,0 +1,87 @@
+//! A number for each question, by which it is found among many.
+ghost use Rattle.std.specs.Prelude.{◌≡◌};
+ghost use Rattle.std.specs.Str.{chars};
+ghost use Rattle.hp_control.specs.Hashing.{mixed, mixed_text, mixed_kinds, mixed_attributes, hash_of};
+
+use crate::asked::{fact_place, set_place};
+use crate::question::Question;
+use hp_elements::{Attribute, Chain, Kinds};
+
+/// The hash with one number more.
+#[inline]
+#[tactic(auto, unfolding(crate::specs::Hashing::mixed))]
+fn mixed(hash: u64, number: u64) -> u64
+    ensures { result ≡ mixed hash number }
+{
+    (hash ^ number).wrapping_mul(0x517c_c1b7_2722_0a95)
+}
+
+/// The hash with a text more.
+fn mixed_text(hash: u64, text: &str) -> u64
+    ensures { result ≡ mixed_text hash (chars text.now) }
+{
+    let mut mix = hash;
+    for c in text.chars() {
+        mix = mixed(mix, c as u64);
+    }
+    mixed(mix, 0)
+}
+
+fn mixed_kinds(hash: u64, kinds: &Kinds) -> u64
+    ensures { result ≡ mixed_kinds hash kinds.now }
+{
+    match kinds {
+        Kinds::Nothing => mixed(hash, 0),
+        Kinds::All => mixed(hash, 1),
+        Kinds::AnyHtml => mixed(hash, 2),
+        Kinds::HtmlOrPoint => mixed(hash, 3),
+        Kinds::Html(name) => mixed_text(mixed(hash, 4), name.as_str()),
+        Kinds::Foreign(name) => mixed_text(mixed(hash, 5), name.as_str()),
+        Kinds::Set(set) => mixed(mixed(hash, 6), set_place(*set)),
+    }
+}
+
+fn mixed_attributes(hash: u64, attributes: &Chain<Attribute>) -> u64
+    ensures { result ≡ mixed_attributes hash attributes.now }
+{
+    let mut mix = hash;
+    for attribute in attributes.iter() {
+        let name = mixed_text(mix, attribute.name.as_str());
+        mix = mixed_text(name, attribute.value.as_str());
+    }
+    mix
+}
+
+/// The hash of a question.
+pub(crate) fn hash_of(question: &Question) -> u64
+    ensures { result ≡ hash_of question.now }
+{
+    match question {
+        Question::Entry => 0,
+        Question::Elem { depth } => mixed(1, *depth),
+        Question::Seen {
+            depth,
+            goals,
+            stops,
+        } => mixed_kinds(mixed_kinds(mixed(2, *depth), goals), stops),
+        Question::Reach {
+            depth,
+            goals,
+            stops,
+        } => mixed_kinds(mixed_kinds(mixed(3, *depth), goals), stops),
+        Question::RunOf { depth, names } => mixed_kinds(mixed(4, *depth), names),
+        Question::HasTemplate { depth } => mixed(5, *depth),
+        Question::ResetFrom { depth } => mixed(6, *depth),
+        Question::Quiet { depth, cuts } => mixed(mixed(7, *depth), *cuts),
+        Question::Listed { depth, cuts, name } => {
+            mixed_text(mixed(mixed(8, *depth), *cuts), name.as_str())
+        }
+        Question::Same { cuts, tag } => {
+            let name = mixed_text(mixed(9, *cuts), tag.name.as_str());
+            mixed_attributes(name, &tag.attributes)
+        }
+        Question::Pointer { depth } => mixed(10, *depth),
+        Question::Fact { which } => mixed(11, fact_place(*which)),
+        Question::Whole { depth } => mixed(12, *depth),
+    }
+}
