@@ -238,3 +238,10 @@ tree-built law page read done tree r e is =
 
 pub done-growing : (page : List ℕ) (read done : Stage) → RanFrom start page true read → EndsInput read done → is_growing done.sink ≡ true
 done-growing page read done r e = growing done.sink done.split.edits (r.edits ++ e.made) (e.amounts true r.edits r.amounts)
+
+-- nothing is made yet
+pub kept-empty : Amounts false Keeps nothing [] []
+kept-empty = λ tree. refl
+
+pub page-empty : (tree : Tree) → tree ≡ document → applied_all tree [] ≡ applied_all document []
+page-empty tree is = ap (λ (t : Tree). applied_all t []) is

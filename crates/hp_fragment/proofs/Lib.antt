@@ -7,3 +7,5 @@ pub mod Telling
 pub mod Stepping
 pub mod Taking
 pub mod Ended
+pub mod NoNul
+pub mod ToldEdits

@@ -96,6 +96,7 @@ impl<'p> Parsing<'p, Nothing> {
     {
         hp_model::at_once();
         hp_older::answers_over();
+        hp_older::views_over();
         hp_pieces::ends_of_text();
         let tokens = Lexer::from_state(alloc, &self.lexer.lex)?.finish(alloc)?;
         self.handle_last(alloc, tokens)

@@ -1,0 +1,13 @@
+use Rattle.std.proofs.Common.{ap, map, ◌∙◌}
+use Rattle.hp_control.specs.Apply.{named_edit}
+use Rattle.hp_control.specs.Nothing.{nothing}
+use Rattle.hp_fragment.proofs.told.told_state.Goals as goal
+
+pub into_control-control-requires : goal.into_control-control-requires
+into_control-control-requires c = record { valid = c.requires.valid }
+
+pub returns-in-Ok-clause-state : goal.returns-in-Ok-clause-state
+returns-in-Ok-clause-state c = c.into_control-control.ensures.state
+
+pub returns-in-Ok-clause-edits : goal.returns-in-Ok-clause-edits
+returns-in-Ok-clause-edits c = c.in-Ok.ensures ∙ ap (map (named_edit nothing)) c.into_control-control.ensures.edits
