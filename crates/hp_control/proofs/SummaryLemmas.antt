@@ -1,10 +1,10 @@
 -- What is known at each element of a stack of it and all below, as the stack changes.
-use Rattle.std.proofs.Common.{◌≡◌, ℕ, zero, suc, ◌+◌, ◌-◌, ◌<◌, List, [], ◌∷◌, ◌++◌, length, take, drop, get_or, set, refl, ap, sym, subst, ◌∙◌, arith, drop-cons, drop_at, length-append, length-drop}
+use Rattle.std.proofs.Common.{◌≡◌, ℕ, zero, suc, ◌+◌, ◌<◌, List, [], ◌∷◌, ◌++◌, length, take, drop, get_or, set, refl, ap, sym, subst, ◌∙◌, arith, drop-cons, drop_at}
 use Rattle.std.proofs.lemmas.List.{drop-set, length-take-le}
 use Rattle.hp_control.specs.declared.element.OpenElement.{OpenElement}
 use Rattle.hp_control.specs.declared.open_elements.Summary.{Summary}
 use Rattle.hp_control.specs.Ends.{paragraph_from, paragraph_end}
-use Rattle.hp_control.specs.Standings.{highest_id, summary_of, summary_from, summaries, AreSummaries, first_summary}
+use Rattle.hp_control.specs.Standings.{summary_of, summary_from, summaries, AreSummaries, first_summary}
 
 counted : (xs : List OpenElement) → length (summaries xs) ≡ length xs
 counted [] = refl
