@@ -5,7 +5,6 @@ use Rattle.std.specs.Bool.{Decides}
 use Rattle.std.specs.Str.{bytes_eq}
 use Rattle.std.proofs.lemmas.Bool.Decides.{Decides-eqb}
 use Rattle.std.proofs.lemmas.Slice.Eq.{slice_eq-Decides, bytes_eq-Decides}
-use denote.Enum.Declared.{tag_of}
 use denote.Enum.Bare.{tag_one}
 use Rattle.hp_elements.specs.contracts.sets.SetName as sets
 use Rattle.hp_elements.specs.declared.sets.SetName.{SetName}

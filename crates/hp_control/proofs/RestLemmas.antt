@@ -1,10 +1,9 @@
 -- Which resting state a state of the lexer is.
-use Rattle.std.proofs.Common.{◌≡◌, false, None, Some, refl, ap, sym, ◌∙◌}
+use Rattle.std.proofs.Common.{◌≡◌, Some, refl, ap, sym, ◌∙◌}
 use Rattle.hp_elements.specs.declared.token.Rest.{Rest}
 use Rattle.hp_elements.specs.declared.token.Rest.TheVariants as rest
 use Rattle.hp_tokens.specs.declared.state.State.{State}
-use Rattle.hp_tokens.specs.declared.state.State.TheVariants.{Data, Rcdata, Rawtext, ScriptData, Plaintext, ScriptDataEscaped, ScriptDataEscapedDash, ScriptDataEscapedDashDash, ScriptDataDoubleEscaped, ScriptDataDoubleEscapedDash, ScriptDataDoubleEscapedDashDash, CdataSection}
-use Rattle.hp_tokens.specs.States.{is_resting, state_of_rest}
+use Rattle.hp_tokens.specs.States.{state_of_rest}
 use Rattle.hp_control.specs.Truth.{rest_of}
 
 rest_of_rest : (r : Rest) → rest_of (state_of_rest r) ≡ Some r

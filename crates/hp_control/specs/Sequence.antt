@@ -1,9 +1,8 @@
 -- Outcomes one after the other.
-use Rattle.std.specs.Prelude.{◌≡◌, [], ◌++◌, ◌||◌, false}
+use Rattle.std.specs.Prelude.{◌≡◌, ◌++◌, ◌||◌}
 use Rattle.std.proofs.Common.{sym, ◌∙◌, ap, append_assoc}
-use Rattle.std.proofs.lemmas.List.{append-nil}
-use Rattle.std.proofs.Math.Bool.{or-false, or_assoc}
-use Rattle.hp_control.specs.Outcome.{Outcome, after, becomes}
+use Rattle.std.proofs.Math.Bool.{or_assoc}
+use Rattle.hp_control.specs.Outcome.{Outcome, after}
 
 pub after_after : (o p q : Outcome) → after o (after p q) ≡ after (after o p) q
 after_after o p q =

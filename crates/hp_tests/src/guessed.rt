@@ -225,7 +225,7 @@ fn passes(rt: &impl Abort, alloc: Global, case: &Case) -> bool {
     let well = count == case.steps.len()
         && view.change.stack.len() == case.open
         && view.change.popped == case.gone
-        && are_true(view.below.predictor.state(), &view.below.kept);
+        && are_true(view.below.predictor().state(), view.below.kept());
     mem::forget(view);
     well
 }

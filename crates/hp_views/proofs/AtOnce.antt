@@ -1,15 +1,14 @@
 -- What is given without a question, and what one question gives.
-use Rattle.std.specs.Prelude.{◌≡◌, ◌+◌, ◌==◌, ℕ, true, if◌then◌else◌, List, [], ◌∷◌, length, Option, Some, None, Ok, refl}
+use Rattle.std.specs.Prelude.{◌≡◌, ◌+◌, ◌==◌, ℕ, true, if◌then◌else◌, List, [], ◌∷◌, length, Ok, refl}
 use Rattle.std.proofs.Common.{subst, sym, ap, ◌∙◌, arith}
-use Rattle.std.proofs.lemmas.List.{append-nil}
 use Rattle.std.proofs.lemmas.Bool.{eqb-true, eq-eqb, le-ltb}
 use Rattle.hp_elements.specs.declared.kinds.Kinds.{Kinds}
 use Rattle.hp_control.specs.declared.element.FormattingEntry.{FormattingEntry}
 use Rattle.hp_control.specs.declared.element.OpenElement.{OpenElement}
 use Rattle.hp_control.specs.declared.question.Crossing.TheVariants.{X3}
-use Rattle.hp_control.specs.declared.question.Kept.{Kept}
 use Rattle.hp_control.specs.Faithful.{Split}
-use Rattle.hp_control.specs.Plan.{Heard, Runs, gives, crosses, kept_with}
+use Rattle.hp_control.specs.Plan.{Heard, Runs, gives, crosses}
+use Rattle.hp_control.specs.Running.{runs_gives}
 use Rattle.hp_views.specs.declared.walks.Walk.{Walk}
 use Rattle.hp_views.specs.declared.walks.Walk.TheVariants.{Found, Stopped}
 use Rattle.hp_views.specs.FieldPlans.{with_change}
@@ -18,12 +17,8 @@ use Rattle.hp_views.specs.ListPlans.{cut}
 use Rattle.hp_views.specs.StackPlans.{own_popped, pop_plan, through_on, through_plan}
 use Rattle.hp_views.specs.Walks.{walk_of}
 
-nothing_kept : (kept : Option (List Kept)) → kept ≡ kept_with kept []
-nothing_kept None = refl
-nothing_kept (Some pairs) = ap Some (sym (append-nil pairs))
-
 pub gives_at_once : {X : Type 0} (h : Heard) (x : X) → Runs h h (gives x) (Ok x)
-gives_at_once h x = record { ends = refl; noted = ap (λ k. record { says = h.says; kept = k }) (nothing_kept h.kept) }
+gives_at_once h x = runs_gives h x
 
 pub gives_same : {X : Type 0} (h : Heard) (x y : X) → x ≡ y → Runs h h (gives x) (Ok y)
 gives_same {X} h x y e = let P : X → Type 0 = λ z. Runs h h (gives x) (Ok z) in subst P e (gives_at_once h x)

@@ -5,7 +5,6 @@ use Rattle.hp_elements.specs.declared.token.Mode.TheVariants as mode
 use Rattle.hp_elements.specs.declared.token.Rest.TheVariants.{Data}
 use Rattle.hp_tokens.specs.declared.lexing.LexState.{LexState}
 use Rattle.hp_tokens.specs.Advancing.{rest_state}
-use Rattle.hp_control.specs.declared.below.Guess.{Guess}
 use Rattle.hp_control.specs.declared.change.Change.{Change}
 use Rattle.hp_control.specs.declared.change.FormChange.{FormChange}
 use Rattle.hp_control.specs.declared.change.FormChange.TheVariants as form
@@ -14,6 +13,7 @@ use Rattle.hp_control.specs.declared.question.Question.TheVariants as ask
 use Rattle.hp_control.specs.declared.question.Answer.{Answer}
 use Rattle.hp_control.specs.declared.question.Answer.TheVariants as answer
 use Rattle.hp_control.specs.Faithful.{Page, Split}
+use Rattle.hp_control.specs.Guessing.{Guessing, heard_by}
 use Rattle.hp_control.specs.Outcome.{is_table_text}
 use Rattle.hp_control.specs.Plan.{gives, asks, Runs}
 use Rattle.hp_control.specs.States.{ControlState}
@@ -92,8 +92,8 @@ abbrev pub begins : Answer → Split
 begins a = record { change = begun_by a; edits = []; older_text = is_table_text (begun_by a).mode; page = None }
 
 -- what is told at the start was asked, and the view begins there
-pub record Begins {P : Type 0} (says : P → Question → Answer) (old new : Guess P) (v : Split) (a : Answer) : Type 0 where
-  pub told : Runs (record { says = says old.predictor; kept = Some old.kept }) (record { says = says new.predictor; kept = Some new.kept }) (asks ask.Entry gives) (Ok a)
+pub record Begins {P : Type 0} (says : P → Question → Answer) (old new : Guessing P) (v : Split) (a : Answer) : Type 0 where
+  pub told : Runs (heard_by says old) (heard_by says new) (asks ask.Entry gives) (Ok a)
   pub begun : v ≡ begins a
 
 -- the change at its end, with that state of the lexer

@@ -1,6 +1,7 @@
 //! A view over a guessed state: how it begins and ends.
 ghost use Rattle.std.specs.Prelude.{◌≡◌, IfOk};
 ghost use Rattle.hp_control.specs.declared.change.Change.{Change};
+ghost use Rattle.hp_control.specs.Guessing.{AreDistinct};
 ghost use Rattle.hp_views.specs.Begins.{begun_by, Begins, ended};
 ghost use Rattle.hp_views.specs.View.{split_of};
 
@@ -88,6 +89,7 @@ impl<'p, P: Predictor + Drop> View<'p, Guess<P>> {
     pub fn into_change(self, lex: LexState, last_tag_set: bool) -> (Change, Assumptions, Edits<'p>)
         ensures change { result.0 ≡ ended lex last_tag_set self.entry.change }
         ensures kept { result.1 ≡ self.entry.below.kept }
+        ensures distinct { AreDistinct result.1 }
         ensures edits { result.2 ≡ self.entry.edits }
     {
         let View {
@@ -97,6 +99,6 @@ impl<'p, P: Predictor + Drop> View<'p, Guess<P>> {
             ..
         } = self;
         end_with(&mut change, lex, last_tag_set);
-        (change, below.kept, edits)
+        (change, below.into_kept(), edits)
     }
 }

@@ -1,4 +1,4 @@
-use Rattle.std.proofs.Common.{◌-◌, ◌<◌, length, arith}
+use Rattle.std.proofs.Common.{◌-◌, arith}
 use Rattle.hp_control.proofs.OpenLemmas.{open_somewhere}
 use Rattle.hp_control.proofs.open_elements.OpenElements.is_in_order.Goals as goal
 

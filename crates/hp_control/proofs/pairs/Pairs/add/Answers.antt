@@ -1,4 +1,4 @@
-use Rattle.std.proofs.Common.{◌++◌, ◌∷◌, [], length, subst, sym, ap, ◌∙◌}
+use Rattle.std.proofs.Common.{subst, ap, ◌∙◌}
 use Rattle.std.specs.List.{Contains}
 use Rattle.hp_control.specs.Guessing.{places_at}
 use Rattle.hp_control.specs.Hashing.{hash_of}

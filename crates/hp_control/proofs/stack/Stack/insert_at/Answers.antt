@@ -1,4 +1,4 @@
-use Rattle.std.proofs.Common.{◌≡◌, [], ◌∷◌, ◌++◌, ◌-◌, ◌≤◌, ℕ, List, length, take, drop, reverse, ap, sym, ◌∙◌, arith}
+use Rattle.std.proofs.Common.{◌≡◌, [], ◌∷◌, ◌-◌, ◌≤◌, ℕ, List, length, reverse, ap, sym, ◌∙◌, arith}
 use Rattle.std.specs.List.{insert}
 use Rattle.std.proofs.lemmas.List.{length-reverse}
 use Rattle.hp_control.specs.Adoption.{spliced}
