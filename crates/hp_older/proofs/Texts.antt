@@ -58,6 +58,6 @@ pub texts-handled : TextsHandled
 texts-handled [] s v old new end r true_all over takes none some = absurd (omega (arith, some))
 texts-handled (x ∷ xs) s v old new end r true_all over takes none some =
     let c = state_over v s in
-    let comes = texts_at_once x xs c (are-valid s v over) (texts-taken s v takes) none in
+    let comes = texts_at_once x xs c (are-valid s v over) takes none in
     comes_alike s v end (handle_at_once c (as_run (x ∷ xs))) (each_at_once c (map character (x ∷ xs))) comes.same
     (tokens-handled (as_run (x ∷ xs)) s v old new end r true_all over (record { read = tt; inside = inl tt }))

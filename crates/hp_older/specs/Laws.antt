@@ -92,14 +92,14 @@ abbrev pub TokensHandled : Type 0
 TokensHandled = (t : Token) (s : ControlState) (v : Split) (old new : Heard) (end : Result Reached Crossing) → Runs old new (handle_plan t v) end → AllTrue s old.says (asked_by old.says (handle_plan t v))
     → IsOver s v → MayCome s t → ComesOver s v end (handle_at_once (state_over v s) t)
 
--- what a view takes as it comes, its state does
+-- a text that a view takes as it comes goes into the current node of its state
 abbrev pub TextsTaken : Type 0
 TextsTaken = (s : ControlState) (v : Split) → takes_text v ≡ true → TakesText (state_over v s)
 
--- a text without U+0000 that is handled as one run is its code points, one by one
+-- a text without U+0000 that the state takes so, handled as one run, is its code points, one by one
 abbrev pub TextsHandled : Type 0
 TextsHandled = (text : List ℕ) (s : ControlState) (v : Split) (old new : Heard) (end : Result Reached Crossing) → Runs old new (handle_plan (as_run text) v) end → AllTrue s old.says (asked_by old.says (handle_plan (as_run text) v))
-    → IsOver s v → takes_text v ≡ true → list_all (none_of (0 ∷ [])) text ≡ true → 0 < length text → ComesOver s v end (each_at_once (state_over v s) (map character text))
+    → IsOver s v → TakesText (state_over v s) → list_all (none_of (0 ∷ [])) text ≡ true → 0 < length text → ComesOver s v end (each_at_once (state_over v s) (map character text))
 
 -- what is found out of the current node, by answers that are true of s, is so of the whole state
 abbrev pub ForeignTold : Type 0
