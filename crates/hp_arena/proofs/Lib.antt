@@ -24,3 +24,4 @@ pub mod Parents
 pub mod Tagging
 pub mod RootItems
 pub mod Grown
+pub mod LevelLemmas

@@ -6,3 +6,4 @@ pub mod Shape
 pub mod Readers
 pub mod Room
 pub mod Roots
+pub mod Levels

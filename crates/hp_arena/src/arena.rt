@@ -1,6 +1,6 @@
 //! The nodes, elements and leaves of a tree, and the edits on them.
 
-ghost use Rattle.std.specs.Prelude.{◌≡◌, ◌≢◌, ◌+◌, ◌<◌, ◌≤◌, length, ◌++◌, [], ◌∷◌, ◌^◌, true, false, IfOk, OnOk, OnErr, All, MatchOption, Some, slice_get, slice_set, vec_len, vec_capacity, ℕ};
+ghost use Rattle.std.specs.Prelude.{◌≡◌, ◌≢◌, ◌+◌, ◌<◌, ◌≤◌, length, ◌++◌, [], ◌∷◌, ◌^◌, true, false, IsTrue, ◌↔◌, IfOk, OnOk, OnErr, All, MatchOption, Some, slice_get, slice_set, vec_len, vec_capacity, ℕ};
 ghost use Rattle.hp_control.specs.Edits.{room_of, room_of_all};
 ghost use Rattle.hp_control.specs.Tree.{document, detached, put, put_child, applied, is_there, id_of, is_place, may_be_child, leads_into_document, children_moved, with_tag, with_attributes};
 ghost use Rattle.hp_control.specs.Tree.{branch, IsForest};
@@ -12,6 +12,7 @@ ghost use Rattle.hp_arena.specs.Readers.{IsSpot, shown, is_item, HasTag};
 
 use crate::attributes::add_attributes;
 use crate::leaves::{Doctype, Leaf, add_leaf, add_text, alone, text_at};
+use crate::levels::summed_levels;
 use crate::links::{Kind, Node, put_before, splice, unlink};
 use crate::readers::{NodeView, Runs, Spot};
 use crate::room::widen;
@@ -104,7 +105,7 @@ impl<'p> Arena<'p> {
             .max(self.leaves.len())
             .max(self.doctypes.len())
             .max(self.used);
-        if room > MOST as u64 || most > MOST {
+        if !is_within(most, room) {
             return Err(AllocError);
         }
         let room = room as usize;
@@ -588,33 +589,9 @@ fn next_of(nodes: &[Node], at: u32) -> u32 {
     }
 }
 
-/// The levels above all items that the links lead to from the document, and those above the deepest for so many more. An element
-/// stands right before the end of its own children.
-#[inline(never)]
-fn summed_levels(nodes: &[Node], more: u64) -> u64 {
-    let mut level = 0u64;
-    let mut deepest = 0u64;
-    let mut sum = 0u64;
-    let mut at = 1usize;
-    for _ in 0..nodes.len() {
-        let Some(node) = nodes.get(at) else { break };
-        let Some(next) = nodes.get(node.next as usize) else {
-            break;
-        };
-        sum = sum.saturating_add(level);
-        at = node.next as usize;
-        match next.kind {
-            Kind::Leaf(_) => {}
-            Kind::Element(_) => {
-                level = level.saturating_add(1);
-                deepest = deepest.max(level);
-                at = at.saturating_add(1);
-            }
-            Kind::End(_) => {
-                level = level.saturating_sub(1);
-                at = at.saturating_sub(1);
-            }
-        }
-    }
-    sum.saturating_add(deepest.saturating_mul(more))
+/// Whether a tree may have a list or count of so many items, and room for so many more.
+fn is_within(most: usize, room: u64) -> bool
+    ensures { IsTrue result ↔ ((most ≤ 2 ^ 29) × (room ≤ 2 ^ 29)) }
+{
+    most <= MOST && room <= MOST as u64
 }

@@ -4,6 +4,7 @@
 mod arena;
 mod attributes;
 mod leaves;
+mod levels;
 mod links;
 mod readers;
 mod room;

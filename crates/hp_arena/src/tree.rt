@@ -98,15 +98,16 @@ impl<'p> Tree<'p> {
         self.reserve(alloc, edits)?;
         let mut batch = Vec::with_capacity(alloc, BATCH)?;
         edits.take_into(&mut batch);
-        self.make_all(&mut batch);
+        self.apply_all(&mut batch);
         Ok(())
     }
 
-    /// Makes these edits, in order, each told where no older state is below. Nothing is promised of what is left of them.
+    /// Makes these edits, in order, each told where no older state is below. It takes no memory. Nothing is promised of what is left
+    /// of them.
     #[inline(always)]
-    fn make_all(&mut self, edits: &mut [Edit<'p>])
+    pub fn apply_all(&mut self, edits: &mut [Edit<'p>])
         requires { room_of_all edits.old ≤ self.old.spare }
-        ensures { self.new.branches ≡ applied_all self.old.branches (map (named_edit nothing) edits.old) }
+        ensures branches { self.new.branches ≡ applied_all self.old.branches (map (named_edit nothing) edits.old) }
     {
         for edit in edits.iter_mut() {
             self.make(edit);

@@ -9,8 +9,10 @@ invariant_of-self c =
 pub invariant_of-self-2 : goal.invariant_of-self-2
 invariant_of-self-2 c =
     let made = c.in_ok-widen.ensures in
+    let within = c.is_within.ensures.0 c.if-not-is_within.false in
+    let few = within.0 in
     IsSound-widened c.self.inside _ c.self.invariant c.widen.ensures.nodes c.widen.ensures.elements c.widen.ensures.leaves c.widen.ensures.doctypes refl c.widen.ensures.cell
-    made.nodes_room made.elements_room made.leaves_room made.doctypes_room made.cells_room c.if-room.false (omega arith) (omega arith) (omega arith) (omega arith) (omega arith)
+    made.nodes_room made.elements_room made.leaves_room made.doctypes_room made.cells_room within.1 (omega arith) (omega arith) (omega arith) (omega arith) (omega arith)
 
 pub returns-clause-branches : goal.returns-clause-branches
 returns-clause-branches c =

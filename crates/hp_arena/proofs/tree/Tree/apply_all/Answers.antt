@@ -1,6 +1,6 @@
 use Rattle.std.proofs.Common.{arith}
 use Rattle.hp_arena.proofs.Grown.{grown_on, room-next}
-use Rattle.hp_arena.proofs.tree.Tree.make_all.Goals as goal
+use Rattle.hp_arena.proofs.tree.Tree.apply_all.Goals as goal
 
 pub make-requires : goal.make-requires
 make-requires c =
