@@ -86,9 +86,9 @@ step_owns p asks_last_tag k = tt
 step_owns p (makes l es) k = built-owns es (at_lexing p l) k
 step_owns p (ends es) k = tt
 
-goes_own : {names : List Reference} {p q : Parser} {es : List Edit} → Goes (step (table names)) p es q → Own p.lexing → Own q.lexing
-goes_own here h = h
-goes_own {names} {p} (onward {q = q} {es = es} e g) h = goes_own g (subst StepOwns e (step_owns p (move (table names) p.lexing) (move_owns names p.lexing h)))
+goes_own : (names : List Reference) {p q : Parser} {es : List Edit} → Goes (step (table names)) p es q → Own p.lexing → Own q.lexing
+goes_own names here h = h
+goes_own names {p} (onward {q = q} {es = es} e g) h = goes_own names g (subst StepOwns e (step_owns p (move (table names) p.lexing) (move_owns names p.lexing h)))
 
 -- where no step is made, more text is needed
 needs : (p : Parser) (m : Move) (s : State) (text : List ℕ) → MoveKeeps s text m → ((q : Parser) (es : List Edit) → step_by p m ≡ goes q es → ⊥) → m ≡ needs_more
@@ -148,7 +148,7 @@ lex_fits s text es there run f =
     let h : Fits m = goes_keep run.goes (from_parts s.lex.machine f.parts f.last_tag) in
     let ahead : may_be_ahead m.state there.lexing.unread ≡ true = subst (MoveKeeps m.state there.lexing.unread) (needs_there run h) (move_keeps there.lexing h) in record {
       parts = to_parts m h;
-      token = token_there m.state there.lexing.unread m.return_to m.building ahead (goes_own run.goes (token_owned s.lex.machine.state _ s.lex.machine.return_to s.lex.machine.building f.token));
+      token = token_there m.state there.lexing.unread m.return_to m.building ahead (goes_own built_in run.goes (token_owned s.lex.machine.state _ s.lex.machine.return_to s.lex.machine.building f.token));
       ahead = ahead;
       last_tag = h.told;
     }

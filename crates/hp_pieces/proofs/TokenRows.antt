@@ -124,9 +124,9 @@ pub chosen-owns : {c : ℕ} {cs : List ℕ} (b : Bool) {x y : Row} → (b ≡ tr
 chosen-owns true h k = h refl
 chosen-owns false h k = k refl
 
-pub state-owns : {c : ℕ} {cs : List ℕ} (b : Bool) {n k : State} {m : Machine} → Owns c cs (go n m) → Owns c cs (go k m) → Owns c cs (go (cond b n k) m)
-state-owns true h k = h
-state-owns false h k = k
+pub state-owns : {c : ℕ} {cs : List ℕ} (b : Bool) (n k : State) (m : Machine) → Owns c cs (go n m) → Owns c cs (go k m) → Owns c cs (go (cond b n k) m)
+state-owns true n k m h i = h
+state-owns false n k m h i = i
 
 pub go-owns : {c : ℕ} {cs : List ℕ} (n : State) (m : Machine) → has_own n cs (cond (uses_return n) m.return_to returns.Data) (cond (uses_token n) m.building building.Nothing) ≡ true → Owns c cs (go n m)
 go-owns n m h = record { own = h }

@@ -44,7 +44,7 @@ each_owns BeforeAttributeName m c cs h =
 each_owns AttributeName m c cs h =
     let at : Machine = record m { state = AttributeName } in
     let again_behind : Owns c cs (again AfterAttributeName at) = again-owns AfterAttributeName at (still (c ∷ cs) m.return_to m.building h) in
-    search (again_behind, owning, h) depth 9
+    either-owns (is_blank c) again_behind (either-owns (ends_tag c) again_behind (search (owning, h) depth 9))
 each_owns AfterAttributeName m c cs h =
     let at : Machine = record m { state = AfterAttributeName } in
     let tag : is_tag m.building ≡ true = a_tag m.building (ends_tag c) h in
@@ -52,9 +52,9 @@ each_owns AfterAttributeName m c cs h =
     chosen-owns (is_blank c) (λ q. stay-owns at (still cs m.return_to m.building (goes_on (blank_goes_on c q))))
     (λ q. either-owns (c == solidus) (go-owns SelfClosingStartTag at tag)
     (chosen-owns (c == equals) (λ p. go-owns BeforeAttributeValue at (goes_on (equals_goes_on c p)))
-    (λ p. search (owning, tag, refl) depth 9)))
-each_owns Data m c cs h = search (owning, h, refl) depth 9
-each_owns _ m c cs h = search (owning, h, refl) depth 9
+    (λ p. search (owning, tag) depth 9)))
+each_owns Data m c cs h = search (owning, h) depth 9
+each_owns _ m c cs h = search (owning, h) depth 9
 
 pub row_owns : (m : Machine) (c : ℕ) (cs : List ℕ) → owns m (c ∷ cs) ≡ true → Owns c cs (row m (Some c))
 row_owns m c cs h = each_owns m.state m c cs h
