@@ -12,15 +12,12 @@ use Rattle.hp_tokens.specs.declared.rows.Reads.TheVariants.{Consume, Again, End}
 use Rattle.hp_tokens.specs.States.{return_state, is_in_value}
 use Rattle.hp_tokens.specs.Parts.{built, put}
 use Rattle.hp_tokens.specs.Rows.{Row, character, go, again, stay, plus, ended, back, emitting_built, emitting_buffer, flushing, flushed_tokens}
-use Rattle.hp_model.specs.Growth.{IsInside, tag_count}
+use Rattle.hp_model.specs.Growth.{tag_count}
+use Rattle.hp_runs.specs.Tokens.{AllInside}
 
 abbrev pub token_tags : List Token → ℕ
 token_tags [] = 0
 token_tags (t ∷ ts) = tag_count t + token_tags ts
-
-abbrev pub AllInside : List Token → Type 0
-AllInside [] = Unit {0}
-AllInside (t ∷ ts) = IsInside t × AllInside ts
 
 abbrev pub Sparse : Reads → List Token → Type 0
 Sparse Consume ts = (token_tags ts ≤ 1) × AllInside ts

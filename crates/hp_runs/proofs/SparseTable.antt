@@ -24,7 +24,8 @@ use Rattle.hp_lex_markup.specs.Words.{asks, count, is_open, word}
 use Rattle.hp_lex_markup.specs.declared.words.Word.{Word}
 use Rattle.hp_lexer.specs.Table.{table}
 use Rattle.hp_model.specs.Growth.{AreInside, tags as tag_total}
-use Rattle.hp_runs.proofs.SparseRows.{AllInside, IsSparse, Sparse, flushed-sparse, token_tags}
+use Rattle.hp_runs.proofs.SparseRows.{IsSparse, Sparse, flushed-sparse, token_tags}
+use Rattle.hp_runs.specs.Tokens.{AllInside}
 use Rattle.hp_runs.proofs.SparseTagRows as tag_sparse
 use Rattle.hp_runs.proofs.SparseRawRows as raw_sparse
 use Rattle.hp_runs.proofs.SparseMarkupRows as markup_sparse

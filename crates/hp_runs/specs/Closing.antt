@@ -1,7 +1,12 @@
--- Text in which `>` stands last, and what is emitted behind it.
-use Rattle.std.specs.Prelude.{◌≡◌, ℕ, List, [], ◌∷◌}
+-- What is no character is emitted where the lexer comes to a rest; and text in which `>` stands last.
+use Rattle.std.specs.Prelude.{◌≡◌, ◌⊎◌, ℕ, true, List, [], ◌∷◌}
 use Rattle.hp_elements.specs.declared.token.Token.{Token}
 use Rattle.hp_elements.specs.declared.token.Token.TheVariants as token
+use Rattle.hp_names.specs.References.{Reference}
+use Rattle.hp_tokens.specs.Advancing.{tokens_of}
+use Rattle.hp_tokens.specs.Moves.{Emitted, Lexing, makes, move}
+use Rattle.hp_tokens.specs.States.{is_resting}
+use Rattle.hp_lexer.specs.Table.{table}
 
 -- nothing stands behind a `>`
 abbrev pub EndsAtTag : List ℕ → Type 0
@@ -12,3 +17,7 @@ abbrev pub AreCharacters : List Token → Type 0
 AreCharacters [] = Unit {0}
 AreCharacters (token.Characters class text ∷ ts) = AreCharacters ts
 AreCharacters (_ ∷ ts) = ⊥
+
+-- what is no character is emitted by a move that ends at a rest
+abbrev pub TagsRest : Type 0
+TagsRest = (names : List Reference) (l m : Lexing) (es : List Emitted) → move (table names) l ≡ makes m es → AreCharacters (tokens_of es) ⊎ (is_resting m.machine.state ≡ true)

@@ -8,3 +8,4 @@ pub mod Filled
 pub mod Laws
 pub mod Touching
 pub mod Plain
+pub mod Coming
