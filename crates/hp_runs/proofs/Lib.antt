@@ -17,6 +17,8 @@ pub mod ClosingTags
 pub mod ClosingRaw
 pub mod ClosingMarkup
 pub mod ClosingTable
+pub mod SettlingRows
+pub mod Settling
 pub mod FillingRows
 pub mod FillingTags
 pub mod FillingRaw
