@@ -5,6 +5,6 @@ pub mod Ending
 pub mod Steady
 pub mod Opening
 pub mod Loads
-mod Placing
+pub mod Placing
 mod PlacedSteps
 pub mod Direct

@@ -46,7 +46,7 @@ switched-filled : (name : List ℕ) (s : Option Rest) (l : Lexing) → switched 
 switched-filled name None l = refl
 switched-filled name (Some rest) l = refl
 
-turned-filled : (does : Handler) (name : List ℕ) (c : ControlState) (ts : List Token) (l : Lexing) → turned_by does c ts (at_filled name l) ≡ at_filled name (turned_by does c ts l)
+pub turned-filled : (does : Handler) (name : List ℕ) (c : ControlState) (ts : List Token) (l : Lexing) → turned_by does c ts (at_filled name l) ≡ at_filled name (turned_by does c ts l)
 turned-filled does name c [] l = refl
 turned-filled does name c (t ∷ ts) l =
     ap (turned_by does (left_by (does c t)) ts) (switched-filled name (does c t).switch l) ∙ turned-filled does name (left_by (does c t)) ts (switched (does c t).switch l)

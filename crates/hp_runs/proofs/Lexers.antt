@@ -1,14 +1,15 @@
 -- The lexer in code behind the switches of some tokens.
-use Rattle.std.proofs.Common.{◌≡◌, ℕ, ◌+◌, ◌*◌, ◌<◌, ◌≤◌, List, [], ◌∷◌, Bool, true, false, cond, refl, ap, ◌∙◌, sym, map, arith, lit≤, Option, None, Some}
+use Rattle.std.proofs.Common.{◌≡◌, ℕ, ◌+◌, ◌*◌, ◌<◌, ◌≤◌, List, [], ◌∷◌, Bool, true, false, cond, refl, ap, ◌∙◌, sym, subst, map, arith, lit≤, Option, None, Some}
 use Rattle.hp_elements.specs.Tokens.{class_of}
 use Rattle.hp_elements.specs.declared.token.Rest.{Rest}
+use Rattle.hp_elements.specs.declared.token.Rest.TheVariants as rest
 use Rattle.hp_elements.specs.declared.token.Token.{Token}
-use Rattle.hp_tokens.specs.Advancing.{held}
+use Rattle.hp_tokens.specs.Advancing.{held, place_of, unread}
 use Rattle.hp_tokens.specs.Moves.{Lexing}
 use Rattle.hp_tokens.specs.Ranks.{weight}
 use Rattle.hp_tokens.specs.Reading.{Unread}
 use Rattle.hp_tokens.specs.Rows.{character}
-use Rattle.hp_tokens.specs.States.{enter, state_of_rest}
+use Rattle.hp_tokens.specs.States.{enter, is_resting, state_of_rest}
 use Rattle.hp_tokens.specs.declared.machine.Machine.{Machine}
 use Rattle.hp_control.specs.States.{ControlState}
 use Rattle.hp_lex_raw.specs.Raw.{is_untold}
@@ -53,9 +54,26 @@ switched-unread : (s : Option Rest) (l : Lexing) → (switched s l).unread ≡ l
 switched-unread None l = refl
 switched-unread (Some rest) l = refl
 
-turned-asked : (s : Option Rest) (l : Lexer) → (turned s l).asked ≡ l.asked
+pub turned-asked : (s : Option Rest) (l : Lexer) → (turned s l).asked ≡ l.asked
 turned-asked None l = refl
 turned-asked (Some rest) l = refl
+
+rests : (to : Rest) → is_resting (state_of_rest to) ≡ true
+rests rest.Data = refl
+rests _ = refl
+
+rested-there : (b : Bool) (place p q : ℕ) → b ≡ true → cond b place p ≡ cond b place q
+rested-there true place p q e = refl
+rested-there false place p q e = cc
+
+-- the lexer in code stands where the run's is switched to
+turned-stands : (s : Option Rest) (l : Lexer) (input : Unread) → l.asked ≡ asked.Nothing → stands (turned s l) input ≡ switched s (stands l input)
+turned-stands None l input e = refl
+turned-stands (Some to) l input e =
+    let n : Machine = enter (state_of_rest to) l.lex.machine in
+    let there : ℕ → Lexing = λ rested. record { machine = n; place = place_of l.lex input; rested = rested; unread = unread l.lex input } in
+    let P : Asked → Type 0 = λ a. stands (record (turned (Some to) l) { asked = a }) input ≡ switched (Some to) (stands (record l { asked = a }) input) in
+    subst P (sym e) (ap there (rested-there (is_resting (state_of_rest to)) (place_of l.lex input) l.rested (stands (record l { asked = asked.Nothing }) input).rested (rests to)))
 
 turned-names : (s : Option Rest) (l : Lexer) → (turned s l).names ≡ l.names
 turned-names None l = refl
@@ -89,6 +107,13 @@ module _ (does : Handler) where
   pub asked-after : (c : ControlState) (ts : List Token) (l : Lexer) → (lexer_after does c ts l).asked ≡ l.asked
   asked-after c [] l = refl
   asked-after c (t ∷ ts) l = asked-after (left_by (does c t)) ts (turned (does c t).switch l) ∙ turned-asked (does c t).switch l
+
+  -- and so behind all of them
+  pub stands-after : (c : ControlState) (ts : List Token) (l : Lexer) (input : Unread) → l.asked ≡ asked.Nothing → stands (lexer_after does c ts l) input ≡ turned_by does c ts (stands l input)
+  stands-after c [] l input e = refl
+  stands-after c (t ∷ ts) l input e =
+      stands-after (left_by (does c t)) ts (turned (does c t).switch l) input (turned-asked (does c t).switch l ∙ e)
+      ∙ ap (turned_by does (left_by (does c t)) ts) (turned-stands (does c t).switch l input e)
 
   pub names-after : (c : ControlState) (ts : List Token) (l : Lexer) → (lexer_after does c ts l).names ≡ l.names
   names-after c [] l = refl

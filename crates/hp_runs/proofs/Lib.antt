@@ -9,6 +9,7 @@ pub mod SparseTagRows
 pub mod SparseRawRows
 pub mod SparseMarkupRows
 pub mod SparseTable
+pub mod Insides
 pub mod Bounded
 pub mod Began
 pub mod Shifting
@@ -31,8 +32,14 @@ pub mod Ending
 pub mod Quiet
 pub mod Turning
 pub mod Filling
+pub mod Own
+pub mod Groups
+pub mod Following
 pub mod Lexers
 pub mod Stepping
+pub mod AtOnce
+pub mod Comes
+pub mod Stopping
 pub mod Lexed
 pub mod PlainHandled
 pub mod PlainTrees

@@ -2,10 +2,12 @@
 //! contracts whose bodies do nothing.
 #![tactic(auto)]
 
+mod coming;
 mod plain;
 mod runs;
 mod steps;
 
+pub use coming::{comes_on, comes_to_touch};
 pub use plain::plain_pages;
 pub use runs::pages;
 pub use steps::{names_wait, places_count, tokens_step};
