@@ -1,7 +1,7 @@
 -- A text put into the current node at once is its code points, one by one.
-use Rattle.std.proofs.Common.{◌≡◌, ℕ, ◌==◌, List, [], ◌∷◌, ◌++◌, map, Bool, true, false, ◌&&◌, ◌||◌, refl, sym, ap, ◌∙◌, subst, inl, inr}
+use Rattle.std.proofs.Common.{◌≡◌, ℕ, ◌==◌, List, [], ◌∷◌, ◌++◌, map, Bool, true, false, ◌&&◌, refl, sym, ap, ◌∙◌, subst, inl, inr}
 use Rattle.std.specs.Prelude.{if◌then◌else◌, not, All}
-use Rattle.std.specs.List.{list_all}
+use Rattle.std.specs.List.{list_all, list_any}
 use Rattle.hp_elements.specs.declared.token.CharClass.{CharClass}
 use Rattle.hp_elements.specs.declared.token.CharClass.TheVariants.{White, Nul, Other}
 use Rattle.hp_elements.specs.declared.token.Kind.TheVariants.{Characters}
@@ -17,14 +17,14 @@ use Rattle.hp_control.specs.declared.element.OpenElement.{OpenElement}
 use Rattle.hp_control.specs.Acts.{place}
 use Rattle.hp_control.specs.Adoption.{reconstruct}
 use Rattle.hp_control.specs.Foreign.{is_foreign}
-use Rattle.hp_control.specs.Outcome.{Outcome, after}
+use Rattle.hp_control.specs.Outcome.{Outcome, Touch, after, is_older, touches_any}
 use Rattle.hp_control.specs.States.{ControlState, IsFormatting, IsValid, is_html}
 use Rattle.hp_model.specs.AtOnce.{LeaveSame, MakeSame, handle_at_once}
 use Rattle.hp_model.specs.Rows.{entering, turn}
 use Rattle.hp_model.specs.Growth.{steps_left}
-use Rattle.hp_model.specs.Texts.{ComesTo, TakesText, as_run, each_at_once, has_html_top, is_text_mode, is_white, run_of, white_or_other}
+use Rattle.hp_model.specs.Texts.{ComesTo, TakesText, TextsTouchFirst, as_run, each_at_once, has_html_top, is_text_mode, is_white, run_of, white_or_other}
 use Rattle.hp_model.specs.Turns.{Handled, Turn, goes_on, joined, left_by, plainly, unchanged}
-use Rattle.hp_model.proofs.AtOnce.{not_skipping, same_by, same_joined, same_then, turned_once}
+use Rattle.hp_model.proofs.AtOnce.{not_skipping, runs_at_once, same_by, same_joined, same_then, turned_once}
 use Rattle.hp_model.proofs.Handled.{all_turns-valid}
 use Rattle.hp_model.proofs.JoinedTexts.{texts_join}
 use Rattle.hp_model.proofs.Manners.{DealsAfter, Manner, puts, carried, in_foreign, in_mode, is_colgroup, keeps_text, manner, plain, put_by, turn_deals}
@@ -196,3 +196,22 @@ texts_at_once x xs c v t n = record {
   quiet = ap (λ (h : Handled). h.switch) (handled_run (list_all is_white (x ∷ xs)) (x ∷ xs) c t);
   valid = left_valid (list_all is_white (x ∷ xs)) (x ∷ xs) c v t;
 }
+
+-- what is touched is the same, whatever the text is
+touched_same : (m : Mode) (w x : Bool) (a b : List ℕ) (c : ControlState) → (put_handled m w a c).outcome.touched ≡ (put_handled m x b c).outcome.touched
+touched_same mode.Text w x a b c = refl
+touched_same _ true true a b c = refl
+touched_same _ true false a b c = refl
+touched_same _ false true a b c = refl
+touched_same _ false false a b c = refl
+
+pub texts-touch-first : TextsTouchFirst
+texts-touch-first x xs s c v t n =
+    let here = parts (none_of (0 ∷ []) x) (list_all (none_of (0 ∷ [])) xs) n in
+    let one : character x ≡ run_of (is_white x) (x ∷ []) = alone x (no_null x here.0) in
+    let white : Bool = list_all is_white (x ∷ xs) in
+    let touched : Handled → Bool = λ h. touches_any s h.outcome in
+    ap touched (handled_run white (x ∷ xs) c t)
+    ∙ (ap (λ (ts : List Touch). list_any (is_older s) ts) (touched_same c.mode white (is_white x) (x ∷ xs) (x ∷ []) c)
+    ∙ (sym (ap touched (handled_run (is_white x) (x ∷ []) c t))
+    ∙ (sym (ap (λ (k : Token). touched (handle_at_once c k)) one) ∙ sym ((runs_at_once (character x) c tt (λ e. refl) v).touched (is_older s)))))

@@ -10,8 +10,10 @@ use Rattle.hp_elements.specs.declared.token.Token.TheVariants as token
 use Rattle.hp_tokens.specs.Plain.{none_of}
 use Rattle.hp_tokens.specs.Rows.{character}
 use Rattle.hp_control.specs.declared.element.OpenElement.{OpenElement}
+use Rattle.hp_control.specs.Outcome.{touches_any}
 use Rattle.hp_control.specs.States.{ControlState, IsValid, is_html}
 use Rattle.hp_model.specs.AtOnce.{LeaveSame, handle_at_once}
+use Rattle.hp_model.specs.Handling.{handle}
 use Rattle.hp_model.specs.Turns.{Handled, joined, left_by, unchanged}
 
 -- the modes in which text goes into the current node
@@ -62,3 +64,8 @@ pub record ComesTo (c : ControlState) (ts : List Token) (run : Token) : Type 0 w
 abbrev pub TextsAtOnce : Type 0
 TextsAtOnce = (x : ℕ) (xs : List ℕ) (c : ControlState) → IsValid c → TakesText c → list_all (none_of (0 ∷ [])) (x ∷ xs) ≡ true
     → ComesTo c (map character (x ∷ xs)) (as_run (x ∷ xs))
+
+-- of such a text only the first code point touches something older
+abbrev pub TextsTouchFirst : Type 0
+TextsTouchFirst = (x : ℕ) (xs : List ℕ) (s c : ControlState) → IsValid c → TakesText c → list_all (none_of (0 ∷ [])) (x ∷ xs) ≡ true
+    → touches_any s (handle_at_once c (as_run (x ∷ xs))).outcome ≡ touches_any s (handle c (character x)).outcome

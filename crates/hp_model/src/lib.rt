@@ -8,7 +8,7 @@ ghost use Rattle.hp_model.specs.Examples.{Examples};
 ghost use Rattle.hp_model.specs.Growth.{BuiltGrows};
 ghost use Rattle.hp_model.specs.Laws.{ForeignByActs, ModeByActs};
 ghost use Rattle.hp_model.specs.Runs.{OneRun, OneTree, RunsJoin, RunsStayValid};
-ghost use Rattle.hp_model.specs.Texts.{TextsAtOnce};
+ghost use Rattle.hp_model.specs.Texts.{TextsAtOnce, TextsTouchFirst};
 ghost use Rattle.hp_model.specs.Whole.{ActsFind, HandedOn, StaysValid, TurnsEnd};
 
 /// Short pages lead to the trees of the standard.
@@ -41,11 +41,13 @@ pub fn runs()
 {}
 
 /// A run of characters handled at once is its code points handled one by one: the same state, switch, end of parsing and touched
-/// parts of older states, and from every tree the same tree. So are the tokens that the lexer emits, taken as runs.
+/// parts of older states, and from every tree the same tree. So are the tokens that the lexer emits, taken as runs. Of a run, and of
+/// a text that goes into the current node as it comes, only the first code point touches something older.
 pub fn at_once()
     ensures token { RunsAtOnce }
     ensures tokens { BuiltAtOnce }
     ensures first { RunsTouchFirst }
+    ensures first_of_text { TextsTouchFirst }
 {}
 
 /// A text that goes into the current node as it comes, handled as one run, of white space or not, is its code points handled one
