@@ -14,7 +14,7 @@ use Rattle.hp_runs.specs.Closing.{AreCharacters}
 pub record Closes (c : ℕ) (r : Row) : Type 0 where
   pub how : AreCharacters r.emits ⊎ (((c == 62) ≡ true) × (r.reads ≡ Consume))
 
-AreCharacters-join : (xs : List ℕ) (ts : List Token) → AreCharacters ts → AreCharacters (map character xs ++ ts)
+pub AreCharacters-join : (xs : List ℕ) (ts : List Token) → AreCharacters ts → AreCharacters (map character xs ++ ts)
 AreCharacters-join [] ts h = h
 AreCharacters-join (x ∷ xs) ts h = AreCharacters-join xs ts h
 

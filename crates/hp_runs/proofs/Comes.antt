@@ -1,17 +1,16 @@
 -- What the lexer's calls do to how far a run over an older state has come.
-use Rattle.std.proofs.Common.{◌≡◌, ℕ, ◌+◌, ◌-◌, ◌≤◌, ◌<◌, ◌^◌, List, [], ◌∷◌, ◌++◌, length, map, Bool, true, false, cond, not, refl, ap, ◌∙◌, sym, subst, append-nil, append_assoc, arith, Option, None, Some}
+use Rattle.std.proofs.Common.{◌≡◌, ℕ, ◌+◌, ◌-◌, ◌≤◌, ◌^◌, List, [], ◌∷◌, ◌++◌, map, Bool, true, false, cond, not, refl, ap, ◌∙◌, sym, subst, append-nil, arith, Option, Some}
 use Rattle.std.specs.Prelude.{◌&&◌}
-use Rattle.std.specs.List.{list_all}
 use Rattle.hp_elements.specs.declared.token.CharClass.TheVariants.{White}
 use Rattle.hp_elements.specs.declared.token.Rest.{Rest}
 use Rattle.hp_elements.specs.declared.token.Token.{Token}
 use Rattle.hp_elements.specs.declared.token.Token.TheVariants as token
 use Rattle.hp_names.specs.References.{Reference}
 use Rattle.hp_tokens.specs.declared.machine.Machine.{Machine}
-use Rattle.hp_tokens.specs.Advancing.{AreRuns, held, single, singles, tokens_of, unread}
+use Rattle.hp_tokens.specs.Advancing.{AreRuns, held, singles, tokens_of, unread}
 use Rattle.hp_tokens.specs.Moves.{Emitted, Lexing, Move, asks_cdata, asks_last_tag, makes, move, needs_more, standing}
 use Rattle.hp_tokens.specs.Reading.{Unread}
-use Rattle.hp_tokens.specs.Rows.{character, is_blank}
+use Rattle.hp_tokens.specs.Rows.{character}
 use Rattle.hp_tokens.specs.Runs.{Leads}
 use Rattle.hp_control.specs.declared.edit.Edit.{Edit}
 use Rattle.hp_control.specs.Composed.{is_foreign_now}
@@ -21,26 +20,26 @@ use Rattle.hp_control.specs.Tree.{applied_all}
 use Rattle.hp_lexer.specs.declared.lexer.Asked.{Asked}
 use Rattle.hp_lexer.specs.declared.lexer.Asked.TheVariants as asked
 use Rattle.hp_lexer.specs.declared.lexer.Lexer.{Lexer}
-use Rattle.hp_lexer.specs.declared.lexer.Step.TheVariants as steps
 use Rattle.hp_lexer.specs.Places.{IsInPiece, told, text_at}
-use Rattle.hp_lexer.specs.Standing.{IsBatch, PlainStepped, ReachesCut, Stepped, opened, stands, stands_answered}
+use Rattle.hp_lexer.specs.Standing.{IsBatch, PlainStepped, opened, stands, stands_answered}
 use Rattle.hp_lexer.specs.Table.{table}
 use Rattle.hp_lexer.proofs.Placing.{PlacedMove, move-placed, stand}
 use Rattle.hp_model.proofs.AtOnce.{runs_at_once}
 use Rattle.hp_model.proofs.Texts.{texts_at_once}
-use Rattle.hp_model.specs.AtOnce.{LeaveSame, MakeSame, handle_at_once}
+use Rattle.hp_model.specs.AtOnce.{LeaveSame, handle_at_once}
 use Rattle.hp_model.specs.Handling.{handle}
 use Rattle.hp_model.specs.Runs.{Parser, at_lexing, goes, step, step_by, switched}
-use Rattle.hp_model.specs.Texts.{ComesTo, as_run, each_at_once}
-use Rattle.hp_model.specs.Turns.{Handled, left_by}
-use Rattle.hp_runs.specs.Closing.{AreCharacters, LeadsOn, last, stays}
-use Rattle.hp_runs.specs.Coming.{BlanksCome, ComesFurther, CutEnds, HasCome, HasEnded, NameComes, RunBegins, SectionComes, SilenceComes, TagComes, TextBegins, TextComes, TokensCome, TokensRead, untouched_at_once}
+use Rattle.hp_model.specs.Texts.{as_run, each_at_once}
+use Rattle.hp_model.specs.Turns.{left_by}
+use Rattle.hp_runs.specs.Closing.{AreCharacters, LeadsOn, last}
+use Rattle.hp_runs.specs.Coming.{BlanksCome, ComesFurther, CutEnds, HasCome, NameComes, RunBegins, SectionComes, SilenceComes, TagComes, TextBegins, TextComes, TokensCome, TokensRead, untouched_at_once}
 use Rattle.hp_runs.specs.Filled.{FilledMove, at_filled, filled}
-use Rattle.hp_runs.specs.Handling.{left_after, lexer_after, made_after, turned_by}
-use Rattle.hp_runs.specs.Tokens.{AllInside, AllRead}
+use Rattle.hp_runs.specs.Handling.{left_after, made_after, turned_by}
+use Rattle.hp_runs.specs.Tokens.{AllRead}
 use Rattle.hp_runs.specs.Touching.{GoesOwn, here, onward, is_untouched, untouched}
-use Rattle.hp_runs.proofs.AtOnce.{after-valid, characters-single, each-left, each-made, each-untouched, untouched-singles, white_same, white_valid}
+use Rattle.hp_runs.proofs.AtOnce.{after-valid, characters-single, each-left, each-made, each-untouched, untouched-singles, white_same}
 use Rattle.hp_runs.proofs.Batches.{at}
+use Rattle.hp_runs.proofs.ClosingRows.{characters-alone}
 use Rattle.hp_runs.proofs.Filling.{answer-fills}
 use Rattle.hp_runs.proofs.FillingTable.{moves-filled}
 use Rattle.hp_runs.proofs.Following.{Follows, led-follows}
@@ -165,14 +164,10 @@ module _ (names : List Reference) (name : List ℕ) (base : ℕ) (s : ControlSta
       spelled : singles (map character text) ≡ tokens_of plain.stepped.0.es
       spelled = ap singles plain.stepped.0.appends.appended ∙ plain.stepped.0.appends.spelled
 
-      alone : (xs : List ℕ) → AreCharacters (map character xs)
-      alone [] = tt
-      alone (x ∷ xs) = alone xs
-
       leads : LeadsOn (move (table names)) (stands old old_input) plain.stepped.0.es (stands new new_input)
       leads =
           characters-led names (subst (λ (n : List Reference). Leads (move (table n)) (stands old old_input) plain.stepped.0.es (stands new new_input)) is plain.stepped.0.leads)
-          (subst AreCharacters (sym (characters-single text) ∙ spelled) (alone text))
+          (subst AreCharacters (sym (characters-single text) ∙ spelled) (characters-alone text))
 
       there : turned_by handle_at_once c (map character text) (stands new new_input) ≡ stands new new_input
       there = sym (stands-after handle_at_once c (map character text) new new_input plain.stepped.2) ∙ ap (λ (l : Lexer). stands l new_input) (characters-after c text new)

@@ -1,6 +1,5 @@
 -- Steps of the run over a whole text from the moves of a lexer in a part of it, which may not be told the last start tag's name.
-use Rattle.std.proofs.Common.{◌≡◌, ℕ, ◌-◌, ◌^◌, List, [], ◌∷◌, ◌++◌, Bool, true, false, ◌⊎◌, inl, inr, refl, ap, ◌∙◌, sym, subst, append-nil, arith, Option, None, Some}
-use Rattle.std.specs.Prelude.{◌&&◌}
+use Rattle.std.proofs.Common.{◌≡◌, ℕ, ◌-◌, ◌^◌, List, [], ◌∷◌, ◌++◌, Bool, true, false, ◌⊎◌, inl, inr, ap, ◌∙◌, sym, subst, append-nil, arith, Option, None, Some}
 use Rattle.std.proofs.lemmas.Bool.{and_parts}
 use Rattle.hp_elements.specs.declared.token.Rest.{Rest}
 use Rattle.hp_elements.specs.declared.token.Token.{Token}
@@ -16,13 +15,13 @@ use Rattle.hp_lexer.specs.Places.{IsInPiece}
 use Rattle.hp_lexer.specs.Table.{table}
 use Rattle.hp_lexer.proofs.Placing.{BeganAlike, PlacedMove, alike-tokens, move-placed, stand}
 use Rattle.hp_model.specs.Handling.{handle}
-use Rattle.hp_model.specs.Runs.{Parser, goes, step, step_by, switched}
+use Rattle.hp_model.specs.Runs.{goes, switched}
 use Rattle.hp_model.specs.Turns.{left_by}
 use Rattle.hp_runs.specs.Closing.{AreCharacters, LeadsOn, last, onward, stays}
 use Rattle.hp_runs.specs.Filled.{FilledMove, at_filled}
-use Rattle.hp_runs.specs.Handling.{AreQuiet, Handler, left_after, made_after, turned_by}
+use Rattle.hp_runs.specs.Handling.{Handler, left_after, made_after, turned_by}
 use Rattle.hp_runs.specs.Touching.{GoesOwn, here, onward as steps_on, TouchesAt, TouchesFrom, is_untouched, touching_here, untouched}
-use Rattle.hp_runs.proofs.Batches.{at, left-append, made-append, quiet-step}
+use Rattle.hp_runs.proofs.Batches.{at, left-append, made-append}
 use Rattle.hp_runs.proofs.Began.{tokens-append}
 use Rattle.hp_runs.proofs.Filling.{turned-filled}
 use Rattle.hp_runs.proofs.FillingTable.{moves-filled}

@@ -1,7 +1,6 @@
 -- What is no character is emitted by a move that ends at a rest.
-use Rattle.std.proofs.Common.{◌≡◌, ℕ, List, [], ◌∷◌, Bool, true, false, cond, refl, sym, subst, Option, None, Some, ◌⊎◌, inl, inr}
+use Rattle.std.proofs.Common.{◌≡◌, ℕ, List, [], ◌∷◌, Bool, true, false, cond, subst, Option, None, Some, ◌⊎◌, inl, inr}
 use Rattle.std.specs.Prelude.{◌==◌, ◌&&◌}
-use Rattle.hp_elements.specs.declared.token.Token.{Token}
 use Rattle.hp_names.specs.References.{Reference}
 use Rattle.hp_names.specs.Longest.{is_open as is_open_name, longest}
 use Rattle.hp_names.specs.declared.names.Found.{Found}
@@ -10,7 +9,7 @@ use Rattle.hp_tokens.specs.declared.rows.Reads.TheVariants.{Consume, Again, End}
 use Rattle.hp_tokens.specs.declared.state.State.{State}
 use Rattle.hp_tokens.specs.declared.state.State.TheVariants.{NamedCharacterReference, MarkupDeclarationOpen, AfterDoctypeName}
 use Rattle.hp_tokens.specs.Advancing.{tokens_of}
-use Rattle.hp_tokens.specs.Moves.{Lexing, Move, needs_more, asks_cdata, asks_last_tag, makes, after_row, all_began, after_pair, move_on, move, read_as, row_move, taking}
+use Rattle.hp_tokens.specs.Moves.{Lexing, Move, needs_more, asks_cdata, asks_last_tag, makes, after_row, after_pair, move_on, read_as, row_move, taking}
 use Rattle.hp_tokens.specs.Rows.{Row, flushed_tokens}
 use Rattle.hp_tokens.specs.States.{is_resting}
 use Rattle.hp_lex_tags.specs.Tags as tags
@@ -24,16 +23,14 @@ use Rattle.hp_lex_markup.specs.Words.{asks, count, is_open, word}
 use Rattle.hp_lex_markup.specs.declared.words.Word.{Word}
 use Rattle.hp_lexer.specs.Table.{table}
 use Rattle.hp_runs.specs.Closing.{AreCharacters, TagsRest}
-use Rattle.hp_runs.proofs.Began.{tokens-began}
-use Rattle.hp_runs.proofs.SettlingRows.{Settles, flushed-alone, markup_settles, raw_settle, tags_settle}
+use Rattle.hp_runs.proofs.ClosingRows.{flushed-alone}
+use Rattle.hp_runs.proofs.ClosingTable.{began_alone}
+use Rattle.hp_runs.proofs.SettlingRows.{Settles, markup_settles, raw_settle, tags_settle}
 
 -- what a move leaves
 abbrev pub MoveSettles : Move → Type 0
 MoveSettles (makes m es) = AreCharacters (tokens_of es) ⊎ (is_resting m.machine.state ≡ true)
 MoveSettles _ = Unit {0}
-
-began_alone : (place : ℕ) (ts : List Token) → AreCharacters ts → AreCharacters (tokens_of (all_began place ts))
-began_alone place ts h = subst AreCharacters (sym (tokens-began place ts)) h
 
 either-settles : (b : Bool) (x y : Move) → MoveSettles x → MoveSettles y → MoveSettles (cond b x y)
 either-settles true x y h k = h

@@ -1,24 +1,20 @@
 -- Rows emit characters alone, but where they go to a rest.
-use Rattle.std.proofs.Common.{◌≡◌, ℕ, List, [], ◌∷◌, ◌++◌, Bool, true, false, cond, map, refl, ◌⊎◌, inl, inr, Some}
-use Rattle.hp_elements.specs.declared.token.Token.{Token}
+use Rattle.std.proofs.Common.{◌≡◌, ℕ, Bool, true, false, cond, refl, ◌⊎◌, inl, inr, Some}
 use Rattle.hp_tokens.specs.declared.state.State.{State}
 use Rattle.hp_tokens.specs.declared.state.State.TheVariants.{BogusComment, Data}
 use Rattle.hp_tokens.specs.declared.building.Part.TheVariants.{Value}
 use Rattle.hp_tokens.specs.declared.machine.Machine.{Machine}
 use Rattle.hp_tokens.specs.States.{is_in_value, is_resting, return_state}
 use Rattle.hp_tokens.specs.Parts.{put}
-use Rattle.hp_tokens.specs.Rows.{Row, character, go, again, stay, ended, plus, back, emitting_built, emitting_buffer, flushing, flushed_tokens}
+use Rattle.hp_tokens.specs.Rows.{Row, go, again, stay, ended, plus, back, emitting_built, emitting_buffer, flushing}
 use Rattle.hp_lex_tags.specs.Rows as tags
 use Rattle.hp_lex_raw.specs.Rows as raw
 use Rattle.hp_lex_markup.specs.Rows as markup
 use Rattle.hp_runs.specs.Closing.{AreCharacters}
+use Rattle.hp_runs.proofs.ClosingRows.{AreCharacters-join}
 
 pub record Settles (r : Row) : Type 0 where
   pub how : AreCharacters r.emits ⊎ (is_resting r.to.state ≡ true)
-
-characters-before : (xs : List ℕ) (ts : List Token) → AreCharacters ts → AreCharacters (map character xs ++ ts)
-characters-before [] ts h = h
-characters-before (x ∷ xs) ts h = characters-before xs ts h
 
 either-settles : (b : Bool) {x y : Row} → Settles x → Settles y → Settles (cond b x y)
 either-settles true h k = h
@@ -50,7 +46,7 @@ buffer-settles : (row : Machine → Row) (m : Machine) → Settles (row m) → S
 buffer-settles row m h = at h.how
   where
     at : AreCharacters (row m).emits ⊎ (is_resting (row m).to.state ≡ true) → Settles (emitting_buffer row m)
-    at (inl a) = record { how = inl (characters-before m.buffer (row m).emits a) }
+    at (inl a) = record { how = inl (AreCharacters-join m.buffer (row m).emits a) }
     at (inr e) = record { how = inr e }
 
 back-settles : (m : Machine) → Settles (back m)
@@ -82,15 +78,3 @@ each_markup_settles _ m c = search settles depth 9
 
 pub markup_settles : (m : Machine) (c : ℕ) → Settles (markup.row m (Some c))
 markup_settles m c = each_markup_settles m.state m c
-
--- what a flush emits
-pub flushed-alone : (m : Machine) → AreCharacters (flushed_tokens m)
-flushed-alone m = by_cases (is_in_value m.return_to)
-  where
-    alone : (xs : List ℕ) → AreCharacters (map character xs)
-    alone [] = tt
-    alone (x ∷ xs) = alone xs
-
-    by_cases : (b : Bool) → AreCharacters (cond b [] (map character m.buffer))
-    by_cases true = tt
-    by_cases false = alone m.buffer

@@ -1,5 +1,5 @@
 -- Where a token touches something older, the run over the whole text comes to the first that does.
-use Rattle.std.proofs.Common.{◌≡◌, ℕ, ◌-◌, ◌<◌, ◌^◌, List, [], ◌∷◌, ◌++◌, length, map, Bool, true, false, not, ◌⊎◌, inl, inr, refl, ap, ◌∙◌, sym, subst, append-nil, arith}
+use Rattle.std.proofs.Common.{◌≡◌, ℕ, ◌-◌, ◌^◌, List, [], ◌∷◌, map, Bool, true, false, not, ◌⊎◌, inl, inr, refl, ap, ◌∙◌, sym, subst, append-nil, arith}
 use Rattle.std.specs.Prelude.{◌&&◌, ◌==◌}
 use Rattle.std.specs.List.{list_all}
 use Rattle.std.proofs.lemmas.Bool.{and_parts, eqb-true}
@@ -22,16 +22,18 @@ use Rattle.hp_lexer.specs.declared.lexer.Step.TheVariants as steps
 use Rattle.hp_lexer.specs.Standing.{IsBatch, Stepped, stands}
 use Rattle.hp_lexer.specs.Table.{table}
 use Rattle.hp_model.proofs.AtOnce.{characters_at_once, first-touches, runs_at_once}
-use Rattle.hp_model.specs.AtOnce.{LeaveSame, handle_at_once}
+use Rattle.hp_model.proofs.Texts.{texts-touch-first}
+use Rattle.hp_model.specs.AtOnce.{handle_at_once}
 use Rattle.hp_model.specs.Handling.{handle}
 use Rattle.hp_model.specs.Runs.{Parser}
 use Rattle.hp_model.specs.Turns.{left_by}
 use Rattle.hp_runs.specs.Closing.{AreCharacters, LeadsOn, last}
-use Rattle.hp_runs.specs.Coming.{BlanksStop, HasCome, TagStops, TokensStop, untouched_at_once}
+use Rattle.hp_runs.specs.Coming.{BlanksStop, HasCome, TagStops, TextStops, TokensStop, untouched_at_once}
 use Rattle.hp_runs.specs.Tokens.{AllRead}
 use Rattle.hp_runs.specs.Touching.{TouchesAt, TouchesFrom, touching_here, untouched}
 use Rattle.hp_runs.proofs.AtOnce.{blank_white, characters-single, untouched-singles}
 use Rattle.hp_runs.proofs.Batches.{at}
+use Rattle.hp_runs.proofs.ClosingRows.{characters-alone}
 use Rattle.hp_runs.proofs.Following.{led-touches}
 use Rattle.hp_runs.proofs.Groups.{Led, batch-led, characters-led, led-behind, run-alone}
 use Rattle.hp_runs.proofs.Own.{from-touching, own-join, touch_found, touches-began, touching-from}
@@ -124,16 +126,18 @@ tag-stops names name s from c es old new old_input new_input tag h is valid (ste
     (last (subst (λ (n : List Reference). move (table n) emits.mid ≡ makes (stands new new_input) (e ∷ [])) is emits.last)) in
     led-stops names name s from (stands old old_input) (stands new new_input) c es (e ∷ []) new.rested h leads (head-touches s c (e ∷ []) tag [] new.rested refl refl touched)
 
+pub text-stops : TextStops
+text-stops names name s from c es old new old_input new_input [] h is valid plain takes u = absurd (omega (arith, plain.long))
+text-stops names name s from c es old new old_input new_input (x ∷ xs) h is valid plain takes u =
+    characters-stop names name s from c es old new old_input new_input h is valid _ (map character (x ∷ xs)) (character x) (map character xs) plain.stepped (characters-single (x ∷ xs))
+    (subst AreCharacters (sym (characters-single (x ∷ xs))) (characters-alone (x ∷ xs))) (sym (texts-touch-first x xs s c valid takes plain.no_nul) ∙ u)
+
 pub blanks-stop : BlanksStop
 blanks-stop names name s from c es old new old_input new_input [] h is valid plain blank skips u = absurd (omega (arith, plain.long))
 blanks-stop names name s from c es old new old_input new_input (x ∷ xs) h is valid plain blank skips u =
     characters-stop names name s from c es old new old_input new_input h is valid _ (map character (x ∷ xs)) (character x) (map character xs) plain.stepped (characters-single (x ∷ xs))
-    (subst AreCharacters (sym (characters-single (x ∷ xs))) (alone (x ∷ xs))) touched
+    (subst AreCharacters (sym (characters-single (x ∷ xs))) (characters-alone (x ∷ xs))) touched
   where
-    alone : (xs : List ℕ) → AreCharacters (map character xs)
-    alone [] = tt
-    alone (y ∷ ys) = alone ys
-
     one : token.Characters White (x ∷ []) ≡ character x
     one = ap (λ class. token.Characters class (x ∷ [])) (sym (blank_white x (and_parts (is_blank x) (list_all is_blank xs) blank).0))
 

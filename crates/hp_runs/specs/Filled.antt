@@ -1,19 +1,11 @@
 -- A lexer that isn't told the last start tag's name, and the same once it is told.
-use Rattle.std.specs.Prelude.{◌≡◌, ℕ, List, ◌++◌, None, Some}
+use Rattle.std.specs.Prelude.{◌≡◌, ℕ, List, None, Some}
 use Rattle.std.specs.Option.{unwrap_or}
 use Rattle.hp_names.specs.References.{Reference}
 use Rattle.hp_tokens.specs.declared.machine.Machine.{Machine}
-use Rattle.hp_tokens.specs.Advancing.{tokens_of}
 use Rattle.hp_tokens.specs.Moves.{Lexing, Emitted, Move, asks_cdata, asks_last_tag, ends, makes, move, needs_more}
 use Rattle.hp_tokens.specs.Runs.{Leads}
-use Rattle.hp_control.specs.declared.edit.Edit.{Edit}
-use Rattle.hp_control.specs.States.{ControlState}
 use Rattle.hp_lexer.specs.Table.{table}
-use Rattle.hp_model.specs.Handling.{handle}
-use Rattle.hp_model.specs.Runs.{Parser}
-use Rattle.hp_runs.specs.Closing.{EndsAtTag}
-use Rattle.hp_runs.specs.Handling.{left_after, made_after, turned_by}
-use Rattle.hp_runs.specs.Standing.{HasGone}
 
 -- the name is told where none was
 abbrev pub filled : List ℕ → Machine → Machine
@@ -49,9 +41,3 @@ ToldStays = (name last : List ℕ) (l : Lexing) → l.machine.last_tag ≡ Some 
 -- and one that asked and is answered is the one that is told
 abbrev pub AnswerFills : Type 0
 AnswerFills = (names : List Reference) (name : List ℕ) (l : Lexing) → move (table names) l ≡ asks_last_tag → record l { machine = record l.machine { last_tag = Some name } } ≡ at_filled name l
-
--- So of a lexer that isn't told, all tokens that moves emit are steps of the run in which it is told.
-abbrev pub FilledSteps : Type 0
-FilledSteps = (names : List Reference) (name : List ℕ) (from : Parser) (l k : Lexing) (later : List ℕ) (c : ControlState) (es : List Edit) (emitted : List Emitted) → HasGone names from (at_filled name l) later c es
-    → Leads (move (table names)) l emitted k → EndsAtTag l.unread
-    → HasGone names from (at_filled name (turned_by handle c (tokens_of emitted) k)) later (left_after handle c (tokens_of emitted)) (es ++ made_after handle c (tokens_of emitted))

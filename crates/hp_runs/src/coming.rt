@@ -1,7 +1,7 @@
 //! How far a run over an older state has come, by the lexer's calls in code.
 
 ghost use Rattle.hp_runs.specs.Coming.{BlanksCome, CutEnds, NameComes, RunBegins, SectionComes, SilenceComes, TagComes, TextBegins, TextComes, TokensCome, TokensRead};
-ghost use Rattle.hp_runs.specs.Coming.{BlanksStop, TagStops, TokensStop};
+ghost use Rattle.hp_runs.specs.Coming.{BlanksStop, TagStops, TextStops, TokensStop};
 
 /// What the lexer's calls do to how far a run has come, where none of the tokens touches something older, each handled at once: the
 /// run is at the lexer's place behind them, whatever switches they call for, and has edits of the same effect.
@@ -24,5 +24,6 @@ pub fn comes_on()
 pub fn comes_to_touch()
     ensures tokens { TokensStop }
     ensures tag { TagStops }
+    ensures text { TextStops }
     ensures blanks { BlanksStop }
 {}

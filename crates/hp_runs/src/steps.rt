@@ -1,7 +1,7 @@
 //! What the lexer's calls are as steps of the run.
 
 ghost use Rattle.hp_runs.specs.Closing.{TagsRest};
-ghost use Rattle.hp_runs.specs.Filled.{AnswerFills, FilledSteps, LeadsFilled, MovesFilled, ToldStays, UntoldAsks};
+ghost use Rattle.hp_runs.specs.Filled.{AnswerFills, LeadsFilled, MovesFilled, ToldStays, UntoldAsks};
 ghost use Rattle.hp_runs.specs.Laws.{BatchSteps, CharactersQuiet, EndMovesSame, LoudStep, MovesSame, QuietSteps, TagsClose};
 
 /// Places are only counted: lexers that have the same machine and the same unread text make the same moves.
@@ -17,13 +17,12 @@ pub fn names_wait()
     ensures asks { UntoldAsks }
     ensures told { ToldStays }
     ensures answer { AnswerFills }
-    ensures steps { FilledSteps }
 {}
 
 /// What is no character is emitted by a move that ends at a rest. In a text in which nothing stands behind a `>`, such a token is
-/// the last that is emitted. Tokens that switch
-/// the lexer nowhere, and one that may and was emitted last, are steps of the run, with the edits of their handling. Characters
-/// switch it nowhere, and so all tokens of some moves are such steps, each switch behind its token.
+/// the last that is emitted. Tokens that switch the lexer nowhere, and one that may and was emitted last, are steps of the run, with
+/// the edits of their handling. Characters switch it nowhere, and so all tokens of some moves are such steps, each switch behind its
+/// token.
 pub fn tokens_step()
     ensures rest { TagsRest }
     ensures close { TagsClose }

@@ -1,4 +1,4 @@
-use Rattle.hp_runs.proofs.Filling.{answer-fills, filled-steps, told-stays, untold-asks}
+use Rattle.hp_runs.proofs.Filling.{answer-fills, told-stays, untold-asks}
 use Rattle.hp_runs.proofs.FillingTable.{leads-filled, moves-filled}
 use Rattle.hp_runs.proofs.steps.names_wait.Goals as goal
 
@@ -9,5 +9,4 @@ returns c = record {
   asks = untold-asks;
   told = told-stays;
   answer = answer-fills;
-  steps = filled-steps;
 }
