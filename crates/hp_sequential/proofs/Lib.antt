@@ -12,5 +12,4 @@ pub mod HandledOnce
 pub mod Texts
 pub mod Tried
 pub mod Within
-pub mod WhiteRuns
 pub mod NoNul

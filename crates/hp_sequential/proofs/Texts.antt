@@ -9,22 +9,18 @@ use Rattle.hp_elements.specs.declared.token.Token.{Token}
 use Rattle.hp_elements.specs.declared.token.Token.TheVariants as token
 use Rattle.hp_tokens.specs.Plain.{none_of}
 use Rattle.hp_tokens.specs.Rows.{character, is_blank}
-use Rattle.hp_control.specs.declared.edit.Edit.{Edit}
 use Rattle.hp_control.specs.declared.element.OpenElement.{OpenElement}
 use Rattle.hp_control.specs.Apply.{shifted}
 use Rattle.hp_control.specs.Faithful.{Page, Split, state_over}
 use Rattle.hp_control.specs.Nothing.{nothing}
-use Rattle.hp_control.specs.States.{ControlState, IsValid}
+use Rattle.hp_control.specs.States.{IsValid}
 use Rattle.hp_control.specs.Tree.{applied_all}
 use Rattle.hp_views.specs.StackLaws.{full_stack}
 use Rattle.hp_views.specs.View.{split_of}
-use Rattle.hp_model.specs.AtOnce.{handle_at_once}
-use Rattle.hp_model.specs.Texts.{ComesTo, TakesText, TextsAtOnce, as_run, each_at_once, has_html_top, is_text_mode}
-use Rattle.hp_model.specs.Turns.{left_by}
+use Rattle.hp_model.specs.Texts.{ComesTo, TakesText, TextsAtOnce, as_run, has_html_top, is_text_mode}
+use Rattle.hp_runs.proofs.AtOnce.{each-left, each-made, white_same, white_valid}
 use Rattle.hp_runs.proofs.Quiet.{at_once-quiet}
-use Rattle.hp_runs.specs.Handling.{left_after, made_after}
 use Rattle.hp_acts.specs.Plain.{takes_text}
-use Rattle.hp_sequential.proofs.WhiteRuns.{white_same, white_valid}
 use Rattle.hp_sequential.specs.Building.{control_of, grown, IsBuilder, HandledOne, HandledAll, HasGrown}
 use Rattle.hp_sequential.specs.declared.builder.Builder.{Builder}
 
@@ -56,15 +52,6 @@ state-takes v h =
       place = ap is_text_mode (mode_of v) ∙ first.1;
       top = ap has_html_top (full_stack nothing v) ∙ top_over v.change.stack (drop v.change.popped nothing.stack) both.1;
     }
-
--- tokens one by one, told in parts
-each-left : (c : ControlState) (ts : List Token) → left_by (each_at_once c ts) ≡ left_after handle_at_once c ts
-each-left c [] = refl
-each-left c (t ∷ ts) = each-left (left_by (handle_at_once c t)) ts
-
-each-made : (c : ControlState) (ts : List Token) → (each_at_once c ts).outcome.edits ≡ made_after handle_at_once c ts
-each-made c [] = refl
-each-made c (t ∷ ts) = ap (λ (es : List Edit). (handle_at_once c t).outcome.edits ++ es) (each-made (left_by (handle_at_once c t)) ts)
 
 -- the run was handled, so its code points were
 comes-all : (old new : Builder) (ts : List Token) (run : Token) (to : Option Rest) → ComesTo (control_of old) ts run → HandledOne old new run to → HandledAll old new ts
