@@ -11,18 +11,16 @@ use Rattle.hp_tokens.specs.declared.state.State.{State}
 use Rattle.hp_tokens.specs.declared.state.State.TheVariants.{NamedCharacterReference, MarkupDeclarationOpen, AfterDoctypeName}
 use Rattle.hp_tokens.specs.States.{enter, is_resting, state_of_rest}
 use Rattle.hp_tokens.specs.Moves.{Lexing, Emitted, Move, needs_more, asks_cdata, asks_last_tag, makes, ends, move, move_on}
-use Rattle.hp_tokens.specs.Groups.{AllBegan}
 use Rattle.hp_control.specs.declared.edit.Edit.{Edit}
 use Rattle.hp_control.specs.Composed.{is_foreign_now}
-use Rattle.hp_control.specs.Outcome.{touches_any}
 use Rattle.hp_control.specs.States.{ControlState, IsValid, may_be_ahead}
 use Rattle.hp_control.specs.Truth.{rest_of}
 use Rattle.hp_lexer.specs.Table.{table}
 use Rattle.hp_model.proofs.Running.{goes-same}
 use Rattle.hp_model.specs.Handling.{handle}
 use Rattle.hp_model.specs.Runs.{Parser, at_lexing, built, followed_by, goes, step_by, switched, told}
-use Rattle.hp_model.specs.Turns.{left_by}
-use Rattle.hp_runs.specs.Touching.{GoesOwn, here, onward, RunsOwn, TouchesAt, TouchesFrom, touching_here}
+use Rattle.hp_runs.specs.Touching.{GoesOwn, here, onward, RunsOwn, TouchesFrom}
+use Rattle.hp_runs.proofs.Own.{touches-began}
 use Rattle.hp_pieces.specs.FirstLaws.{IsInside}
 use Rattle.hp_pieces.specs.Running.{parser_in}
 use Rattle.hp_pieces.specs.First.{IsFirst, restless, touched, whole}
@@ -103,17 +101,6 @@ goes-placed : (names : List Reference) (s : ControlState) (text : List ℕ) {p q
 goes-placed names s text here h = h
 goes-placed names s text {p} (onward {q = q} {es = es} e u g) h =
     goes-placed names s text g (step-placed text p (move (table names) p.lexing) q es (move-reads names p.lexing) e h)
-
--- the place of what touches
-began_cases : (b : Bool) (place began rested : ℕ) (Y : Type 0) → began ≡ rested → (Y → place ≡ rested) → touching_here b (place ≡ began) Y → place ≡ rested
-began_cases true place began rested Y e k t = t ∙ e
-began_cases false place began rested Y e k t = k t
-
-pub touches-began : (s c : ControlState) (es : List Emitted) (place rested : ℕ) → AllBegan es rested → TouchesAt s c es place → place ≡ rested
-touches-began s c [] place rested a t = absurd t
-touches-began s c (e ∷ es) place rested a t =
-    began_cases (touches_any s (handle c e.token).outcome) place e.began rested (TouchesAt s (left_by (handle c e.token)) es place) a.0
-    (touches-began s (left_by (handle c e.token)) es place rested a.1) t
 
 -- a move is made where something is unread
 made-unread : (names : List Reference) (l : Lexing) (u : List ℕ) (m : Lexing) (es : List Emitted) → move_on (table names) l u ≡ makes m es → 0 < sum_by len_utf8 u

@@ -23,5 +23,4 @@ pub mod Own
 pub mod Placed
 pub mod Inside
 pub mod InBytes
-pub mod Batched
 pub mod Places

@@ -1,5 +1,5 @@
 -- How far nothing older is touched: there is one such place, and it is the same where less text follows.
-use Rattle.std.proofs.Common.{◌≡◌, ℕ, List, [], ◌∷◌, ◌++◌, Bool, true, false, not, ◌⊎◌, inl, inr, refl, ap, ◌∙◌, sym, subst, append_assoc, Option, None, Some}
+use Rattle.std.proofs.Common.{◌≡◌, ℕ, List, [], ◌∷◌, ◌++◌, Bool, true, false, not, ◌⊎◌, inl, inr, refl, ap, ◌∙◌, sym, subst, Option, None, Some}
 use Rattle.std.specs.Prelude.{◌&&◌, sum_by}
 use Rattle.std.specs.Option.{is_some}
 use Rattle.std.specs.Char.{len_utf8}
@@ -20,6 +20,7 @@ use Rattle.hp_model.specs.Handling.{handle}
 use Rattle.hp_model.specs.Runs.{Goes, here as stays, onward as steps_on, Parser, Rests, at_lexing, built, followed_by, goes, rests, step, step_by}
 use Rattle.hp_model.specs.Turns.{left_by}
 use Rattle.hp_runs.proofs.Existing.{run_exists}
+use Rattle.hp_runs.proofs.Own.{Touching, from-touching, own-goes, touch_found, touching-from}
 use Rattle.hp_runs.specs.Touching.{GoesOwn, here, onward, RunsOwn, TouchesAt, TouchesFrom, is_untouched, touching_here, untouched}
 use Rattle.hp_pieces.specs.Running.{Leads, parser_in, state_at}
 use Rattle.hp_pieces.specs.First.{IsFirst, restless, touched, whole}
@@ -45,56 +46,22 @@ touch-once s c (e ∷ es) m n t u =
     once_cases (touches_any s (handle c e.token).outcome) m n e.began (TouchesAt s (left_by (handle c e.token)) es m) (TouchesAt s (left_by (handle c e.token)) es n)
     (touch-once s (left_by (handle c e.token)) es m n) t u
 
-found_cases : (b u : Bool) (began : ℕ) (Y : ℕ → Type 0) → (u ≡ false → (place : ℕ) × Y place) → (not b && u) ≡ false → (place : ℕ) × touching_here b (place ≡ began) (Y place)
-found_cases true u began Y k h = (began, refl)
-found_cases false u began Y k h = k h
-
-pub touch_found : (s c : ControlState) (es : List Emitted) → untouched s c (tokens_of es) ≡ false → (place : ℕ) × TouchesAt s c es place
-touch_found s c [] h = let no : true ≡ false = h in cc
-touch_found s c (e ∷ es) h =
-    found_cases (touches_any s (handle c e.token).outcome) (untouched s (left_by (handle c e.token)) (tokens_of es)) e.began
-    (TouchesAt s (left_by (handle c e.token)) es) (touch_found s (left_by (handle c e.token)) es) h
-
 makes-same : (m n : Lexing) (es fs : List Emitted) → makes m es ≡ makes n fs → es ≡ fs
 makes-same m n es fs e = cc
 
 module _ (rules : Rules) (s : ControlState) where
-  -- steps along which nothing older is touched are steps
-  pub own-goes : {p q : Parser} {es : List Edit} → GoesOwn rules s p es q → Goes (step rules) p es q
-  own-goes here = stays
-  own-goes (onward e u g) = steps_on e (own-goes g)
-
-  pub own-join : {p q r : Parser} {es fs : List Edit} → GoesOwn rules s p es q → GoesOwn rules s q fs r → GoesOwn rules s p (es ++ fs) r
-  own-join here g = g
-  own-join {p} {r = r} {fs = fs} (onward {es = first} {fs = later} e u g) h =
-      let P : List Edit → Type 0 = λ xs. GoesOwn rules s p xs r in
-      subst P (sym (append_assoc first later fs)) (onward e u (own-join g h))
-
-  -- what is made next touches something older
-  pub record Touching (p : Parser) (place : ℕ) : Type 0 where
-    pub next : Lexing
-    pub emitted : List Emitted
-    pub makes_them : move rules p.lexing ≡ makes next emitted
-    pub touches : TouchesAt s p.control emitted place
-
-  pub touching-from : {from : Parser} {place : ℕ} (t : TouchesFrom rules s from place) → Touching t.there place
-  touching-from t = record { next = t.next; emitted = t.emitted; makes_them = t.makes_them; touches = t.touches }
-
-  pub from-touching : {p q : Parser} {es : List Edit} {place : ℕ} → GoesOwn rules s p es q → Touching q place → TouchesFrom rules s p place
-  from-touching {q = q} {es = es} g t = record { there = q; edits = es; goes = g; next = t.next; emitted = t.emitted; makes_them = t.makes_them; touches = t.touches }
-
-  passes-not : {p : Parser} {place : ℕ} → Touching p place → is_untouched s p.control (move rules p.lexing) ≡ true → ⊥
+  passes-not : {p : Parser} {place : ℕ} → Touching rules s p place → is_untouched s p.control (move rules p.lexing) ≡ true → ⊥
   passes-not {p} {place} t u = touches-not s p.control t.emitted place t.touches (subst (λ (m : Move). is_untouched s p.control m ≡ true) t.makes_them u)
 
-  steps-on : {p : Parser} {place : ℕ} → Touching p place → Rests (step rules) p → ⊥
+  steps-on : {p : Parser} {place : ℕ} → Touching rules s p place → Rests (step rules) p → ⊥
   steps-on {p} t w = w.no_step (built (at_lexing p t.next) t.emitted).parser (built (at_lexing p t.next) t.emitted).edits (ap (step_by p) t.makes_them)
 
-  same-place : {p : Parser} {m n : ℕ} → Touching p m → Touching p n → m ≡ n
+  same-place : {p : Parser} {m n : ℕ} → Touching rules s p m → Touching rules s p n → m ≡ n
   same-place {p} {m} {n} t u =
       let same : t.emitted ≡ u.emitted = makes-same t.next u.next t.emitted u.emitted (sym t.makes_them ∙ u.makes_them) in
       touch-once s p.control u.emitted m n (subst (λ (es : List Emitted). TouchesAt s p.control es m) same t.touches) u.touches
 
-  one_touch : {p q r : Parser} {es fs : List Edit} {m n : ℕ} → GoesOwn rules s p es q → Touching q m → GoesOwn rules s p fs r → Touching r n → m ≡ n
+  one_touch : {p q r : Parser} {es fs : List Edit} {m n : ℕ} → GoesOwn rules s p es q → Touching rules s q m → GoesOwn rules s p fs r → Touching rules s r n → m ≡ n
   one_touch here t here v = same-place t v
   one_touch here t (onward e u g) v = absurd (passes-not t u)
   one_touch (onward e u g) t here v = absurd (passes-not v u)
@@ -102,7 +69,7 @@ module _ (rules : Rules) (s : ControlState) where
       let same : (a ≡ b) × (es ≡ fs) = goes-same a b es fs (sym e ∙ f) in
       one_touch g t (subst (λ (x : Parser). GoesOwn rules s x others r) (sym same.0) h) v
 
-  touch-rests : {p q r : Parser} {es fs : List Edit} {m : ℕ} → GoesOwn rules s p es q → Touching q m → GoesOwn rules s p fs r → Rests (step rules) r → ⊥
+  touch-rests : {p q r : Parser} {es fs : List Edit} {m : ℕ} → GoesOwn rules s p es q → Touching rules s q m → GoesOwn rules s p fs r → Rests (step rules) r → ⊥
   touch-rests here t here w = steps-on t w
   touch-rests here t (onward e u g) w = passes-not t u
   touch-rests (onward {q = a} {es = es} e u g) t here w = w.no_step a es e
@@ -111,7 +78,7 @@ module _ (rules : Rules) (s : ControlState) where
       touch-rests g t (subst (λ (x : Parser). GoesOwn rules s x others r) (sym same.0) h) w
 
   pub own_or_touches : (from : Parser) (place : ℕ) → RunsOwn rules s from → TouchesFrom rules s from place → ⊥
-  own_or_touches from place r t = touch-rests t.goes (touching-from t) r.goes r.rests
+  own_or_touches from place r t = touch-rests t.goes (touching-from rules s t) r.goes r.rests
 
   -- along a run something older is touched, or nothing is
   pub data First (p : Parser) : Type 0 where
@@ -128,7 +95,7 @@ module _ (rules : Rules) (s : ControlState) where
   now_touched p (ends es) e u = let no : true ≡ false = u in cc
 
   further : (p q : Parser) (es : List Edit) → step rules p ≡ goes q es → is_untouched s p.control (move rules p.lexing) ≡ true → First q → First p
-  further p q es e u (touches place t) = touches place (from-touching (onward e u t.goes) (touching-from t))
+  further p q es e u (touches place t) = touches place (from-touching rules s (onward e u t.goes) (touching-from rules s t))
   further p q es e u (rests_own r) = rests_own (record { there = r.there; edits = es ++ r.edits; goes = onward e u r.goes; rests = r.rests })
 
   pub first_along : {p q : Parser} {es : List Edit} → Goes (step rules) p es q → Rests (step rules) q → First p

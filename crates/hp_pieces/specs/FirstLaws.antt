@@ -1,23 +1,17 @@
 -- The laws of how far a fragment can reach over an older state.
-use Rattle.std.specs.Prelude.{◌≡◌, ℕ, ◌<◌, List, ◌++◌, true, false, sum_by, take}
+use Rattle.std.specs.Prelude.{◌≡◌, ℕ, ◌<◌, List, ◌++◌, true, sum_by, take}
 use Rattle.std.specs.Option.{is_some}
 use Rattle.std.specs.Char.{len_utf8}
 use Rattle.std.specs.Str.{chars, IsCharBoundary, IsUtf8}
 use Rattle.hp_names.specs.References.{Reference}
-use Rattle.hp_tokens.specs.Advancing.{tokens_of}
-use Rattle.hp_tokens.specs.Moves.{Emitted, Lexing, Rules, move}
-use Rattle.hp_tokens.specs.Runs.{Leads as Moves}
-use Rattle.hp_tokens.specs.Groups.{AllBegan}
+use Rattle.hp_tokens.specs.Moves.{Rules}
 use Rattle.hp_control.specs.declared.edit.Edit.{Edit}
 use Rattle.hp_control.specs.Nothing.{nothing}
 use Rattle.hp_control.specs.States.{ControlState, IsValid}
 use Rattle.hp_control.specs.Truth.{rest_of}
 use Rattle.hp_lexer.specs.Table.{table}
-use Rattle.hp_model.specs.Handling.{handle}
 use Rattle.hp_model.specs.Runs.{Goes, Parser, followed_by, step}
-use Rattle.hp_runs.specs.Closing.{EndsAtTag}
-use Rattle.hp_runs.specs.Handling.{left_after, made_after, turned_by}
-use Rattle.hp_runs.specs.Touching.{GoesOwn, RunsOwn, TouchesFrom, untouched}
+use Rattle.hp_runs.specs.Touching.{GoesOwn, RunsOwn, TouchesFrom}
 use Rattle.hp_pieces.specs.Running.{Leads, parser_in, state_at}
 use Rattle.hp_pieces.specs.First.{IsFirst}
 
@@ -70,13 +64,3 @@ FirstInBytes = (names : List Reference) (s : ControlState) (bytes : List ℕ) (n
 -- over a known state nothing is older
 abbrev pub OwnOverNothing : Type 0
 OwnOverNothing = (rules : Rules) (p q : Parser) (es : List Edit) → Goes (step rules) p es q → GoesOwn rules nothing p es q
-
--- In a text in which nothing stands behind a `>`: the tokens of some moves, each with its switch, are steps along which nothing older is touched, where none of them touches it.
-abbrev pub BatchOwn : Type 0
-BatchOwn = (names : List Reference) (s c : ControlState) (l k : Lexing) (es : List Emitted) → Moves (move (table names)) l es k → EndsAtTag l.unread → untouched s c (tokens_of es) ≡ true
-    → GoesOwn (table names) s (record { lexing = l; control = c }) (made_after handle c (tokens_of es)) (record { lexing = turned_by handle c (tokens_of es) k; control = left_after handle c (tokens_of es) })
-
--- and where one does, and all of them began at one place, the first that does began there
-abbrev pub BatchTouches : Type 0
-BatchTouches = (names : List Reference) (s c : ControlState) (l k : Lexing) (es : List Emitted) (place : ℕ) → Moves (move (table names)) l es k → EndsAtTag l.unread → AllBegan es place
-    → untouched s c (tokens_of es) ≡ false → TouchesFrom (table names) s (record { lexing = l; control = c }) place

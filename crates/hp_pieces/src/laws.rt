@@ -1,7 +1,7 @@
 //! The laws of runs from known states, which the bodies do nothing for.
 
 ghost use Rattle.hp_pieces.specs.At.{AtCovers, AtEnd, AtFits, AtGoesOn, AtOnce, AtStart, AtValid};
-ghost use Rattle.hp_pieces.specs.FirstLaws.{BatchOwn, BatchTouches, FirstBefore, FirstExists, FirstInBytes, FirstOnce, FirstParts, OwnLeads, OwnOrTouches, OwnOverNothing, TouchesInside, WholeIsOwn};
+ghost use Rattle.hp_pieces.specs.FirstLaws.{FirstBefore, FirstExists, FirstInBytes, FirstOnce, FirstParts, OwnLeads, OwnOrTouches, OwnOverNothing, TouchesInside, WholeIsOwn};
 ghost use Rattle.hp_pieces.specs.Laws.{EndsHandled, EndsRead, GuessLeads, LeadsExist, LeadsJoin, LeadsOnce, LeadsValid, NeverAsked, PageBuilt, RestsAhead, RestingWaits, RestsForMore, RunsWait, StartWaits, WaitingStays};
 
 /// From each state there is one run over each text, and it leads from a valid state to a valid one. The run over two texts in a row
@@ -49,13 +49,6 @@ pub fn firsts()
     ensures apart { OwnOrTouches }
     ensures own { OwnLeads }
     ensures known { OwnOverNothing }
-{}
-
-/// What a batch of tokens is along a run from an older state, in a text in which nothing stands behind a `>`: steps along which nothing
-/// older is touched, or the place of the first token that touches something older.
-pub fn batches_touch()
-    ensures own { BatchOwn }
-    ensures touches { BatchTouches }
 {}
 
 /// At each place of a page there is one state and one tree of the sequential parser, valid, and such that ids can be counted. At

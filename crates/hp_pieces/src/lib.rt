@@ -13,6 +13,6 @@ pub use ending::Ending;
 pub use exact::Exact;
 pub use fragment::Fragment;
 pub use guessed::Guessed;
-pub use laws::{batches_touch, ends_of_text, firsts, pages_at, runs_between, states_wait};
+pub use laws::{ends_of_text, firsts, pages_at, runs_between, states_wait};
 pub use pieces::cut;
 pub use tokens::of_page;
