@@ -1,6 +1,6 @@
 //! The list of cuts.
 
-ghost use Rattle.std.specs.Prelude.{◌≡◌, ◌+◌, ◌<◌, length, IfOk, IsTrue, slice_index};
+ghost use Rattle.std.specs.Prelude.{◌≡◌, ◌+◌, ◌<◌, length, IfOk, IsTrue, ◌↔◌, slice_index};
 ghost use Rattle.hp_text.specs.Page.{text_of};
 ghost use Rattle.hp_cut.specs.Places.{AreLawful, IsOf, ends};
 
@@ -71,6 +71,13 @@ impl Cuts {
             places,
             text_length: self.text_length,
         })
+    }
+
+    /// Whether the two cut a text of the same length at the same places.
+    pub fn same(&self, other: &Cuts) -> bool
+        ensures { IsTrue result ↔ (self.now ≡ other.now) }
+    {
+        self.text_length == other.text_length && self.places.as_slice() == other.places.as_slice()
     }
 
     /// The chunk of this number, from 0.

@@ -31,9 +31,13 @@ abbrev pub from_start : List ℕ → List ℕ
 from_start [] = []
 from_start (byte ∷ bytes) = if continues byte then from_start bytes else byte ∷ bytes
 
--- the last 4,096 bytes of a text, or all of it, from the first start of a code point on
+-- the last 4,096 bytes of a text, or all of it
+abbrev pub last_bytes : List ℕ → List ℕ
+last_bytes text = drop (length text - 4096) text
+
+-- these from the first start of a code point on
 abbrev pub last_part : List ℕ → List ℕ
-last_part text = from_start (drop (length text - 4096) text)
+last_part text = from_start (last_bytes text)
 
 -- names in which end tags are looked for in order, each from the name after the one before on; one that isn't found stands behind them
 unfoldable pub with_ends : Names → Names → Names

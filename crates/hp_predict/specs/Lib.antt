@@ -6,3 +6,4 @@ pub mod Guess
 pub mod Piling
 pub mod Laws
 pub mod Says
+pub mod Kinds
