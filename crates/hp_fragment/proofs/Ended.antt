@@ -40,11 +40,11 @@ use Rattle.hp_model.specs.Runs.{Parser, Rests, followed_by, goes, rests, step, s
 use Rattle.hp_older.specs.Laws.{OwnTrue}
 use Rattle.hp_older.specs.Over.{IsOver}
 use Rattle.hp_older.specs.Tokens.{MayAllCome}
-use Rattle.hp_pieces.proofs.Own.{own-goes}
 use Rattle.hp_pieces.proofs.SameRuns.{end-same}
 use Rattle.hp_pieces.specs.Fragments.{IsEnd, IsRun}
 use Rattle.hp_pieces.specs.Laws.{EndsHandled, LeadsValid, PageBuilt}
 use Rattle.hp_pieces.specs.Running.{Ends, Leads, parser_in, state_at}
+use Rattle.hp_runs.proofs.Own.{own-goes}
 use Rattle.hp_runs.proofs.Turning.{Does, all-together}
 use Rattle.hp_runs.specs.Coming.{HasCome, TextBegins}
 use Rattle.hp_runs.specs.Handling.{made_after}
@@ -243,5 +243,6 @@ done-growing page read done r e = growing done.sink done.split.edits (r.edits ++
 pub kept-empty : Amounts false Keeps nothing [] []
 kept-empty = λ tree. refl
 
-pub page-empty : (tree : Tree) → tree ≡ document → applied_all tree [] ≡ applied_all document []
-page-empty tree is = ap (λ (t : Tree). applied_all t []) is
+-- a page was read
+pub page-read : (entry : ControlState) (bytes text : List ℕ) (p : Stage) → entry ≡ start → bytes ≡ text → RanFrom entry (chars bytes) true p → RanFrom start (chars text) true p
+page-read entry bytes text p is same r = subst (λ (s : ControlState). RanFrom s (chars text) true p) is (subst (λ (t : List ℕ). RanFrom entry (chars t) true p) same r)

@@ -43,7 +43,7 @@ untold-few false = lit≤ tt
 few-more : (w v n o : ℕ) → n ≤ 1 → w ≤ v → 2 * v + 1 < o → 2 * w + n < o
 few-more w v n o h i k = omega (arith, h, i, k)
 
-held-on : (a b c d : ℕ) → b ≤ d → c ≡ d → a ≡ b → a ≤ c
+pub held-on : (a b c d : ℕ) → b ≤ d → c ≡ d → a ≡ b → a ≤ c
 held-on a b c d h e f = omega (arith, h, e, f)
 
 -- behind the tokens of a step the lexer may be called, and its load is smaller

@@ -1,17 +1,24 @@
 -- The run over a text from a known state, and the end of input behind it (13.2).
-use Rattle.std.specs.Prelude.{◌≡◌, Bool, true, false, List, [], ◌++◌, ℕ}
+use Rattle.std.specs.Prelude.{◌≡◌, Bool, true, List, [], ◌++◌, ℕ, None}
 use Rattle.std.specs.Option.{unwrap_or}
 use Rattle.hp_names.specs.BuiltIn.{built_in}
 use Rattle.hp_tokens.specs.Advancing.{held}
 use Rattle.hp_control.specs.Faithful.{state_over}
 use Rattle.hp_control.specs.Nothing.{nothing}
 use Rattle.hp_control.specs.States.{ControlState}
+use Rattle.hp_control.specs.Truth.{answer_of}
+use Rattle.hp_control.specs.declared.below.Nothing.{Nothing}
 use Rattle.hp_control.specs.declared.edit.Edit.{Edit}
 use Rattle.hp_model.specs.Runs.{followed_by}
 use Rattle.hp_older.specs.Over.{IsOver}
 use Rattle.hp_pieces.specs.Running.{Ends, Leads, parser_in}
 use Rattle.hp_fragment.specs.Making.{Amounts}
-use Rattle.hp_fragment.specs.Reading.{Stage, Way}
+use Rattle.hp_fragment.specs.Reading.{Stage, Way, stage}
+use Rattle.hp_fragment.specs.declared.parsing.Parsing.{Parsing}
+
+-- a parser with nothing below
+abbrev pub stage_of : Parsing Nothing → Stage
+stage_of = stage (λ below. record { says = answer_of nothing; kept = None })
 
 -- the run over a text from that state, with nothing older
 abbrev pub way_from : ControlState → List ℕ → Bool → Way

@@ -7,9 +7,9 @@ ghost use Rattle.hp_control.specs.States.{IsValid, lex_start};
 ghost use Rattle.hp_lexer.specs.declared.lexer.Asked.TheVariants as asked;
 ghost use Rattle.hp_older.specs.Over.{IsOver};
 ghost use Rattle.hp_views.specs.View.{split_of};
-ghost use Rattle.hp_fragment.specs.Known.{state_of, way_from, EndsInput, RanFrom};
+ghost use Rattle.hp_fragment.specs.Known.{stage_of, state_of, way_from, EndsInput, RanFrom};
 ghost use Rattle.hp_fragment.specs.Making.{Amounts, is_growing};
-ghost use Rattle.hp_fragment.specs.Reading.{stage, Handled, HasRead, IsAtEnd, IsReady};
+ghost use Rattle.hp_fragment.specs.Reading.{Handled, HasRead, IsAtEnd, IsReady};
 
 use crate::NoMemory;
 use crate::leaving::{leave, leave_lex, leave_lexer, leave_sink};
@@ -33,8 +33,8 @@ impl<'p> Parsing<'p, Nothing> {
     ) -> Result<Parsing<'p, Nothing>, NoMemory>
         requires valid { IsValid from.now }
         requires empty { Amounts (is_growing sink) sink nothing [] [] }
-        ensures at_end { IfOk result (λ p. IsAtEnd (stage Nothing.heard p)) }
-        ensures ran { IfOk result (λ p. RanFrom from.now (chars text.now) (is_growing sink.entry) (stage Nothing.heard p)) }
+        ensures at_end { IfOk result (λ p. IsAtEnd (stage_of p)) }
+        ensures ran { IfOk result (λ p. RanFrom from.now (chars text.now) (is_growing sink.entry) (stage_of p)) }
     {
         hp_older::answers_over();
         let mut parsing = Parsing::before(alloc, from, text, sink)?;
@@ -56,13 +56,13 @@ impl<'p> Parsing<'p, Nothing> {
     ) -> Result<Parsing<'p, Nothing>, NoMemory>
         requires valid { IsValid from.now }
         requires empty { Amounts (is_growing sink) sink nothing [] [] }
-        ensures ready { IfOk result (λ p. IsReady (stage Nothing.heard p)) }
+        ensures ready { IfOk result (λ p. IsReady (stage_of p)) }
         ensures nothing_asked { IfOk result (λ p. p.lexer.asked ≡ asked.Nothing) }
-        ensures state { IfOk result (λ p. state_of (stage Nothing.heard p) ≡ from.now) }
+        ensures state { IfOk result (λ p. state_of (stage_of p) ≡ from.now) }
         ensures over { IfOk result (λ p. IsOver nothing (split_of p.view)) }
         ensures edits { IfOk result (λ p. p.view.edits ≡ []) }
         ensures sink { IfOk result (λ p. p.sink ≡ sink.entry) }
-        ensures reads { IfOk result (λ p. HasRead (way_from from.now (chars text.now) (is_growing sink.entry)) (stage Nothing.heard p)) }
+        ensures reads { IfOk result (λ p. HasRead (way_from from.now (chars text.now) (is_growing sink.entry)) (stage_of p)) }
     {
         hp_runs::comes_on();
         let lexer = match Lexer::from_state(alloc, &from.lex) {
@@ -91,8 +91,8 @@ impl<'p> Parsing<'p, Nothing> {
     pub fn end_input(&mut self, alloc: Global) -> Result<(), Refusal>
         requires nothing_asked { self.old.lexer.asked ≡ asked.Nothing }
         requires over { IsOver nothing (split_of self.old.view) }
-        requires valid { IsValid (state_of (stage Nothing.heard self.old)) }
-        ensures { OnOk result (EndsInput (stage Nothing.heard self.old) (stage Nothing.heard self.new)) }
+        requires valid { IsValid (state_of (stage_of self.old)) }
+        ensures { OnOk result (EndsInput (stage_of self.old) (stage_of self.new)) }
     {
         hp_model::at_once();
         hp_older::answers_over();
@@ -104,7 +104,7 @@ impl<'p> Parsing<'p, Nothing> {
 
     /// Handles the tokens of the end of input. What they call for has no effect, since nothing is read behind them.
     fn handle_last(&mut self, alloc: Global, tokens: Tokens<'static>) -> Result<(), Refusal>
-        ensures { OnOk result (Handled (stage Nothing.heard self.old) (stage Nothing.heard self.new) tokens.entry) }
+        ensures { OnOk result (Handled (stage_of self.old) (stage_of self.new) tokens.entry) }
     {
         for token in tokens {
             let own = of_page(alloc, token)?;

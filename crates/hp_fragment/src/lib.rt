@@ -3,7 +3,6 @@
 
 mod at_end;
 mod blanks;
-mod dev;
 mod known;
 mod laws;
 mod leaving;
@@ -13,7 +12,6 @@ mod sink;
 mod told;
 mod whole;
 
-pub use dev::lemmas;
 pub use at_end::ending;
 pub use hp_elements::NoMemory;
 pub use replaying::replay;

@@ -3,8 +3,7 @@ ghost use Rattle.std.specs.Prelude.{◌≡◌, map, IfOk};
 ghost use Rattle.hp_control.specs.Apply.{named_edit};
 ghost use Rattle.hp_control.specs.Nothing.{nothing};
 ghost use Rattle.hp_control.specs.States.{IsValid};
-ghost use Rattle.hp_fragment.specs.Known.{state_of};
-ghost use Rattle.hp_fragment.specs.Reading.{stage};
+ghost use Rattle.hp_fragment.specs.Known.{stage_of, state_of};
 
 use crate::NoMemory;
 use crate::leaving::{into_edits, leave_control, leave_lexer, leave_sink};
@@ -18,8 +17,8 @@ pub(crate) fn told_state<'p>(
     alloc: Global,
     parsing: Parsing<'p, Nothing>,
 ) -> Result<(Control, Edits<'p>), NoMemory>
-    requires valid { IsValid (state_of (stage Nothing.heard parsing)) }
-    ensures state { IfOk result (λ parts. parts.0 ≡ state_of (stage Nothing.heard parsing.entry)) }
+    requires valid { IsValid (state_of (stage_of parsing)) }
+    ensures state { IfOk result (λ parts. parts.0 ≡ state_of (stage_of parsing.entry)) }
     ensures edits { IfOk result (λ parts. parts.1 ≡ map (named_edit nothing) parsing.entry.view.edits) }
 {
     let Parsing {
