@@ -1,12 +1,12 @@
 -- Where a view begins over an older state, and that its edits are no part of that.
-use Rattle.std.proofs.Common.{◌≡◌, ◌⊎◌, inl, inr, true, refl, sym, ap, ◌∙◌, subst, None}
+use Rattle.std.proofs.Common.{◌≡◌, ◌⊎◌, inl, inr, true, refl, sym, ap, ◌∙◌, subst}
 use Rattle.hp_elements.specs.declared.token.Mode.{Mode}
 use Rattle.hp_elements.specs.declared.token.Mode.TheVariants as mode
 use Rattle.hp_control.specs.declared.question.Answer.{Answer}
 use Rattle.hp_control.specs.declared.question.Answer.TheVariants as answer
 use Rattle.hp_control.specs.declared.question.Question.TheVariants as ask
 use Rattle.hp_control.specs.Apply.{IsOlder}
-use Rattle.hp_control.specs.Faithful.{Split, StandsOn, state_over}
+use Rattle.hp_control.specs.Faithful.{Split, state_over}
 use Rattle.hp_control.specs.States.{ControlState, IsValid, StackFits, is_rooted}
 use Rattle.hp_control.specs.Truth.{answer_of}
 use Rattle.hp_control.proofs.OlderLemmas.{valid_older}

@@ -16,7 +16,6 @@ use Rattle.hp_model.specs.AtOnce.{LeaveSame, handle_at_once}
 use Rattle.hp_model.specs.Texts.{as_run, each_at_once, has_html_top, is_text_mode}
 use Rattle.hp_model.specs.Turns.{Handled as Meant}
 use Rattle.hp_model.proofs.Texts.{texts_at_once}
-use Rattle.hp_acts.specs.Plain.{takes_text}
 use Rattle.hp_acts.specs.RowPlans.{Reached}
 use Rattle.hp_acts.proofs.Matching.{applied_after}
 use Rattle.hp_acts.proofs.TurnMatches.{mode_over}

@@ -1,8 +1,7 @@
 -- What is carried out by true answers is carried out by those of the older state.
-use Rattle.std.proofs.Common.{◌≡◌, List, [], ◌∷◌, refl, sym, ◌∙◌, None}
+use Rattle.std.proofs.Common.{◌≡◌, [], ◌∷◌, refl, sym, ◌∙◌, None}
 use Rattle.std.specs.Prelude.{Result}
 use Rattle.hp_control.specs.declared.question.Crossing.{Crossing}
-use Rattle.hp_control.specs.declared.question.Question.{Question}
 use Rattle.hp_control.specs.Agree.{AllTrue, ends_alike, true_alike}
 use Rattle.hp_control.specs.Plan.{Heard, Plan, Runs, asked_by, end_by}
 use Rattle.hp_control.specs.States.{ControlState}
