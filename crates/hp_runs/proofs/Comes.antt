@@ -7,7 +7,7 @@ use Rattle.hp_elements.specs.declared.token.Token.{Token}
 use Rattle.hp_elements.specs.declared.token.Token.TheVariants as token
 use Rattle.hp_names.specs.References.{Reference}
 use Rattle.hp_tokens.specs.declared.machine.Machine.{Machine}
-use Rattle.hp_tokens.specs.Advancing.{AreRuns, held, singles, tokens_of, unread}
+use Rattle.hp_tokens.specs.Advancing.{AreRuns, held, singles, tokens_of}
 use Rattle.hp_tokens.specs.Moves.{Emitted, Lexing, Move, asks_cdata, asks_last_tag, makes, move, needs_more, standing}
 use Rattle.hp_tokens.specs.Reading.{Unread}
 use Rattle.hp_tokens.specs.Rows.{character}
@@ -18,7 +18,6 @@ use Rattle.hp_control.specs.Outcome.{is_older, touches_any}
 use Rattle.hp_control.specs.States.{ControlState, IsValid}
 use Rattle.hp_control.specs.Tree.{applied_all}
 use Rattle.hp_lexer.specs.declared.lexer.Asked.{Asked}
-use Rattle.hp_lexer.specs.declared.lexer.Asked.TheVariants as asked
 use Rattle.hp_lexer.specs.declared.lexer.Lexer.{Lexer}
 use Rattle.hp_lexer.specs.Places.{IsInPiece, told, text_at}
 use Rattle.hp_lexer.specs.Standing.{IsBatch, PlainStepped, opened, stands, stands_answered}

@@ -15,7 +15,7 @@ use Rattle.hp_lexer.specs.Places.{IsInPiece}
 use Rattle.hp_lexer.specs.Table.{table}
 use Rattle.hp_lexer.proofs.Placing.{BeganAlike, PlacedMove, alike-tokens, move-placed, stand}
 use Rattle.hp_model.specs.Handling.{handle}
-use Rattle.hp_model.specs.Runs.{goes, switched}
+use Rattle.hp_model.specs.Runs.{switched}
 use Rattle.hp_model.specs.Turns.{left_by}
 use Rattle.hp_runs.specs.Closing.{AreCharacters, LeadsOn, last, onward, stays}
 use Rattle.hp_runs.specs.Filled.{FilledMove, at_filled}

@@ -1,5 +1,5 @@
 -- How far a run has come over an older state, told by where the lexer in code stands, and what its calls do to that (13.2).
-use Rattle.std.specs.Prelude.{◌≡◌, ℕ, ◌+◌, ◌-◌, ◌≤◌, ◌^◌, ◌&&◌, not, Bool, true, false, List, [], ◌∷◌, ◌++◌, Some}
+use Rattle.std.specs.Prelude.{◌≡◌, ℕ, ◌-◌, ◌≤◌, ◌^◌, ◌&&◌, not, Bool, true, false, List, [], ◌∷◌, ◌++◌, Some}
 use Rattle.std.specs.List.{list_all}
 use Rattle.hp_elements.specs.declared.token.CharClass.TheVariants.{White}
 use Rattle.hp_elements.specs.declared.token.Token.{Token}
