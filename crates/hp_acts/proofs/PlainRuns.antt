@@ -1,10 +1,12 @@
 -- The short way of a run of text comes to the same as the rows.
-use Rattle.std.proofs.Common.{◌≡◌, ℕ, suc, ◌-◌, ◌<◌, true, false, List, [], ◌∷◌, Option, Some, None, Result, Ok, Err, refl, ap, sym, subst, ◌∙◌, arith}
-use Rattle.std.specs.Prelude.{Bool, if◌then◌else◌, not, ◌||◌, ◌&&◌}
+use Rattle.std.proofs.Common.{◌≡◌, ℕ, suc, ◌-◌, ◌<◌, true, false, List, [], ◌∷◌, Option, Some, None, Result, Ok, Err, length, refl, ap, sym, subst, ◌∙◌, arith}
+use Rattle.std.specs.Prelude.{Bool, if◌then◌else◌, not, ◌||◌, ◌&&◌, ◌==◌}
 use Rattle.std.specs.List.{list_all}
 use Rattle.std.specs.Result.{IsErrAnd}
+use Rattle.std.proofs.lemmas.Bool.{eqb-true}
 use Rattle.hp_elements.specs.declared.token.CharClass.{CharClass}
 use Rattle.hp_elements.specs.declared.token.CharClass.TheVariants.{White, Nul, Other}
+use Rattle.hp_elements.specs.declared.kinds.Kinds.TheVariants as kinds
 use Rattle.hp_elements.specs.declared.token.Kind.TheVariants as kind
 use Rattle.hp_elements.specs.declared.token.Mode.{Mode}
 use Rattle.hp_elements.specs.declared.token.Mode.TheVariants as mode
@@ -20,17 +22,18 @@ use Rattle.hp_control.specs.declared.question.Crossing.{Crossing}
 use Rattle.hp_adoption.specs.ReconPlans.{reconstruct_plan}
 use Rattle.hp_control.specs.declared.edit.Child.TheVariants as child
 use Rattle.hp_control.specs.Running.{runs_crosses, runs_gives, runs_then}
-use Rattle.hp_foreign.specs.Plans.{goes_on}
+use Rattle.hp_foreign.specs.Plans.{goes_on, goes_plan, unless_html}
 use Rattle.hp_rules_rest.specs.Whole.{every_mode_rows}
 use Rattle.hp_views.specs.FieldPlans.{frameset_plan}
 use Rattle.hp_views.specs.PlacePlans.{put_plan}
-use Rattle.hp_views.specs.View.{Sight, Carries}
+use Rattle.hp_views.specs.StackPlans.{current_is_plan, current_on}
+use Rattle.hp_views.specs.View.{Sight, Carries, Finds}
 use Rattle.hp_model.specs.Texts.{as_run, has_html_top, is_text_mode, is_white, run_of, white_or_other}
 use Rattle.hp_acts.specs.HandlePlans.{all_turns_plan, handle_plan, handle_rest, most_turns, turns_plan, where_again, without_line_feed}
-use Rattle.hp_acts.specs.Handling.{Handles, nothing_asked, unskipped}
-use Rattle.hp_acts.specs.Plain.{IsPlain, body_text_plan, is_run, put_text_plan, run_plan, takes_text, text_plan}
+use Rattle.hp_acts.specs.Handling.{Handles, HandlesBelow, nothing_asked, unskipped}
+use Rattle.hp_acts.specs.Plain.{IsPlain, body_text_plan, is_nothing_open, is_run, may_take_text, put_text_plan, run_plan, takes_text, text_plan}
 use Rattle.hp_acts.specs.RowPlans.{Reached, Came, left, changed, dispatched, is_early, mode_plan, rules_plan, turn_plan, where_left}
-use Rattle.hp_acts.proofs.TurnRuns.{turn_on, turns_next}
+use Rattle.hp_acts.proofs.TurnRuns.{turn_by, turn_on, turns_next}
 
 pub follow_assoc : {X Y Z : Type 0} (p : Plan X) (f : X → Plan Y) (g : Y → Plan Z) → followed_by (followed_by p f) g ≡ followed_by p (λ x. followed_by (f x) g)
 follow_assoc (gives x) f g = refl
@@ -205,3 +208,109 @@ text_refused (Crossed crossing) class text old new h is run =
     subst (λ plan. Runs old.heard new.heard plan (Err crossing)) (sym (unskipped_plan (as_run text) old.split h))
     (plain_crosses old.heard new.heard (as_run text) old.split crossing (text_plain (list_all is_white text) text old.split h)
     (subst (λ k. Runs old.heard new.heard (text_plan old.split.change.mode k text old.split) (Err crossing)) is run))
+
+-- three tests one behind the other
+pub passes : (skip text value : Bool) → skip ≡ false → value ≡ text → value ≡ (not skip && text)
+passes true text value skips is = absurd (cc)
+passes false text value skips is = is
+
+pub stops : (skip text value : Bool) → skip ≡ true → value ≡ not skip → value ≡ (not skip && text)
+stops true text value skips is = is
+stops false text value skips is = absurd (cc)
+
+pub all_three : (skip text top value : Bool) → value ≡ (not skip && text) → value ≡ true → top ≡ (not skip && text && top)
+all_three true text top value is holds = absurd (cc)
+all_three false true top value is holds = refl
+all_three false false top value is holds = absurd (cc)
+
+pub not_both : (skip text top value : Bool) → value ≡ (not skip && text) → value ≡ false → value ≡ (not skip && text && top)
+not_both true text top value is fails = is
+not_both false true top value is fails = absurd (cc)
+not_both false false top value is fails = is
+
+-- the own stack is empty
+pub none_open : (es : List OpenElement) → (length es == 0) ≡ is_nothing_open es
+none_open [] = refl
+none_open (e ∷ es) = by_test (length (e ∷ es) == 0) refl
+  where
+    by_test : (b : Bool) → (length (e ∷ es) == 0) ≡ b → b ≡ false
+    by_test true h = let z : suc (length es) ≡ 0 = eqb-true (suc (length es)) 0 h in absurd (omega (arith, z))
+    by_test false h = refl
+
+-- the same where nothing own is open, and it was answered that the older current node is HTML
+record MayTake (v : Split) : Type 0 where
+  pub skips : v.change.skip_lf ≡ false
+  pub place : is_text_mode v.change.mode ≡ true
+  pub none : is_nothing_open v.change.stack ≡ true
+
+may_take : (v : Split) → may_take_text v ≡ true → MayTake v
+may_take v h =
+    let both = both_hold (not v.change.skip_lf && is_text_mode v.change.mode) (is_nothing_open v.change.stack) h in
+    let first = both_hold (not v.change.skip_lf) (is_text_mode v.change.mode) both.0 in
+    record { skips = is_false v.change.skip_lf first.0; place = first.1; none = both.1 }
+
+-- dispatch asks that first
+html_first : (class : CharClass) (v : Split) (stack : List OpenElement) → is_nothing_open stack ≡ true → goes_on (kind.Characters class) v stack ≡ followed_by (current_on v.change.popped kinds.AnyHtml stack) (unless_html (kind.Characters class) v.change.popped)
+html_first class v [] h = refl
+html_first class v (e ∷ es) h = absurd (cc)
+
+not_foreign_below : (a b : Heard) (class : CharClass) (v w : Split) → MayTake v → Finds (record { heard = a; split = v }) (record { heard = b; split = w }) (current_is_plan kinds.AnyHtml) true → Runs a b (goes_plan (kind.Characters class) v) (Ok false)
+not_foreign_below a b class v w m f =
+    let P : Plan Bool → Type 0 = λ plan. Runs a b plan (Ok false) in
+    subst P (sym (html_first class v v.change.stack m.none)) (runs_then (unless_html (kind.Characters class) v.change.popped) f.runs (runs_gives b false))
+
+abbrev at_first : Split → Reached
+at_first v = record { split = v; handled = nothing_asked }
+
+-- a turn after which the token is done, and one that crosses
+one_turn : (a b : Heard) (t : Token) (v w : Split) → Runs a b (turn_plan t (at_first v)) (Ok (left (at_first w))) → Runs a b (all_turns_plan t v) (Ok (at_first w))
+one_turn a b t v w run =
+    let n = most_turns v in
+    let all : n ≡ n - 0 = omega arith in
+    let P : Plan Reached → Type 0 = λ plan. Runs a b plan (Ok (at_first w)) in
+    subst P (sym (ap (λ k. turns_plan k t (at_first v)) all ∙ turns_next n 0 t (at_first v) (omega arith))) (runs_then (where_again (turns_plan (n - 1))) run (runs_gives b (at_first w)))
+
+no_turn : (a b : Heard) (t : Token) (v : Split) (crossing : Crossing) → Runs a b (turn_plan t (at_first v)) (Err crossing) → Runs a b (all_turns_plan t v) (Err crossing)
+no_turn a b t v crossing run =
+    let n = most_turns v in
+    let all : n ≡ n - 0 = omega arith in
+    let P : Plan Reached → Type 0 = λ plan. Runs a b plan (Err crossing) in
+    subst P (sym (ap (λ k. turns_plan k t (at_first v)) all ∙ turns_next n 0 t (at_first v) (omega arith))) (runs_crosses (where_again (turns_plan (n - 1))) run)
+
+below_put : (a b c : Heard) (class : CharClass) (text : List ℕ) (v w x : Split) → is_run (Characters class text) ≡ true → MayTake v → Finds (record { heard = a; split = v }) (record { heard = b; split = w }) (current_is_plan kinds.AnyHtml) true
+    → Runs b c (text_plan v.change.mode class text v) (Ok x) → Runs a c (all_turns_plan (Characters class text) v) (Ok (at_first x))
+below_put a b c class text v w x run m f k =
+    let P : Plan Came → Type 0 = λ plan. Runs b c plan (Ok (left (at_first x))) in
+    one_turn a c (Characters class text) v x
+    (turn_by (Ok false) a b c (Characters class text) (Characters class text) (at_first v) (at_first x) false (not_early v.page v.change.mode m.place) (not_foreign_below a b class v w m f)
+    (subst P (sym (in_mode v.change.mode class text (at_first v) m.place run)) (runs_then (ended (at_first v)) k (runs_gives c (left (at_first x))))))
+
+below_crosses : (a b c : Heard) (class : CharClass) (text : List ℕ) (v w : Split) (crossing : Crossing) → is_run (Characters class text) ≡ true → MayTake v → Finds (record { heard = a; split = v }) (record { heard = b; split = w }) (current_is_plan kinds.AnyHtml) true
+    → Runs b c (text_plan v.change.mode class text v) (Err crossing) → Runs a c (all_turns_plan (Characters class text) v) (Err crossing)
+below_crosses a b c class text v w crossing run m f k =
+    let P : Plan Came → Type 0 = λ plan. Runs b c plan (Err crossing) in
+    no_turn a c (Characters class text) v crossing
+    (turn_by (Err (Crossed crossing)) a b c (Characters class text) (Characters class text) (at_first v) (at_first v) false (not_early v.page v.change.mode m.place) (not_foreign_below a b class v w m f)
+    (subst P (sym (in_mode v.change.mode class text (at_first v) m.place run)) (runs_crosses (ended (at_first v)) k)))
+
+unskipped_below : (t : Token) (v : Split) → MayTake v → handle_plan t v ≡ all_turns_plan t v
+unskipped_below t v m = ap (λ b. if b then handle_rest (without_line_feed t) (unskipped v) else all_turns_plan t v) m.skips
+
+pub text_put_below : (class : CharClass) (text : List ℕ) (old mid new : Sight) → may_take_text old.split ≡ true → Finds old mid (current_is_plan kinds.AnyHtml) true → class ≡ white_or_other (list_all is_white text)
+    → Carries (Ok tt) mid new (λ v. text_plan v.change.mode class text v) → HandlesBelow (Ok true) old new (handle_plan (as_run text))
+text_put_below class text old mid new h f is run =
+    let m = may_take old.split h in
+    let at_once : Runs mid.heard new.heard (text_plan mid.split.change.mode (white_or_other (list_all is_white text)) text mid.split) (Ok new.split) = subst (λ k. Runs mid.heard new.heard (text_plan mid.split.change.mode k text mid.split) (Ok new.split)) is run in
+    subst (λ plan. Runs old.heard new.heard plan (Ok (at_first new.split))) (sym (unskipped_below (as_run text) old.split m))
+    (below_put old.heard mid.heard new.heard (white_or_other (list_all is_white text)) text old.split mid.split new.split (run_or_white (list_all is_white text) text) m f
+    (subst (λ (v : Split). Runs mid.heard new.heard (text_plan v.change.mode (white_or_other (list_all is_white text)) text v) (Ok new.split)) f.same at_once))
+
+pub text_refused_below : (refused : Refusal) (class : CharClass) (text : List ℕ) (old mid new : Sight) → may_take_text old.split ≡ true → Finds old mid (current_is_plan kinds.AnyHtml) true → class ≡ white_or_other (list_all is_white text)
+    → Carries (Err refused) mid new (λ v. text_plan v.change.mode class text v) → HandlesBelow (Err refused) old new (handle_plan (as_run text))
+text_refused_below NoMemory class text old mid new h f is run = tt
+text_refused_below (Crossed crossing) class text old mid new h f is run =
+    let m = may_take old.split h in
+    let at_once : Runs mid.heard new.heard (text_plan mid.split.change.mode (white_or_other (list_all is_white text)) text mid.split) (Err crossing) = subst (λ k. Runs mid.heard new.heard (text_plan mid.split.change.mode k text mid.split) (Err crossing)) is run in
+    subst (λ plan. Runs old.heard new.heard plan (Err crossing)) (sym (unskipped_below (as_run text) old.split m))
+    (below_crosses old.heard mid.heard new.heard (white_or_other (list_all is_white text)) text old.split mid.split crossing (run_or_white (list_all is_white text) text) m f
+    (subst (λ (v : Split). Runs mid.heard new.heard (text_plan v.change.mode (white_or_other (list_all is_white text)) text v) (Err crossing)) f.same at_once))

@@ -72,7 +72,7 @@ pub turn_on : (t : Token) (r : Reached) → is_early r.split.page r.split.change
 turn_on t r early = turn_is t r ∙ ap (λ b. if b then crosses X4 else followed_by (goes_plan (kind_of t) r.split) (dispatched t r.split.change.mode r)) early
 
 -- dispatch, and then what it leads to
-turn_by : (result : Result Bool Refusal) (a b c : Heard) (t left_over : Token) (r s : Reached) (is_foreign : Bool) → is_early r.split.page r.split.change.mode ≡ false → Runs a b (goes_plan (kind_of t) r.split) (Ok is_foreign) → Comes result b c (dispatched t r.split.change.mode r is_foreign) left_over s → Comes result a c (turn_plan t r) left_over s
+pub turn_by : (result : Result Bool Refusal) (a b c : Heard) (t left_over : Token) (r s : Reached) (is_foreign : Bool) → is_early r.split.page r.split.change.mode ≡ false → Runs a b (goes_plan (kind_of t) r.split) (Ok is_foreign) → Comes result b c (dispatched t r.split.change.mode r is_foreign) left_over s → Comes result a c (turn_plan t r) left_over s
 turn_by result a b c t left_over r s is_foreign early run h =
     comes_as result a c (followed_by (goes_plan (kind_of t) r.split) (dispatched t r.split.change.mode r)) (turn_plan t r) left_over s (sym (turn_on t r early))
     (comes_then result a b c (goes_plan (kind_of t) r.split) is_foreign (dispatched t r.split.change.mode r) left_over s run h)

@@ -1,10 +1,12 @@
 -- How a row goes on after an act, and that a token was handled.
-use Rattle.std.specs.Prelude.{ℕ, ◌<◌, false, None, Result, Ok, Err}
+use Rattle.std.specs.Prelude.{ℕ, ◌<◌, Bool, true, false, None, Result, Ok, Err}
+use Rattle.hp_elements.specs.declared.kinds.Kinds.TheVariants as kinds
 use Rattle.hp_control.specs.declared.change.Refusal.{Refusal}
 use Rattle.hp_control.specs.declared.change.Refusal.TheVariants.{Crossed, NoMemory}
 use Rattle.hp_control.specs.Faithful.{Split}
 use Rattle.hp_control.specs.Plan.{Plan, Runs}
-use Rattle.hp_views.specs.View.{Sight}
+use Rattle.hp_views.specs.StackPlans.{current_is_plan}
+use Rattle.hp_views.specs.View.{Finds, Sight}
 use Rattle.hp_acts.specs.declared.turns.Handled.{Handled}
 use Rattle.hp_acts.specs.declared.turns.Next.{Next}
 use Rattle.hp_acts.specs.declared.turns.Next.TheVariants.{At}
@@ -27,3 +29,9 @@ abbrev pub Handles : Result Handled Refusal → Sight → Sight → (Split → P
 Handles (Ok handled) old new plan = Runs old.heard new.heard (plan old.split) (Ok (record { split = new.split; handled = handled }))
 Handles (Err (Crossed crossing)) old new plan = Runs old.heard new.heard (plan old.split) (Err crossing)
 Handles (Err NoMemory) old new plan = Unit {0}
+
+-- the same of a text that is taken only where the older current node is HTML; where it isn't, that alone was found out
+abbrev pub HandlesBelow : Result Bool Refusal → Sight → Sight → (Split → Plan Reached) → Type 0
+HandlesBelow (Ok true) old new plan = Handles (Ok nothing_asked) old new plan
+HandlesBelow (Ok false) old new plan = Finds old new (current_is_plan kinds.AnyHtml) false
+HandlesBelow (Err refused) old new plan = Handles (Err refused) old new plan

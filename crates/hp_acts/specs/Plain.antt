@@ -1,5 +1,5 @@
 -- Runs of text where the rules do nothing but put them into the current node, an own HTML element (13.2.6.4.7, 13.2.6.4.8).
-use Rattle.std.specs.Prelude.{◌≡◌, ℕ, ◌&&◌, not, Bool, true, false, if◌then◌else◌, List}
+use Rattle.std.specs.Prelude.{◌≡◌, ℕ, ◌&&◌, not, Bool, true, false, if◌then◌else◌, List, [], ◌∷◌}
 use Rattle.hp_elements.specs.declared.token.CharClass.{CharClass}
 use Rattle.hp_elements.specs.declared.token.CharClass.TheVariants.{White, Other}
 use Rattle.hp_elements.specs.declared.token.Mode.{Mode}
@@ -7,6 +7,7 @@ use Rattle.hp_elements.specs.declared.token.Mode.TheVariants as mode
 use Rattle.hp_elements.specs.declared.token.Token.{Token}
 use Rattle.hp_elements.specs.declared.token.Token.TheVariants.{Characters}
 use Rattle.hp_control.specs.declared.edit.Child.TheVariants as child
+use Rattle.hp_control.specs.declared.element.OpenElement.{OpenElement}
 use Rattle.hp_control.specs.Faithful.{Split}
 use Rattle.hp_control.specs.Plan.{Plan, gives, followed_by}
 use Rattle.hp_adoption.specs.ReconPlans.{reconstruct_plan}
@@ -28,6 +29,15 @@ pub record IsPlain (v : Split) (t : Token) : Type 0 where
 -- a text without U+0000 goes into the current node as it comes
 abbrev pub takes_text : Split → Bool
 takes_text v = not v.change.skip_lf && is_text_mode v.change.mode && has_html_top v.change.stack
+
+-- nothing own is open
+abbrev pub is_nothing_open : List OpenElement → Bool
+is_nothing_open [] = true
+is_nothing_open (e ∷ es) = false
+
+-- it goes into the older current node as it comes, if that is HTML
+abbrev pub may_take_text : Split → Bool
+may_take_text v = not v.change.skip_lf && is_text_mode v.change.mode && is_nothing_open v.change.stack
 
 -- the text into the current node, and what the rules of the body do then
 abbrev pub put_text_plan : CharClass → List ℕ → Split → Plan Split

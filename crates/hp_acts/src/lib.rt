@@ -18,6 +18,6 @@ mod usual;
 
 pub use acts::carry;
 pub use laws::{acts_mean, known_handled, older_handled, tests_tell};
-pub use plain::{handle_text, takes_text};
+pub use plain::{handle_text, handle_text_below, may_take_text, takes_text};
 pub use token_parts::Spending;
 pub use turns::{Handled, handle};

@@ -1,18 +1,19 @@
 //! Runs of text where the rules do nothing but put them into the current node: a short way to what the rows say (13.2.6.4.7,
 //! 13.2.6.4.8).
-ghost use Rattle.std.specs.Prelude.{◌≡◌, true};
+ghost use Rattle.std.specs.Prelude.{◌≡◌, true, false, Ok};
 ghost use Rattle.hp_views.specs.View.{sight, split_of, Carries};
 ghost use Rattle.hp_acts.specs.HandlePlans.{all_turns_plan, handle_plan};
-ghost use Rattle.hp_acts.specs.Handling.{Handles};
-ghost use Rattle.hp_acts.specs.Plain.{IsPlain, body_text_plan, is_run, takes_text, text_plan};
+ghost use Rattle.hp_acts.specs.Handling.{Handles, HandlesBelow};
+ghost use Rattle.hp_acts.specs.Plain.{IsPlain, body_text_plan, is_nothing_open, is_run, may_take_text, takes_text, text_plan};
 ghost use Rattle.hp_model.specs.Texts.{as_run, has_html_top, is_text_mode, is_white, white_or_other};
 ghost use Rattle.std.specs.List.{list_all};
 ghost use Rattle.std.specs.Str.{chars};
 
+use crate::token_parts::taken_text;
 use crate::turns::{Handled, NOTHING};
 use hp_adoption::reconstruct;
 use hp_control::{Below, Child, OpenElements, Refusal, is_html};
-use hp_elements::{CharClass, Mode, Text, Token};
+use hp_elements::{CharClass, Kinds, Mode, Text, Token};
 use hp_views::View;
 use std::alloc::Global;
 
@@ -143,6 +144,44 @@ pub fn handle_text<'p, B: Below>(
     let class = class_of_text(&text);
     match put_characters(alloc, view, class, text) {
         Ok(()) => Ok(NOTHING),
+        Err(refused) => Err(refused),
+    }
+}
+
+/// Whether a text without U+0000 goes into the older current node as it comes, if that is HTML: nothing own is open, no line feed is
+/// skipped, and the rules do nothing but put text into the current node.
+pub fn may_take_text<'p, B: Below>(view: &View<'p, B>) -> bool
+    ensures { result ≡ may_take_text (split_of view.now) }
+{
+    !view.change.skip_lf && is_text_mode(view.change.mode) && is_nothing_open(&view.change.stack)
+}
+
+/// Whether nothing own is open.
+fn is_nothing_open(stack: &OpenElements) -> bool
+    ensures { result ≡ is_nothing_open stack.now }
+{
+    stack.is_empty()
+}
+
+/// Handles a text without U+0000 as one run and takes it, where nothing own is open and the older current node is HTML. Where it isn't,
+/// answers `false`: the text is left, and nothing was done but that this was asked. After a refusal the view is spent: what it shows
+/// is not promised.
+pub fn handle_text_below<'p, B: Below>(
+    alloc: Global,
+    view: &mut View<'p, B>,
+    text: &mut Text<'p>,
+) -> Result<bool, Refusal>
+    requires may { may_take_text (split_of view.old) ≡ true }
+    ensures plan { HandlesBelow result (sight B.heard view.old) (sight B.heard view.new) (handle_plan (as_run text.old)) }
+    ensures left { result ≡ Ok false → text.new ≡ text.old }
+{
+    if !view.current_is(alloc, Kinds::AnyHtml)? {
+        return Ok(false);
+    }
+    let text = taken_text(text);
+    let class = class_of_text(&text);
+    match put_characters(alloc, view, class, text) {
+        Ok(()) => Ok(true),
         Err(refused) => Err(refused),
     }
 }

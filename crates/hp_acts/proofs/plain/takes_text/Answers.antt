@@ -1,26 +1,9 @@
-use Rattle.std.proofs.Common.{◌≡◌, ◌∙◌, Bool, true, false, refl}
+use Rattle.std.proofs.Common.{◌≡◌, ◌∙◌}
 use Rattle.std.specs.Prelude.{◌&&◌, not}
 use Rattle.hp_model.specs.Texts.{has_html_top, is_text_mode}
+use Rattle.hp_acts.proofs.PlainRuns.{all_three, not_both, passes, stops}
 use Rattle.hp_acts.proofs.plain.takes_text.Goals as goal
 use Rattle.hp_acts.proofs.plain.takes_text.Goals.{then-not-view, else-not-view}
-
-passes : (skip text value : Bool) → skip ≡ false → value ≡ text → value ≡ (not skip && text)
-passes true text value skips is = absurd (cc)
-passes false text value skips is = is
-
-stops : (skip text value : Bool) → skip ≡ true → value ≡ not skip → value ≡ (not skip && text)
-stops true text value skips is = is
-stops false text value skips is = absurd (cc)
-
-all_three : (skip text top value : Bool) → value ≡ (not skip && text) → value ≡ true → top ≡ (not skip && text && top)
-all_three true text top value is holds = absurd (cc)
-all_three false true top value is holds = refl
-all_three false false top value is holds = absurd (cc)
-
-not_both : (skip text top value : Bool) → value ≡ (not skip && text) → value ≡ false → value ≡ (not skip && text && top)
-not_both true text top value is fails = is
-not_both false true top value is fails = absurd (cc)
-not_both false false top value is fails = is
 
 pub returns-then-is_text_mode : goal.returns-then-is_text_mode
 returns-then-is_text_mode g c =
