@@ -40,7 +40,7 @@ either-followed true x y text = refl
 either-followed false x y text = refl
 
 -- a step that is made stays made when more text follows
-goes-followed : (p : Parser) (now later : Move) (text : List ℕ) (q : Parser) (es : List Edit) → Stays now later text → step_by p now ≡ goes q es → step_by (followed_by p text) later ≡ goes (followed_by q text) es
+pub goes-followed : (p : Parser) (now later : Move) (text : List ℕ) (q : Parser) (es : List Edit) → Stays now later text → step_by p now ≡ goes q es → step_by (followed_by p text) later ≡ goes (followed_by q text) es
 goes-followed p needs_more later text q es s e = absurd (cc)
 goes-followed p (asks_cdata foreign html) later text q es s e =
     ap (step_by (followed_by p text)) s
@@ -62,7 +62,7 @@ Goes-join {next} {p} {r = r} {fs = fs} (onward {es = first} {fs = later} e g) h 
     let P : List Edit → Type 0 = λ xs. Goes next p xs r in
     subst P (sym (append_assoc first later fs)) (onward e (Goes-join g h))
 
-followed-again : (p : Parser) (a b : List ℕ) → followed_by (followed_by p a) b ≡ followed_by p (a ++ b)
+pub followed-again : (p : Parser) (a b : List ℕ) → followed_by (followed_by p a) b ≡ followed_by p (a ++ b)
 followed-again p a b = ap (λ (u : List ℕ). at_lexing p (record p.lexing { unread = u })) (append_assoc p.lexing.unread a b)
 
 pub runs-join : (rules : Rules) → IsSteady rules → (old mid new : Parser) (a b : List ℕ) (es fs : List Edit) → RunsOver rules old a es mid → RunsOver rules mid b fs new → RunsOver rules old (a ++ b) (es ++ fs) new

@@ -9,7 +9,7 @@ use Rattle.hp_tokens.specs.declared.state.State.{State}
 use Rattle.hp_tokens.specs.declared.state.State.TheVariants.{MarkupDeclarationOpen, AfterDoctypeName, NamedCharacterReference}
 use Rattle.hp_tokens.specs.Valid.{is_front, is_front_without_case}
 use Rattle.hp_control.specs.States.{may_be_ahead}
-use Rattle.hp_steps.specs.Closing.{EndsAtTag}
+use Rattle.hp_runs.specs.Closing.{EndsAtTag}
 
 abbrev pub has_none : List ℕ → Bool
 has_none xs = list_all (λ c. not (c == 62)) xs

@@ -7,21 +7,22 @@ use Rattle.hp_names.specs.References.{Reference}
 use Rattle.hp_tokens.specs.Advancing.{tokens_of}
 use Rattle.hp_tokens.specs.Moves.{Emitted, Lexing, makes, move, move_on, needs_more}
 use Rattle.hp_tokens.specs.Runs.{Leads, here as no_more, onward as moves_on}
+use Rattle.hp_tokens.specs.Groups.{AllBegan}
 use Rattle.hp_control.specs.declared.edit.Edit.{Edit}
 use Rattle.hp_control.specs.Outcome.{touches_any}
 use Rattle.hp_control.specs.States.{ControlState}
 use Rattle.hp_lexer.specs.Table.{table}
 use Rattle.hp_model.specs.Handling.{handle}
-use Rattle.hp_model.specs.Runs.{Parser, built, goes, step, step_by, switched, told}
+use Rattle.hp_model.specs.Runs.{goes}
 use Rattle.hp_model.specs.Turns.{left_by}
-use Rattle.hp_steps.specs.Closing.{AreCharacters, EndsAtTag}
-use Rattle.hp_steps.specs.Handling.{AreQuiet, left_after, made_after, turned_by}
-use Rattle.hp_steps.proofs.Batches.{at, built-control, built-made, left-append, made-append, quiet-step}
-use Rattle.hp_steps.proofs.Began.{tokens-append}
-use Rattle.hp_steps.proofs.ClosingTable.{MoveCloses, move-closes}
-use Rattle.hp_steps.proofs.Quiet.{characters-quiet}
-use Rattle.hp_steps.proofs.Turning.{turned-quiet}
-use Rattle.hp_pieces.specs.Touching.{AllBegan, GoesOwn, here, onward, TouchesAt, TouchesFrom, is_untouched, untouched}
+use Rattle.hp_runs.specs.Closing.{AreCharacters, EndsAtTag}
+use Rattle.hp_runs.specs.Handling.{AreQuiet, left_after, made_after, turned_by}
+use Rattle.hp_runs.specs.Touching.{GoesOwn, here, onward, TouchesAt, TouchesFrom, is_untouched, untouched}
+use Rattle.hp_runs.proofs.Batches.{at, left-append, made-append, quiet-step}
+use Rattle.hp_runs.proofs.Began.{tokens-append}
+use Rattle.hp_runs.proofs.ClosingTable.{MoveCloses, move-closes}
+use Rattle.hp_runs.proofs.Quiet.{characters-quiet}
+use Rattle.hp_runs.proofs.Turning.{loud-step, turned-append, turned-quiet}
 use Rattle.hp_pieces.proofs.Inside.{touches-began}
 use Rattle.hp_pieces.proofs.Own.{from-touching, touch_found, touching-from}
 
@@ -43,25 +44,9 @@ rest-began : (es fs : List Emitted) (place : ℕ) → AllBegan (es ++ fs) place 
 rest-began [] fs place h = h
 rest-began (e ∷ es) fs place h = rest-began es fs place h.1
 
-turned-append : (c : ControlState) (xs ys : List Token) (l : Lexing) → turned_by handle c (xs ++ ys) l ≡ turned_by handle (left_after handle c xs) ys (turned_by handle c xs l)
-turned-append c [] ys l = refl
-turned-append c (x ∷ xs) ys l = turned-append (left_by (handle c x)) xs ys (switched (handle c x).switch l)
-
-built-turned : (es : List Emitted) (p : Parser) → (built p es).parser.lexing ≡ turned_by handle p.control (tokens_of es) p.lexing
-built-turned [] p = refl
-built-turned (e ∷ es) p = built-turned es (told p (handle p.control e.token))
-
 module _ (names : List Reference) (s : ControlState) where
   no-move : (m o : Lexing) (zs : List Emitted) → move (table names) m ≡ makes o zs → m.unread ≡ [] → ⊥
   no-move m o zs e u = let no : needs_more ≡ makes o zs = sym (ap (move_on (table names) m) u) ∙ e in cc
-
-  loud-step : (l m : Lexing) (es : List Emitted) (c : ControlState) → move (table names) l ≡ makes m es
-      → step (table names) (at l c) ≡ goes (at (turned_by handle c (tokens_of es) m) (left_after handle c (tokens_of es))) (made_after handle c (tokens_of es))
-  loud-step l m es c is =
-      ap (step_by (at l c)) is
-      ∙ (ap (λ (k : Lexing). goes (at k (built (at m c) es).parser.control) (built (at m c) es).edits) (built-turned es (at m c))
-      ∙ (ap (λ (d : ControlState). goes (at (turned_by handle c (tokens_of es) m) d) (built (at m c) es).edits) (built-control es (at m c))
-      ∙ ap (λ (fs : List Edit). goes (at (turned_by handle c (tokens_of es) m) (left_after handle c (tokens_of es))) fs) (built-made es (at m c))))
 
   own-move : (l m : Lexing) (es : List Emitted) (c : ControlState) → move (table names) l ≡ makes m es → untouched s c (tokens_of es) ≡ true → is_untouched s c (move (table names) l) ≡ true
   own-move l m es c e u = ap (is_untouched s c) e ∙ u
@@ -124,7 +109,7 @@ module _ (names : List Reference) (s : ControlState) where
       last no_more x =
           let P : List Emitted → Type 0 = λ zs. GoesOwn (table names) s (at l c) (made_after handle c (tokens_of zs)) (at (turned_by handle c (tokens_of zs) m) (left_after handle c (tokens_of zs))) in
           let Q : List Edit → Type 0 = λ fs. GoesOwn (table names) s (at l c) fs (at (turned_by handle c (tokens_of xs) m) (left_after handle c (tokens_of xs))) in
-          subst P (sym (append-nil xs)) (subst Q (append-nil (made_after handle c (tokens_of xs))) (onward (loud-step l m xs c made) (own-move l m xs c made parts.0) here))
+          subst P (sym (append-nil xs)) (subst Q (append-nil (made_after handle c (tokens_of xs))) (onward (loud-step l m xs c (move (table names) l) made) (own-move l m xs c made parts.0) here))
       last (moves_on {m = o} {es = zs} more after) x = absurd (no-move m o zs more x)
 
       on : (EndsAtTag m.unread → untouched s (left_after handle c (tokens_of xs)) (tokens_of ys) ≡ true
@@ -143,6 +128,6 @@ module _ (names : List Reference) (s : ControlState) where
           let C : ControlState → Type 0 = λ x. GoesOwn (table names) s (at l c) (made_after handle c (tokens_of xs) ++ made_after handle d (tokens_of ys)) (at (turned_by handle d (tokens_of ys) k) x) in
           subst T (sym (tokens-append xs ys))
           (subst E (sym (made-append handle c (tokens_of xs) (tokens_of ys)))
-          (subst L (sym (turned-append c (tokens_of xs) (tokens_of ys) k ∙ ap (turned_by handle d (tokens_of ys)) (turned-quiet handle c (tokens_of xs) k q)))
+          (subst L (sym (turned-append handle c (tokens_of xs) (tokens_of ys) k ∙ ap (turned_by handle d (tokens_of ys)) (turned-quiet handle c (tokens_of xs) k q)))
           (subst C (sym (left-append handle c (tokens_of xs) (tokens_of ys))) way)))
       on more (inr x) = last rest x

@@ -6,7 +6,7 @@ use Rattle.memchr.specs.Find.{IsFirstByte, is_byte}
 use Rattle.std.proofs.lemmas.Bool.{eq-eqb, eqb-true}
 use Rattle.std.proofs.lemmas.List.{take-append-drop}
 use Rattle.std.proofs.lemmas.Str.{chars-append, encode_ascii, encodes-chars, length-le-encodes, IsCharBoundary-after_ascii, IsUtf8-take}
-use Rattle.hp_steps.specs.Closing.{EndsAtTag}
+use Rattle.hp_runs.specs.Closing.{EndsAtTag}
 use lib.Utf8.{encode, encodes}
 
 ends-suffix : (xs ys : List ℕ) → EndsAtTag (xs ++ ys) → EndsAtTag ys

@@ -23,8 +23,8 @@ use Rattle.hp_lexer.specs.Table.{table}
 use Rattle.hp_model.proofs.Running.{runs-valid}
 use Rattle.hp_model.specs.Handling.{handle}
 use Rattle.hp_model.specs.Runs.{Parser, RunsTo, Step, rests, goes, Goes, here, onward, at_lexing, built, followed_by, step, step_by, switched, told}
-use Rattle.hp_run.proofs.TableRows.{table_read}
-use Rattle.hp_run.specs.Pages.{Runs}
+use Rattle.hp_runs.proofs.TableRows.{table_read}
+use Rattle.hp_runs.specs.Pages.{Runs}
 use Rattle.hp_pieces.specs.Running.{parser_in, state_at}
 use Rattle.hp_pieces.proofs.FitRows.{Fits, entered}
 use Rattle.hp_pieces.proofs.FitTable.{MoveKeeps, move_keeps}

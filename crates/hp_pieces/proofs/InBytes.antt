@@ -23,7 +23,8 @@ use Rattle.hp_control.specs.States.{ControlState, IsValid}
 use Rattle.hp_model.specs.Handling.{handle}
 use Rattle.hp_model.specs.Runs.{Goes, here as stays, onward as steps_on, Parser, step}
 use Rattle.hp_model.specs.Turns.{left_by}
-use Rattle.hp_pieces.specs.Touching.{GoesOwn, here, onward, IsFirst, is_untouched, untouched}
+use Rattle.hp_runs.specs.Touching.{GoesOwn, here, onward, is_untouched, untouched}
+use Rattle.hp_pieces.specs.First.{IsFirst}
 use Rattle.hp_pieces.proofs.Inside.{first_parts}
 use Rattle.hp_pieces.proofs.Own.{first_before}
 

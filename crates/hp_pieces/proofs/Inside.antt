@@ -11,6 +11,7 @@ use Rattle.hp_tokens.specs.declared.state.State.{State}
 use Rattle.hp_tokens.specs.declared.state.State.TheVariants.{NamedCharacterReference, MarkupDeclarationOpen, AfterDoctypeName}
 use Rattle.hp_tokens.specs.States.{enter, is_resting, state_of_rest}
 use Rattle.hp_tokens.specs.Moves.{Lexing, Emitted, Move, needs_more, asks_cdata, asks_last_tag, makes, ends, move, move_on}
+use Rattle.hp_tokens.specs.Groups.{AllBegan}
 use Rattle.hp_control.specs.declared.edit.Edit.{Edit}
 use Rattle.hp_control.specs.Composed.{is_foreign_now}
 use Rattle.hp_control.specs.Outcome.{touches_any}
@@ -21,9 +22,10 @@ use Rattle.hp_model.proofs.Running.{goes-same}
 use Rattle.hp_model.specs.Handling.{handle}
 use Rattle.hp_model.specs.Runs.{Parser, at_lexing, built, followed_by, goes, step_by, switched, told}
 use Rattle.hp_model.specs.Turns.{left_by}
+use Rattle.hp_runs.specs.Touching.{GoesOwn, here, onward, RunsOwn, TouchesAt, TouchesFrom, touching_here}
 use Rattle.hp_pieces.specs.FirstLaws.{IsInside}
 use Rattle.hp_pieces.specs.Running.{parser_in}
-use Rattle.hp_pieces.specs.Touching.{AllBegan, GoesOwn, here, onward, IsFirst, restless, touched, whole, RunsOwn, TouchesAt, TouchesFrom, touching_here}
+use Rattle.hp_pieces.specs.First.{IsFirst, restless, touched, whole}
 use Rattle.hp_pieces.specs.Waiting.{Waits}
 use Rattle.hp_pieces.proofs.Placed.{HasRead, ReadsOn, move-reads, stood}
 

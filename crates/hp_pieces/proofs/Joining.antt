@@ -13,9 +13,9 @@ use Rattle.hp_model.proofs.HandlingApart.{goes-leave}
 use Rattle.hp_model.proofs.Running.{one_run, runs-join}
 use Rattle.hp_model.specs.AtOnce.{MakeSame}
 use Rattle.hp_model.specs.Runs.{Parser, followed_by}
-use Rattle.hp_run.proofs.Existing.{run_exists}
-use Rattle.hp_run.specs.Pages.{IsTreeOf}
-use Rattle.hp_steps.proofs.Together.{applied-append}
+use Rattle.hp_runs.proofs.Existing.{run_exists}
+use Rattle.hp_runs.specs.Pages.{IsTreeOf}
+use Rattle.hp_runs.proofs.Together.{applied-append}
 use Rattle.hp_pieces.specs.Running.{Ends, Leads, parser_in, state_at}
 use Rattle.hp_pieces.proofs.FitRuns.{exit_valid}
 use Rattle.hp_pieces.proofs.SameRuns.{AlikeParsers, end-same, run-same}

@@ -23,17 +23,17 @@ use Rattle.hp_lex_markup.specs.Words.{count, word}
 use Rattle.hp_lex_markup.specs.declared.words.Word.{Word}
 use Rattle.hp_lexer.specs.Table.{table}
 use Rattle.hp_model.specs.Runs.{AreRead}
-use Rattle.hp_run.proofs.ReadRows.{IsHtml, flushed-read}
-use Rattle.hp_run.proofs.TagRows as tag_read
-use Rattle.hp_run.proofs.RawRows as raw_read
-use Rattle.hp_run.proofs.MarkupRows as markup_read
-use Rattle.hp_run.proofs.TableRows.{began_read}
-use Rattle.hp_steps.specs.Closing.{AreCharacters}
-use Rattle.hp_steps.proofs.ClosingRows.{Closes, flushed-alone}
-use Rattle.hp_steps.proofs.ClosingTable.{began_alone, is_greater}
-use Rattle.hp_steps.proofs.ClosingTags as tag_closes
-use Rattle.hp_steps.proofs.ClosingRaw as raw_closes
-use Rattle.hp_steps.proofs.ClosingMarkup as markup_closes
+use Rattle.hp_runs.proofs.ReadRows.{IsHtml, flushed-read}
+use Rattle.hp_runs.proofs.TagRows as tag_read
+use Rattle.hp_runs.proofs.RawRows as raw_read
+use Rattle.hp_runs.proofs.MarkupRows as markup_read
+use Rattle.hp_runs.proofs.TableRows.{began_read}
+use Rattle.hp_runs.specs.Closing.{AreCharacters}
+use Rattle.hp_runs.proofs.ClosingRows.{Closes, flushed-alone}
+use Rattle.hp_runs.proofs.ClosingTable.{began_alone, is_greater}
+use Rattle.hp_runs.proofs.ClosingTags as tag_closes
+use Rattle.hp_runs.proofs.ClosingRaw as raw_closes
+use Rattle.hp_runs.proofs.ClosingMarkup as markup_closes
 use Rattle.hp_pieces.proofs.Ahead.{has_none}
 use Rattle.hp_pieces.proofs.LastRows.{Lasts, markup_last, raw_last, tags_last}
 

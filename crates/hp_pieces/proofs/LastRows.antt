@@ -12,8 +12,8 @@ use Rattle.hp_lex_tags.specs.Rows as tag_rows
 use Rattle.hp_lex_raw.specs.Letters.{solidus, less_than}
 use Rattle.hp_lex_raw.specs.Rows as raw_rows
 use Rattle.hp_lex_markup.specs.Rows as markup_rows
-use Rattle.hp_steps.specs.Closing.{AreCharacters}
-use Rattle.hp_steps.proofs.ClosingRows.{Closes, again-closes, back-closes, buffer-closes, flushing-closes, plus-closes}
+use Rattle.hp_runs.specs.Closing.{AreCharacters}
+use Rattle.hp_runs.proofs.ClosingRows.{Closes, again-closes, back-closes, buffer-closes, flushing-closes, plus-closes}
 
 pub record Lasts (r : Row) : Type 0 where
   pub how : AreCharacters r.emits ⊎ (r.reads ≡ End)

@@ -12,13 +12,13 @@ use Rattle.hp_control.specs.States.{ControlState, may_be_ahead}
 use Rattle.hp_lexer.specs.Table.{table}
 use Rattle.hp_model.specs.Handling.{handle}
 use Rattle.hp_model.specs.Runs.{AreRead, EndsWith, last, before_it}
-use Rattle.hp_steps.specs.Closing.{EndsAtTag}
-use Rattle.hp_run.specs.Tokens.{AllRead}
-use Rattle.hp_steps.specs.Handling.{AreQuiet, left_after, made_after}
-use Rattle.hp_steps.proofs.Batches.{at, built-made, made-append, quiet-step}
-use Rattle.hp_steps.proofs.Began.{tokens-append}
-use Rattle.hp_steps.proofs.Quiet.{characters-quiet}
-use Rattle.hp_steps.proofs.Together.{runs-read, read-join}
+use Rattle.hp_runs.specs.Closing.{EndsAtTag}
+use Rattle.hp_runs.specs.Tokens.{AllRead}
+use Rattle.hp_runs.specs.Handling.{AreQuiet, left_after, made_after}
+use Rattle.hp_runs.proofs.Batches.{at, built-made, made-append, quiet-step}
+use Rattle.hp_runs.proofs.Began.{tokens-append}
+use Rattle.hp_runs.proofs.Quiet.{characters-quiet}
+use Rattle.hp_runs.proofs.Together.{runs-read, read-join}
 use Rattle.hp_pieces.proofs.Ahead.{ahead-ends, has_none}
 use Rattle.hp_pieces.proofs.LastMoves.{Last, end_move-last}
 

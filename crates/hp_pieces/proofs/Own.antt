@@ -1,5 +1,5 @@
 -- How far nothing older is touched: there is one such place, and it is the same where less text follows.
-use Rattle.std.proofs.Common.{◌≡◌, ℕ, List, [], ◌∷◌, ◌++◌, Bool, true, false, cond, not, ◌⊎◌, inl, inr, refl, ap, ◌∙◌, sym, subst, append_assoc, Option, None, Some}
+use Rattle.std.proofs.Common.{◌≡◌, ℕ, List, [], ◌∷◌, ◌++◌, Bool, true, false, not, ◌⊎◌, inl, inr, refl, ap, ◌∙◌, sym, subst, append_assoc, Option, None, Some}
 use Rattle.std.specs.Prelude.{◌&&◌, sum_by}
 use Rattle.std.specs.Option.{is_some}
 use Rattle.std.specs.Char.{len_utf8}
@@ -10,19 +10,19 @@ use Rattle.hp_tokens.specs.Moves.{Emitted, Lexing, Move, Rules, asks_cdata, asks
 use Rattle.hp_tokens.specs.Runs.{followed_by as more_unread, IsSteady, Stays}
 use Rattle.hp_tokens.proofs.Pieces.{move-stays}
 use Rattle.hp_control.specs.declared.edit.Edit.{Edit}
-use Rattle.hp_control.specs.Composed.{is_foreign_now}
 use Rattle.hp_control.specs.Outcome.{touches_any}
 use Rattle.hp_control.specs.States.{ControlState}
 use Rattle.hp_control.specs.Truth.{rest_of}
 use Rattle.hp_lexer.proofs.Steady.{table_steady}
 use Rattle.hp_lexer.specs.Table.{table}
-use Rattle.hp_model.proofs.Running.{goes-same}
+use Rattle.hp_model.proofs.Running.{followed-again, goes-followed, goes-same}
 use Rattle.hp_model.specs.Handling.{handle}
-use Rattle.hp_model.specs.Runs.{Built, Goes, here as stays, onward as steps_on, Parser, Rests, Step, at_lexing, built, followed_by, goes, going, rests, step, step_by, switched, told}
-use Rattle.hp_model.specs.Turns.{Handled, left_by}
-use Rattle.hp_run.proofs.Existing.{run_exists}
+use Rattle.hp_model.specs.Runs.{Goes, here as stays, onward as steps_on, Parser, Rests, at_lexing, built, followed_by, goes, rests, step, step_by}
+use Rattle.hp_model.specs.Turns.{left_by}
+use Rattle.hp_runs.proofs.Existing.{run_exists}
+use Rattle.hp_runs.specs.Touching.{GoesOwn, here, onward, RunsOwn, TouchesAt, TouchesFrom, is_untouched, touching_here, untouched}
 use Rattle.hp_pieces.specs.Running.{Leads, parser_in, state_at}
-use Rattle.hp_pieces.specs.Touching.{GoesOwn, here, onward, IsFirst, restless, touched, whole, RunsOwn, TouchesAt, TouchesFrom, is_untouched, touching_here, untouched}
+use Rattle.hp_pieces.specs.First.{IsFirst, restless, touched, whole}
 
 -- what touches isn't untouched
 touch_cases : (b u : Bool) (place began : ℕ) (Y : Type 0) → (Y → u ≡ true → ⊥) → touching_here b (place ≡ began) Y → (not b && u) ≡ true → ⊥
@@ -163,59 +163,22 @@ first_exists names s text = by (rest_of s.lex.machine.state) refl
         let run = run_exists names (parser_in s) text in
         from (ap is_some e) (first_along (table names) s run.2.goes run.2.rests)
 
--- with more text behind it
-switched-followed : (to : Option Rest) (l : Lexing) (text : List ℕ) → switched to (more_unread l text) ≡ more_unread (switched to l) text
-switched-followed None l text = refl
-switched-followed (Some rest) l text = refl
-
-abbrev followed_built : List ℕ → Built → Built
-followed_built text b = record { parser = followed_by b.parser text; edits = b.edits }
-
-told-followed : (p : Parser) (h : Handled) (text : List ℕ) → told (followed_by p text) h ≡ followed_by (told p h) text
-told-followed p h text = ap (λ (l : Lexing). record { lexing = l; control = left_by h }) (switched-followed h.switch p.lexing text)
-
-built-followed : (es : List Emitted) (p : Parser) (text : List ℕ) → built (followed_by p text) es ≡ followed_built text (built p es)
-built-followed [] p text = refl
-built-followed (e ∷ es) p text =
-    let h : Handled = handle p.control e.token in
-    ap (λ (b : Built). record { parser = b.parser; edits = h.outcome.edits ++ b.edits }) (ap (λ (q : Parser). built q es) (told-followed p h text) ∙ built-followed es (told p h) text)
-
-abbrev followed_step : List ℕ → Step → Step
-followed_step text rests = rests
-followed_step text (goes q es) = goes (followed_by q text) es
-
-either-followed : (b : Bool) (x y : Lexing) (text : List ℕ) → cond b (more_unread x text) (more_unread y text) ≡ more_unread (cond b x y) text
-either-followed true x y text = refl
-either-followed false x y text = refl
-
--- a step that is made stays made, and what is untouched stays so
-record StaysOwn (s : ControlState) (p : Parser) (later : Move) (text : List ℕ) (q : Parser) (es : List Edit) : Type 0 where
-  pub made : step_by (followed_by p text) later ≡ goes (followed_by q text) es
-  pub own : is_untouched s p.control later ≡ true
-
+-- what is untouched stays so with more text behind it
 stays-own : (s : ControlState) (p : Parser) (now later : Move) (text : List ℕ) (q : Parser) (es : List Edit) → Stays now later text → step_by p now ≡ goes q es → is_untouched s p.control now ≡ true
-    → StaysOwn s p later text q es
+    → is_untouched s p.control later ≡ true
 stays-own s p needs_more later text q es t e u = absurd (cc)
-stays-own s p (asks_cdata foreign html) later text q es t e u = record {
-  made =
-      ap (step_by (followed_by p text)) t
-      ∙ (ap (λ (l : Lexing). goes (at_lexing p l) []) (either-followed (is_foreign_now p.control) foreign html text) ∙ ap (followed_step text) e);
-  own = ap (is_untouched s p.control) t;
-}
+stays-own s p (asks_cdata foreign html) later text q es t e u = ap (is_untouched s p.control) t
 stays-own s p asks_last_tag later text q es t e u = absurd (cc)
-stays-own s p (makes l ts) later text q es t e u = record {
-  made = ap (step_by (followed_by p text)) t ∙ (ap going (built-followed ts (at_lexing p l) text) ∙ ap (followed_step text) e);
-  own = ap (is_untouched s p.control) t ∙ u;
-}
+stays-own s p (makes l ts) later text q es t e u = ap (is_untouched s p.control) t ∙ u
 stays-own s p (ends ts) later text q es t e u = absurd (cc)
 
 module _ (rules : Rules) (steady : IsSteady rules) (s : ControlState) where
   pub own-followed : {p q : Parser} {es : List Edit} (text : List ℕ) → GoesOwn rules s p es q → GoesOwn rules s (followed_by p text) es (followed_by q text)
   own-followed text here = here
   own-followed {p} text (onward {q = q} {es = es} e u g) =
-      let t : StaysOwn s p (move rules (more_unread p.lexing text)) text q es =
-      stays-own s p (move rules p.lexing) (move rules (more_unread p.lexing text)) text q es (move-stays rules steady p.lexing text) e u in
-      onward t.made t.own (own-followed text g)
+      let later : Move = move rules (more_unread p.lexing text) in
+      let stays_made : Stays (move rules p.lexing) later text = move-stays rules steady p.lexing text in
+      onward (goes-followed p (move rules p.lexing) later text q es stays_made e) (stays-own s p (move rules p.lexing) later text q es stays_made e u) (own-followed text g)
 
   pub touching-followed : {p : Parser} {place : ℕ} (text : List ℕ) → Touching rules s p place → Touching rules s (followed_by p text) place
   touching-followed {p} text t = record {
@@ -224,9 +187,6 @@ module _ (rules : Rules) (steady : IsSteady rules) (s : ControlState) where
     makes_them = subst (λ (m : Move). Stays m (move rules (more_unread p.lexing text)) text) t.makes_them (move-stays rules steady p.lexing text);
     touches = t.touches;
   }
-
-followed-again : (p : Parser) (a b : List ℕ) → followed_by (followed_by p a) b ≡ followed_by p (a ++ b)
-followed-again p a b = ap (λ (u : List ℕ). at_lexing p (record p.lexing { unread = u })) (append_assoc p.lexing.unread a b)
 
 first-later : (names : List Reference) (s : ControlState) (a b : List ℕ) (m : ℕ) → IsFirst names s a m → IsFirst names s (a ++ b) m ⊎ (m ≡ sum_by len_utf8 a)
 first-later names s a b m (restless e) = inl (restless e)

@@ -18,6 +18,7 @@ use Rattle.hp_tokens.specs.declared.rows.Reads.TheVariants.{Consume, Again, End}
 use Rattle.hp_tokens.specs.Rows.{Row, flushed_tokens}
 use Rattle.hp_tokens.specs.States.{is_resting}
 use Rattle.hp_tokens.specs.Moves.{Lexing, Move, needs_more, asks_cdata, asks_last_tag, makes, ends, standing, all_began, after_row, row_move, read_as, taking, after_pair, move_on, move}
+use Rattle.hp_tokens.specs.Groups.{AllBegan}
 use Rattle.hp_lex_tags.specs.Tags as tags
 use Rattle.hp_lex_tags.specs.Rows as tag_rows
 use Rattle.hp_lex_tags.specs.Named.{reference_move, with_found, gone_back, unfound}
@@ -28,7 +29,6 @@ use Rattle.hp_lex_markup.specs.Rows as markup_rows
 use Rattle.hp_lex_markup.specs.Words.{is_open, word, asks, count}
 use Rattle.hp_lex_markup.specs.declared.words.Word.{Word}
 use Rattle.hp_lexer.specs.Table.{table}
-use Rattle.hp_pieces.specs.Touching.{AllBegan}
 
 -- what was read of a text, from one place to another
 pub record HasRead (l k : Lexing) : Type 0 where

@@ -9,9 +9,9 @@ use Rattle.hp_control.proofs.StartLemmas.{start_valid}
 use Rattle.hp_control.specs.declared.edit.Edit.{Edit}
 use Rattle.hp_control.specs.States.{ControlState, Fits, IsValid, start}
 use Rattle.hp_control.specs.Tree.{Tree, applied_all, document}
-use Rattle.hp_run.proofs.Bounded.{pages_fit}
-use Rattle.hp_run.specs.Pages.{IsTreeOf}
-use Rattle.hp_steps.proofs.Together.{applied-append}
+use Rattle.hp_runs.proofs.Bounded.{pages_fit}
+use Rattle.hp_runs.specs.Pages.{IsTreeOf}
+use Rattle.hp_runs.proofs.Together.{applied-append}
 use Rattle.hp_pieces.specs.At.{IsAt}
 use Rattle.hp_pieces.specs.Running.{Ends, Leads}
 use Rattle.hp_pieces.proofs.Joining.{leads_join, leads_once, leads_valid, page_built}

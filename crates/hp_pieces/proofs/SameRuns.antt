@@ -14,8 +14,8 @@ use Rattle.hp_lexer.specs.Table.{table}
 use Rattle.hp_model.specs.Handling.{handle}
 use Rattle.hp_model.specs.Runs.{EndsWith, last, before_it, Goes, here, onward, Parser, Rests, RunsTo, Step, rests, goes, at_lexing, built, step, step_by, switched, told}
 use Rattle.hp_model.specs.Turns.{Handled}
-use Rattle.hp_steps.specs.Alike.{Alike, SameMove}
-use Rattle.hp_steps.proofs.Shifting.{end_move-same, move-same}
+use Rattle.hp_runs.specs.Alike.{Alike, SameMove}
+use Rattle.hp_runs.proofs.Shifting.{end_move-same, move-same}
 
 pub record AlikeParsers (p q : Parser) : Type 0 where
   pub lexing : Alike p.lexing q.lexing

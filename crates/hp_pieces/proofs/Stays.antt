@@ -13,8 +13,8 @@ use Rattle.hp_control.specs.Holds.{Holds}
 use Rattle.hp_control.specs.States.{ControlState, IsValid}
 use Rattle.hp_lexer.specs.Table.{table}
 use Rattle.hp_model.specs.Runs.{Goes, Parser, Rests, at_lexing, followed_by, goes, here, rests, step, step_by}
-use Rattle.hp_steps.specs.Alike.{SameMove}
-use Rattle.hp_steps.proofs.Shifting.{move-same}
+use Rattle.hp_runs.specs.Alike.{SameMove}
+use Rattle.hp_runs.proofs.Shifting.{move-same}
 use Rattle.hp_pieces.specs.Guesses.{Guessed, IsSound, covered_text, edits_over, state_behind}
 use Rattle.hp_pieces.specs.Running.{Leads, parser_in}
 use Rattle.hp_pieces.specs.Waiting.{MayStand, Waits}

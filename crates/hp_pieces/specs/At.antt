@@ -5,7 +5,7 @@ use Rattle.hp_names.specs.BuiltIn.{built_in}
 use Rattle.hp_control.specs.declared.edit.Edit.{Edit}
 use Rattle.hp_control.specs.States.{ControlState, Fits, IsValid, start}
 use Rattle.hp_control.specs.Tree.{Tree, applied_all, document}
-use Rattle.hp_run.specs.Pages.{IsTreeOf}
+use Rattle.hp_runs.specs.Pages.{IsTreeOf}
 use Rattle.hp_pieces.specs.Running.{Ends, Leads}
 
 pub record IsAt (text : List ℕ) (place : ℕ) (control : ControlState) (tree : Tree) : Type 0 where

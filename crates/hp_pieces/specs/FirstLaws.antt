@@ -7,6 +7,7 @@ use Rattle.hp_names.specs.References.{Reference}
 use Rattle.hp_tokens.specs.Advancing.{tokens_of}
 use Rattle.hp_tokens.specs.Moves.{Emitted, Lexing, Rules, move}
 use Rattle.hp_tokens.specs.Runs.{Leads as Moves}
+use Rattle.hp_tokens.specs.Groups.{AllBegan}
 use Rattle.hp_control.specs.declared.edit.Edit.{Edit}
 use Rattle.hp_control.specs.Nothing.{nothing}
 use Rattle.hp_control.specs.States.{ControlState, IsValid}
@@ -14,10 +15,11 @@ use Rattle.hp_control.specs.Truth.{rest_of}
 use Rattle.hp_lexer.specs.Table.{table}
 use Rattle.hp_model.specs.Handling.{handle}
 use Rattle.hp_model.specs.Runs.{Goes, Parser, followed_by, step}
-use Rattle.hp_steps.specs.Closing.{EndsAtTag}
-use Rattle.hp_steps.specs.Handling.{left_after, made_after, turned_by}
+use Rattle.hp_runs.specs.Closing.{EndsAtTag}
+use Rattle.hp_runs.specs.Handling.{left_after, made_after, turned_by}
+use Rattle.hp_runs.specs.Touching.{GoesOwn, RunsOwn, TouchesFrom, untouched}
 use Rattle.hp_pieces.specs.Running.{Leads, parser_in, state_at}
-use Rattle.hp_pieces.specs.Touching.{AllBegan, GoesOwn, IsFirst, RunsOwn, TouchesFrom, untouched}
+use Rattle.hp_pieces.specs.First.{IsFirst}
 
 -- there is one such place
 abbrev pub FirstOnce : Type 0

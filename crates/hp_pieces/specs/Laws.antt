@@ -14,9 +14,9 @@ use Rattle.hp_lexer.specs.Table.{table}
 use Rattle.hp_model.specs.AtOnce.{MakeSame}
 use Rattle.hp_model.specs.Handling.{handle}
 use Rattle.hp_model.specs.Runs.{EndsWith, Goes, Parser, followed_by, step}
-use Rattle.hp_run.specs.Pages.{IsTreeOf, Runs}
-use Rattle.hp_run.specs.Tokens.{AllRead}
-use Rattle.hp_steps.specs.Handling.{made_after}
+use Rattle.hp_runs.specs.Pages.{IsTreeOf, Runs}
+use Rattle.hp_runs.specs.Tokens.{AllRead}
+use Rattle.hp_runs.specs.Handling.{made_after}
 use Rattle.hp_control.specs.Holds.{Holds}
 use Rattle.hp_pieces.specs.Guesses.{Guessed, IsSound, covered_text, edits_over, state_behind}
 use Rattle.hp_pieces.specs.Running.{Ends, Leads, parser_in}

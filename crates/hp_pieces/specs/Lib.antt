@@ -3,7 +3,7 @@ pub mod Waiting
 pub mod Fragments
 pub mod Guesses
 pub mod Texts
-pub mod Touching
+pub mod First
 pub mod Laws
 pub mod FirstLaws
 pub mod At

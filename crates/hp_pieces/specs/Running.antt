@@ -7,7 +7,7 @@ use Rattle.hp_control.specs.States.{ControlState, lex_start}
 use Rattle.hp_lexer.specs.Table.{table}
 use Rattle.hp_model.specs.AtOnce.{MakeSame}
 use Rattle.hp_model.specs.Runs.{EndsWith, Parser}
-use Rattle.hp_run.specs.Pages.{Runs}
+use Rattle.hp_runs.specs.Pages.{Runs}
 
 -- The parser in this state, before a text: what was read ahead is unread. Where the lexer stands is told once, so it is not
 -- told in the control state too.

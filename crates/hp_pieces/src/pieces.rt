@@ -1,7 +1,7 @@
 //! The pieces in which a text is read.
 ghost use Rattle.std.specs.Prelude.{◌≡◌, ◌≢◌, ◌<◌, ◌++◌, [], length};
 ghost use Rattle.std.specs.Str.{chars};
-ghost use Rattle.hp_steps.specs.Closing.{EndsAtTag};
+ghost use Rattle.hp_runs.specs.Closing.{EndsAtTag};
 
 use memchr::memchr;
 

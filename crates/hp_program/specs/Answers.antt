@@ -6,7 +6,7 @@ use Rattle.hp_control.specs.Tree.{Tree}
 use Rattle.hp_print.specs.Out.{TakesPart}
 use Rattle.hp_print.specs.Print.{print}
 use Rattle.hp_names.specs.BuiltIn.{built_in}
-use Rattle.hp_run.specs.Pages.{IsTreeOf}
+use Rattle.hp_runs.specs.Pages.{IsTreeOf}
 use Rattle.hp_program.specs.Page.{page_text}
 use Rattle.hp_program.specs.declared.status.Status.{Status}
 use Rattle.hp_program.specs.declared.status.Status.TheVariants.{ReadFault, NoMemory}

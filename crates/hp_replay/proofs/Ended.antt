@@ -22,9 +22,9 @@ use Rattle.hp_control.specs.declared.edit.Ref.TheVariants.{Fixed, Older, Own}
 use Rattle.hp_lexer.specs.Table.{table}
 use Rattle.hp_model.specs.AtOnce.{RunsAtOnce, handle_at_once}
 use Rattle.hp_model.specs.Handling.{handle}
-use Rattle.hp_steps.proofs.Turning.{Does, all-together}
-use Rattle.hp_run.specs.Tokens.{AllRead}
-use Rattle.hp_steps.specs.Handling.{made_after}
+use Rattle.hp_runs.proofs.Turning.{Does, all-together}
+use Rattle.hp_runs.specs.Tokens.{AllRead}
+use Rattle.hp_runs.specs.Handling.{made_after}
 use Rattle.hp_pieces.proofs.SameRuns.{end-same}
 use Rattle.hp_pieces.specs.Fragments.{IsEnd}
 use Rattle.hp_pieces.specs.Laws.{EndsHandled}

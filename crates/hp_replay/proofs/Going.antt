@@ -7,7 +7,7 @@ use Rattle.hp_lexer.specs.declared.lexer.Lexer.{Lexer}
 use Rattle.hp_lexer.specs.declared.lexer.Step.TheVariants as steps
 use Rattle.hp_lexer.specs.Standing.{StepsFall, Stepped, SwitchesFall, is_answered, load}
 use Rattle.hp_model.specs.AtOnce.{handle_at_once}
-use Rattle.hp_steps.proofs.Lexers.{asked-after, held-after, load-after, names-after, fits-on}
+use Rattle.hp_runs.proofs.Lexers.{asked-after, held-after, load-after, names-after, fits-on}
 use Rattle.hp_replay.specs.Reading.{IsReady, StepsOn, Took, control_in}
 use Rattle.hp_replay.specs.declared.running.Running.{Running}
 

@@ -22,12 +22,12 @@ use Rattle.hp_lexer.specs.Standing.{is_answered, opened, stands}
 use Rattle.hp_lexer.specs.Table.{table}
 use Rattle.hp_model.proofs.HandlingApart.{goes-leave}
 use Rattle.hp_model.specs.Runs.{Goes, here, Parser, rests, goes, followed_by, step, step_by}
-use Rattle.hp_steps.specs.Alike.{SameMove}
-use Rattle.hp_steps.specs.Closing.{EndsAtTag}
-use Rattle.hp_steps.specs.Standing.{HasGone}
-use Rattle.hp_steps.proofs.Batches.{at}
-use Rattle.hp_steps.proofs.Shifting.{move-same}
-use Rattle.hp_steps.proofs.Together.{applied-append}
+use Rattle.hp_runs.specs.Alike.{SameMove}
+use Rattle.hp_runs.specs.Closing.{EndsAtTag}
+use Rattle.hp_runs.specs.Standing.{HasGone}
+use Rattle.hp_runs.proofs.Batches.{at}
+use Rattle.hp_runs.proofs.Shifting.{move-same}
+use Rattle.hp_runs.proofs.Together.{applied-append}
 use Rattle.hp_pieces.specs.Fragments.{IsRun}
 use Rattle.hp_pieces.specs.Laws.{LeadsJoin, LeadsValid}
 use Rattle.hp_pieces.specs.Running.{Leads, parser_in}

@@ -18,18 +18,18 @@ use Rattle.hp_lexer.specs.Standing.{stands, stands_answered, ReachesCdata, Reach
 use Rattle.hp_lexer.specs.Table.{table}
 use Rattle.hp_model.specs.AtOnce.{MakeSame, RunsAtOnce, handle_at_once}
 use Rattle.hp_model.specs.Runs.{Parser, followed_by}
-use Rattle.hp_steps.specs.Alike.{Alike, SameMove}
-use Rattle.hp_steps.specs.Closing.{EndsAtTag}
-use Rattle.hp_run.specs.Tokens.{AllRead}
-use Rattle.hp_steps.specs.Handling.{left_after, lexer_after, made_after, turned_by}
-use Rattle.hp_steps.specs.Standing.{HasGone}
-use Rattle.hp_steps.proofs.Batches.{at}
-use Rattle.hp_steps.proofs.ClosingTable.{Leads-close, MoveCloses, move-closes}
-use Rattle.hp_steps.proofs.Shifting.{move-same}
-use Rattle.hp_steps.proofs.Standing.{AnsweredFrom, asks-from, like-from, silent-from}
-use Rattle.hp_steps.proofs.Lexers.{alike-after, unread-after, same-alike}
-use Rattle.hp_steps.proofs.Stepping.{Further, Moved, batch-further, moved-so, silent-moves, stepped-read}
-use Rattle.hp_steps.proofs.Together.{applied-append}
+use Rattle.hp_runs.specs.Alike.{Alike, SameMove}
+use Rattle.hp_runs.specs.Closing.{EndsAtTag}
+use Rattle.hp_runs.specs.Tokens.{AllRead}
+use Rattle.hp_runs.specs.Handling.{left_after, lexer_after, made_after, turned_by}
+use Rattle.hp_runs.specs.Standing.{HasGone}
+use Rattle.hp_runs.proofs.Batches.{at}
+use Rattle.hp_runs.proofs.ClosingTable.{Leads-close, MoveCloses, move-closes}
+use Rattle.hp_runs.proofs.Shifting.{move-same}
+use Rattle.hp_runs.proofs.Standing.{AnsweredFrom, asks-from, like-from, silent-from}
+use Rattle.hp_runs.proofs.Lexers.{alike-after, unread-after, same-alike}
+use Rattle.hp_runs.proofs.Stepping.{Further, Moved, batch-further, moved-so, silent-moves, stepped-read}
+use Rattle.hp_runs.proofs.Together.{applied-append}
 use Rattle.hp_pieces.specs.Laws.{NeverAsked}
 use Rattle.hp_pieces.specs.Running.{parser_in}
 use Rattle.hp_replay.specs.Collecting.{control_of, edits_of}

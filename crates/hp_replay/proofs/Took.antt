@@ -9,9 +9,9 @@ use Rattle.hp_control.specs.declared.edit.Edit.{Edit}
 use Rattle.hp_views.specs.View.{split_of}
 use Rattle.hp_model.specs.AtOnce.{MakeSame, RunsAtOnce, handle_at_once}
 use Rattle.hp_model.specs.Turns.{left_by}
-use Rattle.hp_run.specs.Tokens.{AllRead}
-use Rattle.hp_steps.specs.Handling.{left_after, lexer_after, made_after, turned}
-use Rattle.hp_steps.proofs.Together.{at_once-valid}
+use Rattle.hp_runs.specs.Tokens.{AllRead}
+use Rattle.hp_runs.specs.Handling.{left_after, lexer_after, made_after, turned}
+use Rattle.hp_runs.proofs.Together.{at_once-valid}
 use Rattle.hp_replay.specs.Collecting.{Collects, IsKnown}
 use Rattle.hp_replay.specs.Reading.{Took, TookOne, control_in, edits_in}
 use Rattle.hp_replay.specs.declared.running.Running.{Running}

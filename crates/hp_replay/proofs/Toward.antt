@@ -9,9 +9,9 @@ use Rattle.hp_control.specs.Tree.{Tree, applied_all}
 use Rattle.hp_control.specs.declared.edit.Edit.{Edit}
 use Rattle.hp_model.specs.AtOnce.{MakeSame, RunsAtOnce, handle_at_once}
 use Rattle.hp_model.specs.Turns.{left_by}
-use Rattle.hp_run.specs.Tokens.{AllRead}
-use Rattle.hp_steps.specs.Handling.{left_after, made_after}
-use Rattle.hp_steps.proofs.Together.{applied-append, at_once-valid}
+use Rattle.hp_runs.specs.Tokens.{AllRead}
+use Rattle.hp_runs.specs.Handling.{left_after, made_after}
+use Rattle.hp_runs.proofs.Together.{applied-append, at_once-valid}
 use Rattle.hp_replay.specs.Collecting.{Collects, CollectsAll, IsKnown, control_of, edits_of}
 
 -- what is left to do leads to what all tokens do

@@ -9,7 +9,7 @@ use Rattle.hp_control.specs.States.{ControlState, IsValid}
 use Rattle.hp_control.specs.declared.edit.Edit.{Edit}
 use Rattle.hp_model.specs.AtOnce.{MakeSame, handle_at_once}
 use Rattle.hp_model.specs.Turns.{left_by}
-use Rattle.hp_steps.specs.Handling.{left_after, made_after}
+use Rattle.hp_runs.specs.Handling.{left_after, made_after}
 
 -- the control state that a view is, and its edits with each element told by its id
 abbrev pub control_of : Split → ControlState

@@ -15,9 +15,9 @@ use Rattle.hp_lexer.specs.Table.{table}
 use Rattle.hp_model.specs.AtOnce.{MakeSame, handle_at_once}
 use Rattle.hp_model.specs.Runs.{followed_by}
 use Rattle.hp_model.specs.Turns.{left_by}
-use Rattle.hp_steps.specs.Closing.{EndsAtTag}
-use Rattle.hp_steps.specs.Handling.{left_after, lexer_after, made_after, turned}
-use Rattle.hp_steps.specs.Standing.{HasGone}
+use Rattle.hp_runs.specs.Closing.{EndsAtTag}
+use Rattle.hp_runs.specs.Handling.{left_after, lexer_after, made_after, turned}
+use Rattle.hp_runs.specs.Standing.{HasGone}
 use Rattle.hp_pieces.specs.Running.{Leads, parser_in}
 use Rattle.hp_replay.specs.Collecting.{IsKnown, control_of, edits_of}
 use Rattle.hp_replay.specs.declared.running.Running.{Running}

@@ -5,7 +5,7 @@ ghost use Rattle.hp_control.specs.Composed.{is_foreign_now};
 ghost use Rattle.hp_control.specs.States.{lex_start};
 ghost use Rattle.hp_model.specs.Whole.{IsRead};
 ghost use Rattle.hp_views.specs.View.{split_of};
-ghost use Rattle.hp_run.specs.Tokens.{AllRead};
+ghost use Rattle.hp_runs.specs.Tokens.{AllRead};
 ghost use Rattle.hp_replay.specs.Collecting.{control_of, Collects, CollectsAll, IsKnown};
 
 use crate::NoMemory;

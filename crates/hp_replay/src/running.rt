@@ -8,8 +8,8 @@ ghost use Rattle.hp_views.specs.Begins.{with_lexer};
 ghost use Rattle.hp_views.specs.View.{split_of};
 ghost use Rattle.hp_lexer.specs.declared.lexer.Asked.TheVariants as asked;
 ghost use Rattle.hp_model.specs.Whole.{IsRead};
-ghost use Rattle.hp_steps.specs.Closing.{EndsAtTag};
-ghost use Rattle.hp_run.specs.Tokens.{AllRead};
+ghost use Rattle.hp_runs.specs.Closing.{EndsAtTag};
+ghost use Rattle.hp_runs.specs.Tokens.{AllRead};
 ghost use Rattle.hp_replay.specs.Collecting.{control_of, edits_of, IsKnown};
 ghost use Rattle.hp_replay.specs.Reading.{edits_in, state_of, HasEnded, IsAtEnd, IsBetween, IsReady, IsWithin, RanOver, Reads, ReadsOn, StepsOn, Took, TookOne};
 

@@ -10,10 +10,10 @@ use Rattle.hp_lexer.specs.declared.lexer.Step.TheVariants as steps
 use Rattle.hp_lexer.specs.Standing.{stands, Stepped}
 use Rattle.hp_model.specs.AtOnce.{handle_at_once}
 use Rattle.hp_model.specs.Turns.{left_by}
-use Rattle.hp_steps.specs.Closing.{EndsAtTag}
-use Rattle.hp_steps.specs.Handling.{Handler, lexer_after, turned}
-use Rattle.hp_steps.proofs.ClosingTable.{Leads-close}
-use Rattle.hp_steps.proofs.Stepping.{moved-so}
+use Rattle.hp_runs.specs.Closing.{EndsAtTag}
+use Rattle.hp_runs.specs.Handling.{Handler, lexer_after, turned}
+use Rattle.hp_runs.proofs.ClosingTable.{Leads-close}
+use Rattle.hp_runs.proofs.Stepping.{moved-so}
 use Rattle.hp_sequential.specs.Building.{control_of}
 use Rattle.hp_sequential.specs.Reading.{IsInPiece, Took}
 use Rattle.hp_sequential.specs.declared.parsing.Parsing.{Parsing}

@@ -18,13 +18,13 @@ use Rattle.hp_lexer.specs.Table.{table}
 use Rattle.hp_model.specs.AtOnce.{RunsAtOnce, handle_at_once}
 use Rattle.hp_model.specs.Handling.{handle}
 use Rattle.hp_model.specs.Runs.{Parser, rests, goes, step_by}
-use Rattle.hp_run.specs.Pages.{IsTreeOf}
-use Rattle.hp_steps.specs.Alike.{SameMove}
-use Rattle.hp_run.specs.Tokens.{AllRead}
-use Rattle.hp_steps.specs.Handling.{made_after}
-use Rattle.hp_steps.specs.Standing.{HasRead}
-use Rattle.hp_steps.proofs.Shifting.{move-same}
-use Rattle.hp_steps.proofs.Turning.{Does, all-together}
+use Rattle.hp_runs.specs.Pages.{IsTreeOf}
+use Rattle.hp_runs.specs.Alike.{SameMove}
+use Rattle.hp_runs.specs.Tokens.{AllRead}
+use Rattle.hp_runs.specs.Handling.{made_after}
+use Rattle.hp_runs.specs.Standing.{HasRead}
+use Rattle.hp_runs.proofs.Shifting.{move-same}
+use Rattle.hp_runs.proofs.Turning.{Does, all-together}
 use Rattle.hp_pieces.proofs.SameRuns.{end-same}
 use Rattle.hp_pieces.specs.Laws.{EndsHandled, RestsAhead}
 use Rattle.hp_sequential.proofs.Steps.{makes-tree}

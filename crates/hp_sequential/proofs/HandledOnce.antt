@@ -16,7 +16,7 @@ use Rattle.hp_acts.specs.HandlePlans.{handle_plan}
 use Rattle.hp_acts.specs.Handling.{Handles}
 use Rattle.hp_acts.specs.Known.{IsHandledWhole}
 use Rattle.hp_acts.proofs.KnownMatches.{known_carried}
-use Rattle.hp_steps.proofs.Together.{applied-append}
+use Rattle.hp_runs.proofs.Together.{applied-append}
 use Rattle.hp_sequential.specs.Building.{control_of, IsBuilder, HandledOne}
 use Rattle.hp_sequential.specs.declared.builder.Builder.{Builder}
 

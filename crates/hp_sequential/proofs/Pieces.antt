@@ -10,9 +10,9 @@ use Rattle.hp_control.proofs.StartLemmas.{start_valid}
 use Rattle.hp_control.specs.States.{ControlState, start}
 use Rattle.hp_lexer.specs.declared.lexer.Lexer.{Lexer}
 use Rattle.hp_lexer.specs.Standing.{is_answered, opened, stands}
-use Rattle.hp_steps.specs.Closing.{EndsAtTag}
-use Rattle.hp_steps.specs.Standing.{HasRead}
-use Rattle.hp_steps.proofs.Lexers.{fits-on}
+use Rattle.hp_runs.specs.Closing.{EndsAtTag}
+use Rattle.hp_runs.specs.Standing.{HasRead}
+use Rattle.hp_runs.proofs.Lexers.{fits-on}
 use Rattle.hp_pieces.proofs.Ahead.{ahead-ends}
 use Rattle.hp_pieces.specs.Laws.{RestsAhead}
 use Rattle.hp_sequential.specs.Building.{control_of, grown, IsBuilder}

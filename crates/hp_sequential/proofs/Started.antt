@@ -9,8 +9,8 @@ use Rattle.hp_lexer.specs.declared.lexer.Asked.TheVariants as asked
 use Rattle.hp_lexer.specs.declared.lexer.Lexer.{Lexer}
 use Rattle.hp_lexer.specs.Standing.{opened, stands}
 use Rattle.hp_model.specs.Runs.{here as stays, at_start, followed_by}
-use Rattle.hp_steps.specs.Closing.{EndsAtTag}
-use Rattle.hp_steps.specs.Standing.{HasRead}
+use Rattle.hp_runs.specs.Closing.{EndsAtTag}
+use Rattle.hp_runs.specs.Standing.{HasRead}
 use Rattle.hp_sequential.specs.Building.{control_of, grown}
 use Rattle.hp_sequential.specs.Reading.{IsOnPage, Reads}
 use Rattle.hp_sequential.specs.declared.parsing.Parsing.{Parsing}

@@ -21,17 +21,17 @@ use Rattle.hp_lexer.specs.Standing.{stands, stands_answered, Reaches, ReachesCda
 use Rattle.hp_lexer.specs.Table.{table}
 use Rattle.hp_model.specs.AtOnce.{RunsAtOnce, handle_at_once}
 use Rattle.hp_model.specs.Runs.{at_start, followed_by}
-use Rattle.hp_steps.specs.Alike.{Alike, SameMove}
-use Rattle.hp_steps.specs.Closing.{AreCharacters, EndsAtTag}
-use Rattle.hp_steps.specs.Handling.{left_after, lexer_after, made_after, turned_by}
-use Rattle.hp_steps.specs.Standing.{HasRead}
-use Rattle.hp_steps.proofs.ClosingTable.{move-closes, Leads-close, MoveCloses}
-use Rattle.hp_steps.proofs.Lexers.{alike-after, names-after, same-alike}
-use Rattle.hp_steps.proofs.Quiet.{characters-quiet}
-use Rattle.hp_steps.proofs.Shifting.{move-same}
-use Rattle.hp_steps.proofs.Standing.{Answered, asks-on, like-on, silent-on}
-use Rattle.hp_steps.proofs.Stepping.{Further, batch-further, moved-so, silent-moves, stepped-read}
-use Rattle.hp_steps.proofs.Together.{applied-append}
+use Rattle.hp_runs.specs.Alike.{Alike, SameMove}
+use Rattle.hp_runs.specs.Closing.{AreCharacters, EndsAtTag}
+use Rattle.hp_runs.specs.Handling.{left_after, lexer_after, made_after, turned_by}
+use Rattle.hp_runs.specs.Standing.{HasRead}
+use Rattle.hp_runs.proofs.ClosingTable.{move-closes, Leads-close, MoveCloses}
+use Rattle.hp_runs.proofs.Lexers.{alike-after, names-after, same-alike}
+use Rattle.hp_runs.proofs.Quiet.{characters-quiet}
+use Rattle.hp_runs.proofs.Shifting.{move-same}
+use Rattle.hp_runs.proofs.Standing.{Answered, asks-on, like-on, silent-on}
+use Rattle.hp_runs.proofs.Stepping.{Further, batch-further, moved-so, silent-moves, stepped-read}
+use Rattle.hp_runs.proofs.Together.{applied-append}
 use Rattle.hp_sequential.specs.Building.{control_of, grown, IsBuilder}
 use Rattle.hp_sequential.specs.Reading.{HasEnded, HasReadAll, IsInPiece, Reads, ReadsFurther, ReadsOn, ReadsPiece, Took}
 use Rattle.hp_sequential.proofs.Closed.{closed-tokens}

@@ -15,12 +15,12 @@ use Rattle.hp_model.specs.Handling.{handle}
 use Rattle.hp_model.specs.Runs.{Parser, switched}
 use Rattle.hp_model.specs.Turns.{left_by}
 use Rattle.hp_model.specs.Whole.{IsRead}
-use Rattle.hp_run.specs.Tokens.{AllRead}
-use Rattle.hp_steps.specs.Handling.{AreQuiet, left_after, made_after, turned_by}
-use Rattle.hp_steps.specs.Standing.{EmitsLast, HasGone}
-use Rattle.hp_steps.proofs.Standing.{loud-from, quiet-from}
-use Rattle.hp_steps.proofs.Stepping.{Further}
-use Rattle.hp_steps.proofs.Turning.{Does, all-together, turned-quiet}
+use Rattle.hp_runs.specs.Tokens.{AllRead}
+use Rattle.hp_runs.specs.Handling.{AreQuiet, left_after, made_after, turned_by}
+use Rattle.hp_runs.specs.Standing.{EmitsLast, HasGone}
+use Rattle.hp_runs.proofs.Standing.{loud-from, quiet-from}
+use Rattle.hp_runs.proofs.Stepping.{Further}
+use Rattle.hp_runs.proofs.Turning.{Does, all-together, turned-quiet}
 
 module _ (names : List Reference) (from : Parser) where
   -- tokens that switch the lexer nowhere

@@ -21,8 +21,8 @@ use Rattle.hp_views.specs.View.{split_of}
 use Rattle.hp_model.specs.AtOnce.{handle_at_once}
 use Rattle.hp_model.specs.Texts.{ComesTo, TakesText, TextsAtOnce, as_run, each_at_once, has_html_top, is_text_mode}
 use Rattle.hp_model.specs.Turns.{left_by}
-use Rattle.hp_steps.proofs.Quiet.{at_once-quiet}
-use Rattle.hp_steps.specs.Handling.{left_after, made_after}
+use Rattle.hp_runs.proofs.Quiet.{at_once-quiet}
+use Rattle.hp_runs.specs.Handling.{left_after, made_after}
 use Rattle.hp_acts.specs.Plain.{takes_text}
 use Rattle.hp_sequential.proofs.WhiteRuns.{white_same, white_valid}
 use Rattle.hp_sequential.specs.Building.{control_of, grown, IsBuilder, HandledOne, HandledAll, HasGrown}

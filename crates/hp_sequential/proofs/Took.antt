@@ -10,10 +10,10 @@ use Rattle.hp_control.specs.declared.edit.Edit.{Edit}
 use Rattle.hp_model.specs.Whole.{IsRead}
 use Rattle.hp_model.specs.AtOnce.{RunsAtOnce, handle_at_once}
 use Rattle.hp_model.specs.Turns.{left_by}
-use Rattle.hp_run.specs.Tokens.{AllRead}
-use Rattle.hp_steps.specs.Handling.{left_after, lexer_after, made_after, turned}
-use Rattle.hp_steps.proofs.Lexers.{characters-after}
-use Rattle.hp_steps.proofs.Together.{applied-append, at_once-valid}
+use Rattle.hp_runs.specs.Tokens.{AllRead}
+use Rattle.hp_runs.specs.Handling.{left_after, lexer_after, made_after, turned}
+use Rattle.hp_runs.proofs.Lexers.{characters-after}
+use Rattle.hp_runs.proofs.Together.{applied-append, at_once-valid}
 use Rattle.hp_sequential.specs.Building.{control_of, grown, IsBuilder, HandledOne, HandledAll, HasGrown}
 use Rattle.hp_sequential.specs.Reading.{Took}
 use Rattle.hp_sequential.specs.declared.builder.Builder.{Builder}

@@ -9,8 +9,8 @@ use Rattle.hp_tokens.specs.Moves.{Lexing}
 use Rattle.hp_tokens.specs.Ranks.{rank, symbol_of}
 use Rattle.hp_lex_raw.specs.Raw.{is_untold}
 use Rattle.hp_lexer.specs.Standing.{load, stands}
-use Rattle.hp_steps.specs.Closing.{EndsAtTag}
-use Rattle.hp_steps.proofs.Lexers.{fits-on}
+use Rattle.hp_runs.specs.Closing.{EndsAtTag}
+use Rattle.hp_runs.proofs.Lexers.{fits-on}
 use Rattle.hp_sequential.specs.Reading.{IsOnPage, IsReady, Reads, ReadsFurther, ReadsOn, StepsOn, Tried, WentStraight}
 use Rattle.hp_sequential.specs.declared.parsing.Parsing.{Parsing}
 

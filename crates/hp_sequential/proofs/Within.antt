@@ -13,11 +13,11 @@ use Rattle.hp_lexer.specs.declared.lexer.Step.TheVariants as steps
 use Rattle.hp_lexer.specs.Standing.{stands, Stepped}
 use Rattle.hp_lexer.specs.Table.{table}
 use Rattle.hp_pieces.specs.Laws.{NeverAsked}
-use Rattle.hp_steps.specs.Alike.{SameMove}
-use Rattle.hp_steps.specs.Standing.{HasRead}
-use Rattle.hp_steps.proofs.Shifting.{move-same}
-use Rattle.hp_steps.proofs.Standing.{silent-on}
-use Rattle.hp_steps.proofs.Stepping.{silent-moves}
+use Rattle.hp_runs.specs.Alike.{SameMove}
+use Rattle.hp_runs.specs.Standing.{HasRead}
+use Rattle.hp_runs.proofs.Shifting.{move-same}
+use Rattle.hp_runs.proofs.Standing.{silent-on}
+use Rattle.hp_runs.proofs.Stepping.{silent-moves}
 use Rattle.hp_sequential.specs.Building.{control_of}
 use Rattle.hp_sequential.specs.Reading.{IsWithin, Reads}
 use Rattle.hp_sequential.specs.declared.parsing.Parsing.{Parsing}

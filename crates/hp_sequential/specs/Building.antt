@@ -10,7 +10,7 @@ use Rattle.hp_control.specs.Tree.{Tree, applied_all}
 use Rattle.hp_views.specs.View.{split_of}
 use Rattle.hp_model.specs.Turns.{left_by}
 use Rattle.hp_model.specs.AtOnce.{handle_at_once}
-use Rattle.hp_steps.specs.Handling.{left_after, made_after}
+use Rattle.hp_runs.specs.Handling.{left_after, made_after}
 use Rattle.hp_sequential.specs.declared.builder.Builder.{Builder}
 
 -- the control state, and the tree once all edits are applied to it

@@ -11,9 +11,9 @@ use Rattle.hp_lexer.specs.declared.lexer.Asked.TheVariants as asked
 use Rattle.hp_lexer.specs.Standing.{PlainStepped, is_answered, stands, load}
 use Rattle.hp_lexer.specs.Table.{table}
 use Rattle.hp_model.specs.AtOnce.{handle_at_once}
-use Rattle.hp_steps.specs.Closing.{EndsAtTag}
-use Rattle.hp_steps.specs.Handling.{left_after, lexer_after, made_after}
-use Rattle.hp_steps.specs.Standing.{HasRead}
+use Rattle.hp_runs.specs.Closing.{EndsAtTag}
+use Rattle.hp_runs.specs.Handling.{left_after, lexer_after, made_after}
+use Rattle.hp_runs.specs.Standing.{HasRead}
 use Rattle.hp_sequential.specs.Building.{control_of, grown, IsBuilder}
 use Rattle.hp_sequential.specs.declared.parsing.Parsing.{Parsing}
 

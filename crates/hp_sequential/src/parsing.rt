@@ -9,8 +9,8 @@ ghost use Rattle.hp_acts.specs.Plain.{takes_text};
 ghost use Rattle.hp_control.specs.States.{lex_start};
 ghost use Rattle.hp_lexer.specs.declared.lexer.Asked.TheVariants as asked;
 ghost use Rattle.hp_model.specs.Whole.{IsRead};
-ghost use Rattle.hp_run.specs.Pages.{IsTreeOf};
-ghost use Rattle.hp_run.specs.Tokens.{AllRead};
+ghost use Rattle.hp_runs.specs.Pages.{IsTreeOf};
+ghost use Rattle.hp_runs.specs.Tokens.{AllRead};
 ghost use Rattle.hp_sequential.specs.Building.{IsBuilder, HandledAll, HandledOne};
 ghost use Rattle.hp_sequential.specs.Reading.{IsReady, IsAtEnd, IsInPiece, IsOnPage, IsWithin, Joined, PieceRead, Reads, ReadsFurther, HasEnded, HasReadAll, StepsOn, ReadsOn, ReadsPiece, Took, TookText, Tried, WentStraight};
 

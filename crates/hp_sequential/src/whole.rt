@@ -2,7 +2,7 @@
 ghost use Rattle.std.specs.Prelude.{IfOk};
 ghost use Rattle.std.specs.Str.{chars};
 ghost use Rattle.hp_names.specs.BuiltIn.{built_in};
-ghost use Rattle.hp_run.specs.Pages.{IsTreeOf};
+ghost use Rattle.hp_runs.specs.Pages.{IsTreeOf};
 ghost use Rattle.hp_text.specs.Page.{text_of};
 
 use crate::NoMemory;

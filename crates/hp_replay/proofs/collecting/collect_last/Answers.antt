@@ -1,5 +1,5 @@
 use Rattle.std.proofs.Common.{rules, sym, subst}
-use Rattle.hp_steps.proofs.Stepping.{next_read}
+use Rattle.hp_runs.proofs.Stepping.{next_read}
 use Rattle.hp_views.specs.View.{split_of}
 use Rattle.hp_replay.proofs.Toward.{Toward, toward_end, toward_on, toward_start}
 use Rattle.hp_replay.proofs.collecting.collect_last.Goals as goal

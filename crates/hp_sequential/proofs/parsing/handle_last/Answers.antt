@@ -1,5 +1,5 @@
 use Rattle.std.proofs.Common.{rules, sym, subst}
-use Rattle.hp_steps.proofs.Stepping.{next_read}
+use Rattle.hp_runs.proofs.Stepping.{next_read}
 use Rattle.hp_sequential.proofs.Toward.{Toward, last_end, toward_on, toward_start}
 use Rattle.hp_sequential.proofs.parsing.handle_last.Goals as goal
 

@@ -1,7 +1,7 @@
 use Rattle.std.proofs.Common.{subst, sym}
 use Rattle.std.specs.Str.{chars}
 use Rattle.hp_names.specs.BuiltIn.{built_in}
-use Rattle.hp_run.specs.Pages.{IsTreeOf}
+use Rattle.hp_runs.specs.Pages.{IsTreeOf}
 use Rattle.hp_text.specs.Page.{text_of}
 use Rattle.hp_sequential.proofs.whole.parse_whole.Goals as goal
 

@@ -1,6 +1,6 @@
 use Rattle.std.proofs.Common.{rules, sym, subst}
 use Rattle.hp_replay.proofs.Took.{Going, going_end, going_on, going_start}
-use Rattle.hp_steps.proofs.Stepping.{next_read}
+use Rattle.hp_runs.proofs.Stepping.{next_read}
 use Rattle.hp_replay.proofs.running.Running.handle.Goals as goal
 
 pub loop-token-init : goal.loop-token-init

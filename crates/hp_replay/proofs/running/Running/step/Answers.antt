@@ -1,6 +1,6 @@
 use Rattle.std.proofs.Common.{refl}
 use Rattle.hp_lexer.specs.declared.lexer.Step.TheVariants as steps
-use Rattle.hp_steps.proofs.Stepping.{stepped-read, told-step}
+use Rattle.hp_runs.proofs.Stepping.{stepped-read, told-step}
 use Rattle.hp_replay.proofs.Going.{steps-took}
 use Rattle.hp_replay.proofs.Steps.{not-asked, step-cdata, step-cut, step-tokens}
 use Rattle.hp_replay.proofs.running.Running.step.Goals as goal

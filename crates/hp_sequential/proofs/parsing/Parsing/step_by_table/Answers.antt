@@ -1,6 +1,6 @@
 use Rattle.std.proofs.Common.{refl}
 use Rattle.hp_lexer.specs.declared.lexer.Step.TheVariants as steps
-use Rattle.hp_steps.proofs.Stepping.{stepped-read, told-step}
+use Rattle.hp_runs.proofs.Stepping.{stepped-read, told-step}
 use Rattle.hp_sequential.proofs.Going.{steps-took}
 use Rattle.hp_sequential.proofs.Closed.{closed-tokens}
 use Rattle.hp_sequential.proofs.Steps.{closed-cdata, closed-cut, step-cdata, step-cut, step-tokens}

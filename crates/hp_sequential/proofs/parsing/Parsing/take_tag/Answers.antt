@@ -1,7 +1,7 @@
 use Rattle.std.proofs.Common.{[], ◌∷◌, None, Some, ap, refl, ◌∙◌}
 use Rattle.std.specs.Prelude.{◌-◌, ◌^◌}
 use Rattle.hp_lexer.specs.Standing.{is_answered}
-use Rattle.hp_steps.proofs.Stepping.{stepped-read}
+use Rattle.hp_runs.proofs.Stepping.{stepped-read}
 use Rattle.hp_sequential.proofs.Closed.{took-ahead}
 use Rattle.hp_sequential.proofs.Going.{steps-took}
 use Rattle.hp_sequential.proofs.Steps.{step-silent, step-tag}

@@ -1,3 +1,0 @@
-pub mod Lexed
-pub mod PlainHandled
-pub mod PlainTrees

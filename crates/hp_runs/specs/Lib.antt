@@ -1,0 +1,10 @@
+pub mod Pages
+pub mod Tokens
+pub mod Alike
+pub mod Closing
+pub mod Handling
+pub mod Standing
+pub mod Filled
+pub mod Laws
+pub mod Touching
+pub mod Plain
