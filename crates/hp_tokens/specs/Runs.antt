@@ -1,16 +1,7 @@
 -- Runs of moves, over a text in any pieces.
-use Rattle.std.specs.Prelude.{◌≡◌, ℕ, ◌==◌, List, [], ◌∷◌, ◌++◌, Bool, true, false, if◌then◌else◌}
+use Rattle.std.specs.Prelude.{◌≡◌, ℕ, List, [], ◌∷◌, ◌++◌}
 use Rattle.std.specs.List.{concat}
 use Rattle.hp_tokens.specs.Moves.{Lexing, Emitted, Move, needs_more, asks_cdata, asks_last_tag, makes, ends, Rules, move}
-
--- Newline normalisation (13.2.3.5): the text without a first LF where the code point before it was CR, with each CR LF
--- pair as LF and each other CR as LF.
-abbrev pub norm : Bool → List ℕ → List ℕ
-norm after_cr [] = []
-norm after_cr (c ∷ cs) =
-    if c == 13 then 10 ∷ norm true cs
-    else if c == 10 then (if after_cr then norm false cs else 10 ∷ norm false cs)
-    else c ∷ norm false cs
 
 -- by these moves the lexer gets from here to there, and they emit these
 pub data Leads (next : Lexing → Move) : Lexing → List Emitted → Lexing → Type 0 where
