@@ -11,7 +11,10 @@ use hp_views::View;
 /// Gives back a parser.
 pub(crate) fn leave(parsing: Parsing<'_, Nothing>) {
     let Parsing {
-        lexer, view, sink, ..
+        lexer,
+        view,
+        sink,
+        ..
     } = parsing;
     leave_lexer(lexer);
     leave_edits(into_edits(view));

@@ -22,7 +22,10 @@ pub(crate) fn told_state<'p>(
     ensures edits { IfOk result (λ parts. parts.1 ≡ map (named_edit nothing) parsing.entry.view.edits) }
 {
     let Parsing {
-        lexer, view, sink, ..
+        lexer,
+        view,
+        sink,
+        ..
     } = parsing;
     leave_sink(sink);
     let Lexer { lex, .. } = lexer;
@@ -44,7 +47,10 @@ pub(crate) fn told_edits<'p>(
     ensures { IfOk result (λ edits. edits ≡ map (named_edit nothing) parsing.entry.view.edits) }
 {
     let Parsing {
-        lexer, view, sink, ..
+        lexer,
+        view,
+        sink,
+        ..
     } = parsing;
     leave_lexer(lexer);
     leave_sink(sink);

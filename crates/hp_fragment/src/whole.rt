@@ -44,7 +44,10 @@ fn grown_tree<'p>(alloc: Global, read: Parsing<'p, Nothing>) -> Result<Tree<'p>,
     ensures { IfOk result (λ tree. HasGrownBy read.entry.sink read.entry.view.edits tree.branches) }
 {
     let Parsing {
-        lexer, view, sink, ..
+        lexer,
+        view,
+        sink,
+        ..
     } = read;
     leave_lexer(lexer);
     let mut edits = into_edits(view);
