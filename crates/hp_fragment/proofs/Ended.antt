@@ -1,6 +1,7 @@
 -- The run over a text behind a known state: its begin and its end, and the end of input.
 use Rattle.std.proofs.Common.{◌≡◌, ℕ, ◌^◌, ◌≤◌, List, [], ◌∷◌, ◌++◌, map, Bool, true, false, refl, ap, ◌∙◌, sym, subst, append-nil, inr, Option, None, Some}
 use Rattle.std.specs.Prelude.{All, IsSome}
+use Rattle.std.proofs.lemmas.Bool.{true≢false}
 use Rattle.std.proofs.lemmas.List.Elements.{All-cons, All-nil}
 use Rattle.std.specs.Option.{is_some, unwrap_or}
 use Rattle.std.specs.Str.{IsUtf8, chars}
@@ -57,7 +58,7 @@ use Rattle.hp_fragment.specs.Reading.{GoesToEnd, Handled, HasRead, HasReadAll, I
 use Rattle.hp_fragment.specs.declared.sink.Sink.{Sink}
 use Rattle.hp_fragment.specs.declared.sink.Sink.TheVariants.{Grows, Keeps}
 
-some-is : {X : Type 0} (o : Option X) → IsSome o → is_some o ≡ true
+pub some-is : {X : Type 0} (o : Option X) → IsSome o → is_some o ≡ true
 some-is (Some x) h = refl
 some-is None h = cc
 
@@ -67,6 +68,7 @@ pub begins : TextBegins → (entry : ControlState) (text : List ℕ) (p : Stage)
     → HasRead (way_from entry text (is_growing p.sink)) p
 begins law entry text p valid lexer fits input over state none empty = record {
   named = ap (λ (l : Lexer). is_some l.lex.machine.last_tag) lexer ∙ knows;
+  unpaged = λ no. absurd (true≢false no);
   over = over;
   edits = [];
   comes =

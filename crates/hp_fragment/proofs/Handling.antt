@@ -61,6 +61,7 @@ none-handled p = record {
   noted = noted-none p.heard;
   over = λ s all is may. record {
     over = is;
+    unpaged = λ none. none;
     lexer = refl;
     control = refl;
     own = refl;
@@ -71,6 +72,7 @@ none-handled p = record {
 both-handled : (s : ControlState) (a b c : Stage) (xs ys : List Token) → IsHandled s a b xs → IsHandled s b c ys → IsHandled s a c (xs ++ ys)
 both-handled s a b c xs ys f g = record {
   over = g.over;
+  unpaged = λ none. g.unpaged (f.unpaged none);
   lexer =
       g.lexer
       ∙ (ap (λ (d : ControlState). lexer_after handle_at_once d ys b.lexer) f.control
@@ -127,6 +129,7 @@ module _ (law : TokensHandled) (apart : AtOnceApart) (stay : StayUnedited) where
       → new.lexer ≡ turned (handle_at_once (control_at s old) t).switch old.lexer → IsDoneOver s old.split w handled (handle_at_once (state_over old.split s) t) → IsHandled s old new (t ∷ [])
   over-one s old new w edits t handled split take lexer d = record {
     over = subst (IsOver s) (sym split) (stay s w edits d.over);
+    unpaged = λ none. ap (λ (v : Split). v.page) split ∙ d.unpaged none;
     lexer = lexer;
     control = ap (λ (v : Split). relexed_state lex_start (state_over v s)) split ∙ (ap (relexed_state lex_start) d.control ∙ sym (ap left_by same));
     own = and_from (not (touches_any s now.outcome)) true (ap not (ap (λ (h : Meant). touches_any s h.outcome) same ∙ d.own)) refl;

@@ -9,3 +9,4 @@ pub mod Taking
 pub mod Ended
 pub mod NoNul
 pub mod ToldEdits
+pub mod Guesses

@@ -67,6 +67,7 @@ reads-on : (w : Way) (old new : Stage) (l : Lexer) (u : Unread) (tokens : List T
     → HasRead w new
 reads-on w old new l u tokens h input named r f = record {
   named = after-named w.told w.name w.older handle_at_once c tokens l new.lexer h.lexer named;
+  unpaged = λ guess. h.unpaged (r.unpaged guess);
   over = h.over;
   edits = r.edits ++ f.more;
   comes =
@@ -155,6 +156,7 @@ silent-further law old l u ready reached = record {
   noted = noted-none old.heard;
   reads = λ w all r. record {
     named = leads-named w.told w.name w.older old.lexer.names old.lexer l old.input u reached.es reached.leads r.named;
+    unpaged = r.unpaged;
     over = r.over;
     edits = r.edits;
     comes = law built_in w.name w.base w.older w.from (control_at w.older old) r.edits old.lexer l old.input u r.comes ready.names reached;
@@ -171,6 +173,7 @@ told-reads : (w : Way) (old new : Stage) (r : HasRead w old) → new.split ≡ o
     → HasCome built_in w.name w.base w.older w.from (stands new.lexer new.input) (control_at w.older old) r.edits → HasRead w new
 told-reads w old new r split sink named comes = record {
   named = named;
+  unpaged = λ guess. ap (λ (v : Split). v.page) split ∙ r.unpaged guess;
   over = subst (IsOver w.older) (sym split) r.over;
   edits = r.edits;
   comes =
@@ -216,6 +219,7 @@ cut-ends law old l u ready stepped = record {
   noted = noted-none old.heard;
   reads = λ w all r. record {
     named = cut-named w r;
+    unpaged = r.unpaged;
     over = r.over;
     edits = r.edits;
     ended = law built_in w.name w.base w.older w.from (control_at w.older old) r.edits old.lexer l old.input u r.comes ready.names stepped;

@@ -59,6 +59,7 @@ IsNamed false name s l = name ≡ unwrap_or s.lex.machine.last_tag []
 -- that run has come to where the parser stands
 pub record HasRead (w : Way) (p : Stage) : Type 0 where
   pub named : IsNamed w.told w.name w.older p.lexer
+  pub unpaged : w.told ≡ false → p.split.page ≡ None
   pub over : IsOver w.older p.split
   pub edits : List Edit
   pub comes : HasCome built_in w.name w.base w.older w.from (stands p.lexer p.input) (control_at w.older p) edits
@@ -67,6 +68,7 @@ pub record HasRead (w : Way) (p : Stage) : Type 0 where
 -- and to the end of its text
 pub record HasReadAll (w : Way) (p : Stage) : Type 0 where
   pub named : IsNamed w.told w.name w.older p.lexer
+  pub unpaged : w.told ≡ false → p.split.page ≡ None
   pub over : IsOver w.older p.split
   pub edits : List Edit
   pub ended : HasEnded built_in w.name w.older w.from p.lexer (control_at w.older p) edits
@@ -140,6 +142,7 @@ pub record IsTurned (old new : Lexer) : Type 0 where
 -- over s these tokens were handled at once, one behind the other, and the lexer was switched behind each that calls for it; nothing older was touched
 pub record IsHandled (s : ControlState) (old new : Stage) (tokens : List Token) : Type 0 where
   pub over : IsOver s new.split
+  pub unpaged : old.split.page ≡ None → new.split.page ≡ None
   pub lexer : new.lexer ≡ lexer_after handle_at_once (control_at s old) tokens old.lexer
   pub control : control_at s new ≡ left_after handle_at_once (control_at s old) tokens
   pub own : untouched_at_once s (control_at s old) tokens ≡ true

@@ -3,7 +3,7 @@ ghost use Rattle.std.specs.Prelude.{◌≡◌};
 
 use crate::parsing::Parsing;
 use crate::sink::Sink;
-use hp_control::{Change, Control, Edits, Nothing};
+use hp_control::{Change, Control, Edits, Guess, Nothing, Predictor};
 use hp_lexer::Lexer;
 use hp_tokens::LexState;
 use hp_views::View;
@@ -19,6 +19,11 @@ pub(crate) fn leave(parsing: Parsing<'_, Nothing>) {
     leave_lexer(lexer);
     leave_edits(into_edits(view));
     leave_sink(sink);
+}
+
+/// Gives back a parser behind a guess.
+pub(crate) fn leave_guess<P: Predictor + Drop>(parsing: Parsing<'_, Guess<P>>) {
+    let _ = parsing;
 }
 
 /// Gives back a state.

@@ -7,12 +7,15 @@ mod known;
 mod laws;
 mod leaving;
 mod parsing;
+mod reading;
 mod replaying;
 mod sink;
+mod speculating;
 mod told;
 mod whole;
 
 pub use at_end::ending;
 pub use hp_elements::NoMemory;
 pub use replaying::replay;
+pub use speculating::speculate;
 pub use whole::parse_whole;

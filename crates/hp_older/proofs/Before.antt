@@ -179,6 +179,7 @@ module _ (s : ControlState) (v : Split) (k : IsBefore s v) where
     own = refl;
     over = before_html skipped;
     chunk = λ h. absurd (no_chunk h);
+    unpaged = λ none. none;
   }
   rest_comes (Some t) read = subst (λ e. ComesOver s v e (all_turns (settled c) t)) (sym (token_crosses (answer_of s) t (unskipped v) view_early)) (crossed t read)
 

@@ -51,6 +51,7 @@ comes_alike s v (Ok r) h k same m = record {
   own = same.touched (is_older s) ∙ m.own;
   over = m.over;
   chunk = m.chunk;
+  unpaged = m.unpaged;
 }
 
 pub texts-handled : TextsHandled

@@ -98,7 +98,7 @@ chunk_comes t s v k read inside = go (end_by (answer_of s) (handle_plan t v)) (c
           valid = subst (λ c. IsValid c) (sym m.control) (at_once_valid t (state_over v s) read k.valid);
           goes_on = subst (λ c. GoesOn s c) (sym m.control) (tokens-go_on t s v k read inside m.own);
         } in
-        record { control = m.control; edits = m.edits; switch = m.switch; stopped = m.stopped; own = m.own; over = of_chunk left; chunk = λ again. left }
+        record { control = m.control; edits = m.edits; switch = m.switch; stopped = m.stopped; own = m.own; over = of_chunk left; chunk = λ again. left; unpaged = λ none. left.unpaged }
 
 -- over nothing
 known_comes : (t : Token) (v : Split) → IsRead t → StandsOn nothing v → IsValid (state_over v nothing) → ComesOver nothing v (end_by (answer_of nothing) (handle_plan t v)) (handle_at_once (state_over v nothing) t)
@@ -117,6 +117,7 @@ known_comes t v read stands valid = go (end_by (answer_of nothing) (handle_plan 
       own = m.own;
       over = of_known (record { nothing_older = refl; stands = m.stands; valid = subst (λ c. IsValid c) (sym m.control) (at_once_valid t (state_over v nothing) read valid) });
       chunk = λ k. absurd (none_made nothing refl (first_of nothing v k));
+      unpaged = λ none. absurd (none_made nothing refl (some_made nothing v none stands.base));
     }
 
 -- over any older state, by its own answers

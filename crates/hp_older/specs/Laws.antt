@@ -1,6 +1,6 @@
 -- The laws of this crate: a view that begins over any older state, and what is handled and asked over it, as long as nothing older
 -- is touched (13.2.6).
-use Rattle.std.specs.Prelude.{◌≡◌, ℕ, ◌<◌, Bool, true, false, List, [], ◌∷◌, ◌++◌, length, map, Result, Ok, Err}
+use Rattle.std.specs.Prelude.{◌≡◌, ℕ, ◌<◌, Bool, true, false, List, [], ◌∷◌, ◌++◌, length, map, None, Result, Ok, Err}
 use Rattle.std.specs.List.{list_all}
 use Rattle.std.specs.Option.{unwrap_or}
 use Rattle.hp_elements.specs.declared.token.Token.{Token}
@@ -80,6 +80,7 @@ pub record IsDoneOver (s : ControlState) (v w : Split) (handled : Handled) (h : 
   pub own : touches_any s h.outcome ≡ false
   pub over : IsOver s w
   pub chunk : IsChunk s v → IsChunk s w
+  pub unpaged : v.page ≡ None → w.page ≡ None
 
 -- it was handled so, or something older is touched by that crossing
 abbrev pub ComesOver : ControlState → Split → Result Reached Crossing → Meant → Type 0

@@ -2,12 +2,15 @@
 ghost use Rattle.std.specs.Prelude.{◌≡◌, ◌≤◌, length};
 
 use crate::exact::Exact;
+use crate::guessed::Guessed;
 
 /// What a part of a page does to the parser.
 #[derive(Drop)]
 pub enum Fragment<'p> {
     /// From a known state.
     Exact(Exact<'p>),
+    /// Over any state of which some answers are true.
+    Guessed(Guessed<'p>),
 }
 
 impl<'p> Fragment<'p> {
@@ -19,6 +22,7 @@ impl<'p> Fragment<'p> {
     {
         match self {
             Fragment::Exact(exact) => exact.text(),
+            Fragment::Guessed(guessed) => guessed.text(),
         }
     }
 
@@ -29,6 +33,7 @@ impl<'p> Fragment<'p> {
     {
         match self {
             Fragment::Exact(exact) => exact.text().len() as u64,
+            Fragment::Guessed(guessed) => guessed.covered(),
         }
     }
 }

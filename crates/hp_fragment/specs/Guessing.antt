@@ -1,0 +1,66 @@
+-- What is made of a text behind a guess (13.2).
+use Rattle.std.specs.Prelude.{◌≡◌, ℕ, ◌^◌, Bool, List, [], ◌∷◌, All, Option, Some}
+use Rattle.std.specs.Option.{is_some}
+use Rattle.hp_elements.specs.declared.token.Mode.{Mode}
+use Rattle.hp_elements.specs.declared.token.Rest.{Rest}
+use Rattle.hp_names.specs.BuiltIn.{built_in}
+use Rattle.hp_tokens.specs.Advancing.{rest_state}
+use Rattle.hp_tokens.specs.declared.lexing.LexState.{LexState}
+use Rattle.hp_control.specs.Faithful.{Split}
+use Rattle.hp_control.specs.Guessing.{Guessing}
+use Rattle.hp_control.specs.Plan.{Heard}
+use Rattle.hp_control.specs.declared.question.Answer.{Answer}
+use Rattle.hp_control.specs.declared.question.Answer.TheVariants as answer
+use Rattle.hp_control.specs.declared.question.Kept.{Kept}
+use Rattle.hp_control.specs.declared.question.Question.{Question}
+use Rattle.hp_control.specs.declared.question.Question.TheVariants as ask
+use Rattle.hp_lexer.specs.declared.lexer.Asked.TheVariants as asked
+use Rattle.hp_lexer.specs.declared.lexer.Lexer.{Lexer}
+use Rattle.hp_views.specs.Begins.{begins, ended}
+use Rattle.hp_views.specs.declared.view.View.{View}
+use Rattle.hp_pieces.specs.Guesses.{Guessed as GuessedOf}
+use Rattle.hp_pieces.specs.declared.fragment.Fragment.{Fragment}
+use Rattle.hp_pieces.specs.declared.fragment.Fragment.TheVariants.{Exact, Guessed}
+use Rattle.hp_fragment.specs.declared.speculating.Tried.{Tried}
+use Rattle.hp_fragment.specs.declared.speculating.Tried.TheVariants.{Crossed, Reached}
+
+-- nothing was read yet: it was asked where the text begins, and told this
+pub record HasBegun (l : Lexer) (h : Heard) (v : Split) : Type 0 where
+  pub rest : Rest
+  pub after_cr : Bool
+  pub mode : Mode
+  pub original : Option Mode
+  pub skip_lf : Bool
+  pub told : h.says ask.Entry ≡ answer.Resting rest after_cr mode original skip_lf
+  pub kept : h.kept ≡ Some (record { question = ask.Entry; answer = h.says ask.Entry } ∷ [])
+  pub split : v ≡ begins (answer.Resting rest after_cr mode original skip_lf)
+  pub lexer : l ≡ record { lex = rest_state rest after_cr; names = built_in; asked = asked.Nothing; rested = 2 ^ 32 }
+
+-- what a view has changed and was told, once the lexer stands so behind that much of the text
+abbrev pub made_of : {P : Type 0} → List ℕ → ℕ → LexState → View (Guessing P) → GuessedOf
+made_of text covered lex view = record {
+  names = built_in;
+  text = text;
+  covered = covered;
+  assumptions = view.below.kept;
+  change = ended lex (is_some lex.machine.last_tag) view.change;
+  edits = view.edits;
+}
+
+-- what is assumed is what is said, and first what is said of where the text begins
+pub record IsSaid (says : Question → Answer) (f : GuessedOf) : Type 0 where
+  pub more : List Kept
+  pub first : f.assumptions ≡ record { question = ask.Entry; answer = says ask.Entry } ∷ more
+  pub said : All (λ k. k.answer ≡ says k.question) f.assumptions
+
+pub record IsGuessOf (says : Question → Answer) (text : List ℕ) (f : GuessedOf) : Type 0 where
+  pub whole : f.text ≡ text
+  pub said : IsSaid says f
+
+abbrev pub IsTried : (Question → Answer) → List ℕ → Tried → Type 0
+IsTried says text (Reached f) = IsGuessOf says text f
+IsTried says text (Crossed at) = Unit {0}
+
+abbrev pub IsSaidBy : (Question → Answer) → Fragment → Type 0
+IsSaidBy says (Guessed f) = IsSaid says f
+IsSaidBy says (Exact known) = ⊥

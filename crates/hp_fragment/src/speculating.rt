@@ -1,0 +1,175 @@
+//! The run over a chunk behind a guessed state.
+ghost use Rattle.std.specs.Prelude.{◌≡◌, false, length, take, IfOk, slice_range};
+ghost use Rattle.hp_text.specs.Page.{text_of as page_text};
+ghost use Rattle.hp_elements.specs.declared.token.Rest.TheVariants.{Data};
+ghost use Rattle.hp_tokens.specs.Advancing.{rest_state};
+ghost use Rattle.hp_control.specs.Guessing.{heard_by};
+ghost use Rattle.hp_pieces.specs.Guesses.{IsSound};
+ghost use Rattle.hp_pieces.specs.Texts.{text_of};
+ghost use Rattle.hp_views.specs.View.{split_of};
+ghost use Rattle.hp_fragment.specs.Guessing.{made_of, HasBegun, IsGuessOf, IsSaidBy, IsTried};
+
+use crate::NoMemory;
+use crate::leaving::{leave_guess, leave_sink};
+use crate::parsing::Parsing;
+use crate::reading::read_to_end;
+use crate::sink::Sink;
+use hp_control::{Answer, Guess, Predictor, Refusal};
+use hp_elements::Rest;
+use hp_lexer::{Cursor, Lexer};
+use hp_pieces::{Fragment, Guessed};
+use hp_text::Chunk;
+use hp_tokens::{LexState, ORIGIN};
+use hp_views::View;
+use std::alloc::Global;
+
+/// What came of a try.
+#[derive(Drop)]
+enum Tried<'p> {
+    /// The text was read to its end.
+    Reached(Guessed<'p>),
+    /// A token touches what stood there before the chunk. Its group began there, in bytes from the text's start.
+    Crossed { at: u64 },
+}
+
+/// What the chunk does to the parser, whatever the state before it, where that answers as the predictor says. It covers the chunk,
+/// or, where a token touches something that stood there before, what comes before that token's group; nothing where the predictor
+/// says that the chunk begins within a token.
+pub fn speculate<'p, P: Predictor + Copy + Drop>(
+    alloc: Global,
+    chunk: Chunk<'p>,
+    predictor: P,
+) -> Result<Fragment<'p>, NoMemory>
+    ensures text { IfOk result (λ fragment. text_of fragment ≡ slice_range (page_text chunk.entry.page) chunk.entry.from chunk.entry.to) }
+    ensures said { IfOk result (IsSaidBy (P.says predictor)) }
+{
+    let text = &chunk.page.as_str()[chunk.from as usize..chunk.to as usize];
+    let guessed = guess(alloc, text, predictor)?;
+    Ok(Fragment::Guessed(guessed))
+}
+
+/// The same of a text.
+fn guess<'p, P: Predictor + Copy + Drop>(
+    alloc: Global,
+    text: &'p str,
+    predictor: P,
+) -> Result<Guessed<'p>, NoMemory>
+    ensures { IfOk result (IsGuessOf (P.says predictor) text.now) }
+{
+    match try_front(alloc, text, text, predictor)? {
+        Tried::Reached(guessed) => Ok(guessed),
+        Tried::Crossed { at } => guess_before(alloc, text, at, predictor),
+    }
+}
+
+/// What the text before that place does, or, where that can't be found out, nothing.
+fn guess_before<'p, P: Predictor + Copy + Drop>(
+    alloc: Global,
+    text: &'p str,
+    at: u64,
+    predictor: P,
+) -> Result<Guessed<'p>, NoMemory>
+    ensures { IfOk result (IsGuessOf (P.says predictor) text.now) }
+{
+    let front = front_of(text, at);
+    match try_front(alloc, text, front, predictor)? {
+        Tried::Reached(guessed) => Ok(guessed),
+        Tried::Crossed { .. } => {
+            let (view, _) = View::guessed(alloc, Guess::new(predictor))?;
+            Ok(cover_nothing(text, view))
+        }
+    }
+}
+
+/// The text before that place; nothing where a code point doesn't begin there.
+fn front_of(text: &str, at: u64) -> &str
+    ensures { result.now ≡ take (length result.now) text.now }
+{
+    match text.get(..at as usize) {
+        Some(front) => front,
+        None => "",
+    }
+}
+
+/// Reads that front of the text behind the guess.
+fn try_front<'p, P: Predictor + Copy + Drop>(
+    alloc: Global,
+    text: &'p str,
+    front: &'p str,
+    predictor: P,
+) -> Result<Tried<'p>, NoMemory>
+    requires front { front.now ≡ take (length front.now) text.now }
+    ensures { IfOk result (IsTried (P.says predictor) text.now) }
+{
+    let (view, told) = View::guessed(alloc, Guess::new(predictor))?;
+    match told {
+        Answer::Resting { rest, after_cr, .. } => {
+            let lexer = Lexer::at_rest(rest, after_cr);
+            read_front(alloc, text, front, lexer, view)
+        }
+        _ => Ok(Tried::Reached(cover_nothing(text, view))),
+    }
+}
+
+/// The same with the lexer and the view at the front's start.
+fn read_front<'p, P: Predictor + Drop>(
+    alloc: Global,
+    text: &'p str,
+    front: &'p str,
+    lexer: Lexer,
+    view: View<'p, Guess<P>>,
+) -> Result<Tried<'p>, NoMemory>
+    requires front { front.now ≡ take (length front.now) text.now }
+    requires begun { HasBegun lexer (heard_by P.says view.below) (split_of view) }
+    ensures { IfOk result (IsTried (P.says view.entry.below.predictor) text.now) }
+{
+    hp_control::laws::answers_tell();
+    hp_older::view_begins();
+    hp_runs::comes_on();
+    let mut parsing = Parsing {
+        lexer,
+        input: Cursor::of_str(front),
+        view,
+        sink: Sink::Keeps,
+    };
+    match read_to_end(alloc, &mut parsing) {
+        Ok(()) => Ok(Tried::Reached(cover(text, front.len() as u64, parsing))),
+        Err(Refusal::Crossed(_)) => {
+            let at = parsing.lexer.rested.saturating_sub(ORIGIN);
+            leave_guess(parsing);
+            Ok(Tried::Crossed { at })
+        }
+        Err(Refusal::NoMemory) => {
+            leave_guess(parsing);
+            Err(NoMemory)
+        }
+    }
+}
+
+/// What a parser that read the front of a text has made of the guess.
+fn cover<'p, P: Predictor + Drop>(
+    text: &'p str,
+    covered: u64,
+    parsing: Parsing<'p, Guess<P>>,
+) -> Guessed<'p>
+    requires sound { IsSound (made_of text.now covered parsing.lexer.lex parsing.view) }
+    ensures { result ≡ made_of text.now covered parsing.entry.lexer.lex parsing.entry.view }
+{
+    let Parsing {
+        lexer, view, sink, ..
+    } = parsing;
+    leave_sink(sink);
+    let Lexer { lex, .. } = lexer;
+    let is_set = lex.machine.last_tag.is_some();
+    let (change, kept, edits) = view.into_change(lex, is_set);
+    Guessed::of_guess(text.as_bytes(), covered, kept, change, edits)
+}
+
+/// A guess of which nothing was read.
+fn cover_nothing<'p, P: Predictor + Drop>(text: &'p str, view: View<'p, Guess<P>>) -> Guessed<'p>
+    ensures { result ≡ made_of text.now 0 (rest_state Data false) view.entry }
+{
+    let lex = LexState::at_rest(Rest::Data, false);
+    let (change, kept, edits) = view.into_change(lex, false);
+    Guessed::of_guess(text.as_bytes(), 0, kept, change, edits)
+}
