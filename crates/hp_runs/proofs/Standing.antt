@@ -1,4 +1,4 @@
--- Each call of the lexer, with what is made of it, is some steps of the run: from any parser, and from a page's start.
+-- A further piece of the text, and tokens that switch the lexer nowhere, as steps of the run: from any parser, and from a page's start.
 use Rattle.std.proofs.Common.{◌≡◌, ℕ, List, [], ◌++◌, refl, ap, ◌∙◌, sym, subst, append_assoc}
 use Rattle.hp_elements.specs.declared.token.Token.{Token}
 use Rattle.hp_names.specs.References.{Reference}
@@ -11,7 +11,7 @@ use Rattle.hp_control.specs.States.{ControlState, lex_start, start}
 use Rattle.hp_lexer.proofs.Steady.{table_steady}
 use Rattle.hp_lexer.specs.Table.{table}
 use Rattle.hp_model.specs.Handling.{handle}
-use Rattle.hp_model.specs.Runs.{Parser, Step, goes, Goes, here as stays, onward as steps_on, at_start, followed_by, step}
+use Rattle.hp_model.specs.Runs.{Parser, Step, Goes, here as stays, onward as steps_on, at_start, followed_by, step}
 use Rattle.hp_runs.specs.Alike.{Alike, SameMove}
 use Rattle.hp_runs.specs.Handling.{left_after, made_after, AreQuiet}
 use Rattle.hp_runs.specs.Standing.{HasGone, HasRead}

@@ -1,4 +1,4 @@
--- What a step of the lexer, and the handling of its tokens, does to how far a run has come.
+-- What a step of the lexer in code tells of its tokens and of its moves.
 use Rattle.std.proofs.Common.{◌≡◌, ℕ, List, [], ◌∷◌, true, false, refl, ap, ◌∙◌, sym, subst}
 use Rattle.hp_elements.specs.declared.token.Token.{Token}
 use Rattle.hp_names.specs.References.{Reference}

@@ -1,4 +1,4 @@
--- The laws of steps.
+-- The laws of moves.
 use Rattle.std.specs.Prelude.{List}
 use Rattle.hp_elements.specs.declared.token.Token.{Token}
 use Rattle.hp_names.specs.References.{Reference}

@@ -1,4 +1,4 @@
-//! What the lexer's calls are as steps of the run.
+//! What is true of the moves of the lexer's table.
 
 ghost use Rattle.hp_runs.specs.Closing.{TagsRest};
 ghost use Rattle.hp_runs.specs.Filled.{AnswerFills, LeadsFilled, MovesFilled, ToldStays, UntoldAsks};
