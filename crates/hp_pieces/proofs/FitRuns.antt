@@ -1,5 +1,5 @@
 -- A run leads from a state of the lexer that can stand between two texts to such a state.
-use Rattle.std.proofs.Common.{◌≡◌, ℕ, List, [], ◌∷◌, Bool, true, false, cond, refl, ap, ◌∙◌, subst, sym, Option, None, Some}
+use Rattle.std.proofs.Common.{◌≡◌, ℕ, List, [], ◌∷◌, Bool, true, false, cond, refl, ap, ◌∙◌, subst, Option, None, Some}
 use Rattle.std.specs.Prelude.{IsSome}
 use Rattle.hp_elements.specs.declared.token.Mode.{Mode}
 use Rattle.hp_elements.specs.declared.token.Mode.TheVariants as mode
@@ -168,9 +168,3 @@ never_asked text s p es v g e =
 -- it rests only where more text is needed
 pub rests_for_more : (text : List ℕ) (s : ControlState) (p : Parser) (es : List Edit) → IsValid s → Runs built_in (parser_in s) text es p → move (table built_in) p.lexing ≡ needs_more
 rests_for_more text s p es v run = needs_there run (goes_keep run.goes (from_parts s.lex.machine v.lex.parts v.lex.last_tag))
-
--- where more text is needed, what was read ahead may go on
-pub rests-ahead : (text : List ℕ) (s : ControlState) (p : Parser) (es : List Edit) (l : Lexing) → IsValid s → Goes (step (table built_in)) (followed_by (parser_in s) text) es p
-    → l.machine ≡ p.lexing.machine → move (table built_in) l ≡ needs_more → may_be_ahead l.machine.state l.unread ≡ true
-rests-ahead text s p es l v g same e =
-    subst (MoveKeeps l.machine.state l.unread) e (move_keeps l (subst Fits (sym same) (goes_keep g (from_parts s.lex.machine v.lex.parts v.lex.last_tag))))

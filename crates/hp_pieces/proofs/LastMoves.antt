@@ -1,7 +1,7 @@
 -- The moves at the end of input, where what was read ahead has no `>`: but for the last they emit characters alone.
 use Rattle.std.proofs.Common.{◌≡◌, ℕ, zero, suc, List, [], ◌∷◌, Bool, true, false, ◌&&◌, cond, drop, refl, ap, ◌∙◌, subst, sym, Option, None, Some, ◌⊎◌, inl, inr}
 use Rattle.std.specs.Prelude.{◌==◌, IsTrue, not}
-use Rattle.std.proofs.lemmas.Bool.{and_parts, both_ways, eq-eqb, not-true}
+use Rattle.std.proofs.lemmas.Bool.{and_parts, both_ways, eq-eqb, eqb-true, not-true}
 use Rattle.hp_names.specs.References.{Reference}
 use Rattle.hp_names.specs.Longest.{longest}
 use Rattle.hp_names.specs.declared.names.Found.{Found}
@@ -29,8 +29,7 @@ use Rattle.hp_runs.proofs.RawRows as raw_read
 use Rattle.hp_runs.proofs.MarkupRows as markup_read
 use Rattle.hp_runs.proofs.TableRows.{began_read}
 use Rattle.hp_runs.specs.Closing.{AreCharacters}
-use Rattle.hp_runs.proofs.ClosingRows.{Closes, flushed-alone}
-use Rattle.hp_runs.proofs.ClosingTable.{began_alone, is_greater}
+use Rattle.hp_runs.proofs.ClosingRows.{Closes, began_alone, flushed-alone}
 use Rattle.hp_runs.proofs.ClosingTags as tag_closes
 use Rattle.hp_runs.proofs.ClosingRaw as raw_closes
 use Rattle.hp_runs.proofs.ClosingMarkup as markup_closes
@@ -47,6 +46,10 @@ none_dropped : (n : ℕ) (u : List ℕ) → has_none u ≡ true → has_none (dr
 none_dropped zero u h = h
 none_dropped (suc n) [] h = refl
 none_dropped (suc n) (c ∷ cs) h = none_dropped n cs (and_parts (not (c == 62)) (has_none cs) h).1
+
+is_greater : (c : ℕ) (b : Bool) → (cond b 10 c == 62) ≡ true → c ≡ 62
+is_greater c true h = cc
+is_greater c false h = eqb-true c 62 h
 
 -- the code point is no `>`
 no_greater : (c : ℕ) (cs : List ℕ) → has_none (c ∷ cs) ≡ true → (read_as c == 62) ≡ true → ⊥

@@ -1,42 +1,22 @@
 -- The tokens of the end of input, handled one behind the other, are the end of the run.
-use Rattle.std.proofs.Common.{◌≡◌, ℕ, List, [], ◌∷◌, ◌++◌, Bool, true, false, refl, ap, ◌∙◌, sym, subst, append_assoc}
-use Rattle.std.specs.Prelude.{◌==◌, ◌&&◌, not}
-use Rattle.std.proofs.lemmas.Bool.{eqb-true}
+use Rattle.std.proofs.Common.{◌≡◌, List, [], ◌++◌, true, ap, ◌∙◌, sym, subst, append_assoc}
 use Rattle.hp_elements.specs.declared.token.Token.{Token}
 use Rattle.hp_names.specs.References.{Reference}
 use Rattle.hp_tokens.specs.Advancing.{AreRuns, Ends as EndsText, singles, tokens_of}
 use Rattle.hp_tokens.specs.Moves.{Lexing, Emitted, makes, ends, end_move}
 use Rattle.hp_tokens.specs.Runs.{Leads, here, onward}
-use Rattle.hp_tokens.specs.declared.state.State.{State}
 use Rattle.hp_control.specs.States.{ControlState, may_be_ahead}
 use Rattle.hp_lexer.specs.Table.{table}
 use Rattle.hp_model.specs.Handling.{handle}
 use Rattle.hp_model.specs.Runs.{AreRead, EndsWith, last, before_it}
-use Rattle.hp_runs.specs.Closing.{EndsAtTag}
 use Rattle.hp_runs.specs.Tokens.{AllRead}
 use Rattle.hp_runs.specs.Handling.{AreQuiet, left_after, made_after}
 use Rattle.hp_runs.proofs.Batches.{at, built-made, made-append, quiet-step}
 use Rattle.hp_runs.proofs.Began.{tokens-append}
 use Rattle.hp_runs.proofs.Quiet.{characters-quiet}
 use Rattle.hp_runs.proofs.Together.{runs-read, read-join}
-use Rattle.hp_pieces.proofs.Ahead.{ahead-ends, has_none}
+use Rattle.hp_pieces.proofs.Ahead.{ahead-none, has_none}
 use Rattle.hp_pieces.proofs.LastMoves.{Last, end_move-last}
-
--- what was read ahead has no `>`
-not-none : (ys : List ℕ) → (ys ++ 62 ∷ []) ≡ [] → ⊥
-not-none [] e = cc
-not-none (y ∷ ys) e = cc
-
-none-here : (x : ℕ) (xs : List ℕ) (b : Bool) → (x == 62) ≡ b → (x ≡ 62 → (xs ++ 62 ∷ []) ≡ []) → has_none xs ≡ true → has_none (x ∷ xs) ≡ true
-none-here x xs true e h k = absurd (not-none xs (h (eqb-true x 62 e)))
-none-here x xs false e h k = ap (λ b. not b && has_none xs) e ∙ k
-
-none-before : (xs : List ℕ) → EndsAtTag (xs ++ 62 ∷ []) → has_none xs ≡ true
-none-before [] h = refl
-none-before (x ∷ xs) h = none-here x xs (x == 62) refl h.0 (none-before xs h.1)
-
-pub ahead-none : (s : State) (xs : List ℕ) → may_be_ahead s xs ≡ true → has_none xs ≡ true
-ahead-none s xs h = none-before xs (ahead-ends s xs (62 ∷ []) h (λ e. refl, tt))
 
 module _ (names : List Reference) where
   leads-read : {l k : Lexing} {es : List Emitted} → Leads (end_move (table names)) l es k → AreRead es

@@ -13,7 +13,6 @@ pub mod FitRuns
 pub mod SameRuns
 pub mod Joining
 pub mod Ahead
-pub mod Cutting
 pub mod LastRows
 pub mod LastMoves
 pub mod LastTokens

@@ -17,7 +17,7 @@ use Rattle.hp_lexer.proofs.Steady.{table_steady}
 use Rattle.hp_lexer.specs.Table.{table}
 use Rattle.hp_model.proofs.Running.{followed-again, goes-followed, goes-same}
 use Rattle.hp_model.specs.Handling.{handle}
-use Rattle.hp_model.specs.Runs.{Goes, here as stays, onward as steps_on, Parser, Rests, at_lexing, built, followed_by, goes, rests, step, step_by}
+use Rattle.hp_model.specs.Runs.{Goes, here as stays, onward as steps_on, Parser, Rests, at_lexing, built, followed_by, goes, step, step_by}
 use Rattle.hp_model.specs.Turns.{left_by}
 use Rattle.hp_runs.proofs.Existing.{run_exists}
 use Rattle.hp_runs.proofs.Own.{Touching, from-touching, own-goes, touch_found, touching-from}

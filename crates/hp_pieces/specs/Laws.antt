@@ -51,11 +51,6 @@ NeverAsked = (text : List ℕ) (s : ControlState) (p : Parser) (es : List Edit) 
 abbrev pub RestsForMore : Type 0
 RestsForMore = (text : List ℕ) (s : ControlState) (p : Parser) (es : List Edit) → IsValid s → Runs built_in (parser_in s) text es p → move (table built_in) p.lexing ≡ needs_more
 
--- Where the lexer of such a run needs more text, what it read ahead is the front of a word or of a reference's name that may go on.
-abbrev pub RestsAhead : Type 0
-RestsAhead = (text : List ℕ) (s : ControlState) (p : Parser) (es : List Edit) (l : Lexing) → IsValid s → Goes (step (table built_in)) (followed_by (parser_in s) text) es p
-    → l.machine ≡ p.lexing.machine → move (table built_in) l ≡ needs_more → may_be_ahead l.machine.state l.unread ≡ true
-
 -- the tokens of the end of input are as the lexer reads them
 abbrev pub EndsRead : Type 0
 EndsRead = (names : List Reference) (l : Lexing) (tokens : List Token) → EndsText (table names) l [] tokens → AllRead tokens × AreRuns tokens

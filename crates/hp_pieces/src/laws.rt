@@ -2,12 +2,12 @@
 
 ghost use Rattle.hp_pieces.specs.At.{AtCovers, AtEnd, AtFits, AtGoesOn, AtOnce, AtStart, AtValid};
 ghost use Rattle.hp_pieces.specs.FirstLaws.{FirstBefore, FirstExists, FirstInBytes, FirstOnce, FirstParts, OwnLeads, OwnOrTouches, OwnOverNothing, TouchesInside, WholeIsOwn};
-ghost use Rattle.hp_pieces.specs.Laws.{EndsHandled, EndsRead, GuessLeads, LeadsExist, LeadsJoin, LeadsOnce, LeadsValid, NeverAsked, PageBuilt, RestsAhead, RestingWaits, RestsForMore, RunsWait, StartWaits, WaitingStays};
+ghost use Rattle.hp_pieces.specs.Laws.{EndsHandled, EndsRead, GuessLeads, LeadsExist, LeadsJoin, LeadsOnce, LeadsValid, NeverAsked, PageBuilt, RestingWaits, RestsForMore, RunsWait, StartWaits, WaitingStays};
 
 /// From each state there is one run over each text, and it leads from a valid state to a valid one. The run over two texts in a row
 /// is that over the first and then that over the second, from where the first led. The run over a page and the end of input behind
-/// it build the page's tree. Along a run from a valid state the last start tag's name is never asked; it rests only where more text
-/// is needed; and where the lexer needs more text, what it read ahead may go on.
+/// it build the page's tree. Along a run from a valid state the last start tag's name is never asked, and it rests only where more
+/// text is needed.
 pub fn runs_between()
     ensures exist { LeadsExist }
     ensures once { LeadsOnce }
@@ -16,7 +16,6 @@ pub fn runs_between()
     ensures page { PageBuilt }
     ensures asked { NeverAsked }
     ensures rests { RestsForMore }
-    ensures ahead { RestsAhead }
 {}
 
 /// The tokens of the end of input, handled one behind the other, are the end of the run, whatever they call for.

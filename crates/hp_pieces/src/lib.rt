@@ -6,7 +6,6 @@ mod exact;
 mod fragment;
 mod guessed;
 mod laws;
-mod pieces;
 mod tokens;
 
 pub use ending::Ending;
@@ -14,5 +13,4 @@ pub use exact::Exact;
 pub use fragment::Fragment;
 pub use guessed::Guessed;
 pub use laws::{ends_of_text, firsts, pages_at, runs_between, states_wait};
-pub use pieces::cut;
 pub use tokens::of_page;

@@ -1,5 +1,5 @@
 -- Tokens that are handled at once touch what their code points touch, handled one by one; and texts and white space as one run.
-use Rattle.std.proofs.Common.{◌≡◌, ℕ, List, [], ◌∷◌, ◌++◌, map, Bool, true, false, not, refl, ap, ◌∙◌, sym, subst, append-nil, arith}
+use Rattle.std.proofs.Common.{◌≡◌, ℕ, List, [], ◌∷◌, ◌++◌, map, Bool, true, false, not, refl, ap, ◌∙◌, sym, append-nil, arith}
 use Rattle.std.specs.Prelude.{◌&&◌, ◌||◌}
 use Rattle.std.specs.List.{list_all, list_any}
 use Rattle.std.proofs.lemmas.Bool.{and_parts}
@@ -108,6 +108,3 @@ pub white_same : (x : ℕ) (xs : List ℕ) (c : ControlState) → IsValid c → 
 white_same x xs c v h =
     same_then (each_at_once c (map character (x ∷ xs))) (handle c (token.Characters White (x ∷ xs))) (handle_at_once c (token.Characters White (x ∷ xs)))
     (same_by (each_at_once c (map character (x ∷ xs))) (handle c (token.Characters White (x ∷ xs))) (each_handled (x ∷ xs) c h)) (characters_at_once White x xs c v)
-
-pub white_valid : (x : ℕ) (xs : List ℕ) (c : ControlState) → IsValid c → IsValid (left_by (handle_at_once c (token.Characters White (x ∷ xs))))
-white_valid x xs c v = subst IsValid (characters_at_once White x xs c v).control (handle-valid (token.Characters White (x ∷ xs)) c tt v)

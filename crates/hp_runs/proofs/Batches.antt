@@ -28,10 +28,6 @@ module _ (does : Handler) where
   quiet-split c [] ys h = (tt, h)
   quiet-split c (x ∷ xs) ys h = let rest = quiet-split (left_by (does c x)) xs ys h.1 in ((h.0, rest.0), rest.1)
 
-  pub quiet-join : (c : ControlState) (xs ys : List Token) → AreQuiet does c xs → AreQuiet does (left_after does c xs) ys → AreQuiet does c (xs ++ ys)
-  quiet-join c [] ys h k = k
-  quiet-join c (x ∷ xs) ys h k = (h.0, quiet-join (left_by (does c x)) xs ys h.1 k)
-
 abbrev pub at : Lexing → ControlState → Parser
 at l c = record { lexing = l; control = c }
 

@@ -1,10 +1,10 @@
 -- The rows of markup emit characters alone, but where they consume `>`.
-use Rattle.std.proofs.Common.{ℕ, Bool, true, false, ◌&&◌, not, Some, refl}
+use Rattle.std.proofs.Common.{ℕ, Some}
 use Rattle.std.specs.Prelude.{IsTrue}
 use Rattle.hp_tokens.specs.declared.state.State.{State}
 use Rattle.hp_tokens.specs.declared.state.State.TheVariants.{BogusComment, MarkupDeclarationOpen, CommentStart, CommentStartDash, Comment, CommentLessThanSign, CommentLessThanSignBang, CommentLessThanSignBangDash, CommentLessThanSignBangDashDash, CommentEndDash, CommentEnd, CommentEndBang, Doctype, BeforeDoctypeName, DoctypeName, AfterDoctypeName, AfterDoctypePublicKeyword, BeforeDoctypePublicIdentifier, DoctypePublicIdentifierDoubleQuoted, DoctypePublicIdentifierSingleQuoted, AfterDoctypePublicIdentifier, BetweenDoctypePublicAndSystemIdentifiers, AfterDoctypeSystemKeyword, BeforeDoctypeSystemIdentifier, DoctypeSystemIdentifierDoubleQuoted, DoctypeSystemIdentifierSingleQuoted, AfterDoctypeSystemIdentifier, BogusDoctype, CdataSection, CdataSectionBracket, CdataSectionEnd}
 use Rattle.hp_tokens.specs.declared.machine.Machine.{Machine}
-use Rattle.hp_lex_markup.specs.Rows.{row, row_of, is_here, reads_word, has_row}
+use Rattle.hp_lex_markup.specs.Rows.{row, row_of, is_here}
 use Rattle.hp_runs.proofs.ClosingRows.{closes, Closes}
 
 each_closes : (s : State) (m : Machine) (c : ℕ) → IsTrue (is_here s) → Closes c (row_of s m (Some c))
@@ -44,10 +44,3 @@ each_closes _ m c h = cc
 -- of each state of this part; of those that read by their row alone
 pub here_closes : (m : Machine) (c : ℕ) → IsTrue (is_here m.state) → Closes c (row m (Some c))
 here_closes m c h = each_closes m.state m c h
-
-is_first : (a b : Bool) → IsTrue (a && b) → IsTrue a
-is_first true b h = refl
-is_first false b h = h
-
-pub row_closes : (m : Machine) (c : ℕ) → IsTrue (has_row m.state) → Closes c (row m (Some c))
-row_closes m c h = here_closes m c (is_first (is_here m.state) (not (reads_word m.state)) h)

@@ -1,5 +1,5 @@
 -- Rows made by the combinators emit characters alone, but where they consume `>`.
-use Rattle.std.proofs.Common.{◌≡◌, ℕ, List, [], ◌∷◌, ◌++◌, Bool, true, false, cond, map, refl, ◌⊎◌, inl, inr}
+use Rattle.std.proofs.Common.{◌≡◌, ℕ, List, [], ◌∷◌, ◌++◌, Bool, true, false, cond, map, refl, subst, sym, ◌⊎◌, inl, inr}
 use Rattle.std.specs.Prelude.{◌==◌}
 use Rattle.hp_elements.specs.declared.token.Token.{Token}
 use Rattle.hp_tokens.specs.declared.state.State.{State}
@@ -7,9 +7,12 @@ use Rattle.hp_tokens.specs.declared.building.Part.TheVariants.{Value}
 use Rattle.hp_tokens.specs.declared.machine.Machine.{Machine}
 use Rattle.hp_tokens.specs.declared.rows.Reads.TheVariants.{Consume}
 use Rattle.hp_tokens.specs.States.{return_state, is_in_value}
+use Rattle.hp_tokens.specs.Advancing.{tokens_of}
+use Rattle.hp_tokens.specs.Moves.{all_began}
 use Rattle.hp_tokens.specs.Parts.{put}
 use Rattle.hp_tokens.specs.Rows.{Row, character, go, again, stay, plus, back, emitting_built, emitting_buffer, flushing, flushed_tokens}
 use Rattle.hp_runs.specs.Closing.{AreCharacters}
+use Rattle.hp_runs.proofs.Began.{tokens-began}
 
 pub record Closes (c : ℕ) (r : Row) : Type 0 where
   pub how : AreCharacters r.emits ⊎ (((c == 62) ≡ true) × (r.reads ≡ Consume))
@@ -72,3 +75,6 @@ flushed-alone m = by_cases (is_in_value m.return_to)
     by_cases : (b : Bool) → AreCharacters (cond b [] (map character m.buffer))
     by_cases true = tt
     by_cases false = characters-alone m.buffer
+
+pub began_alone : (place : ℕ) (ts : List Token) → AreCharacters ts → AreCharacters (tokens_of (all_began place ts))
+began_alone place ts h = subst AreCharacters (sym (tokens-began place ts)) h

@@ -17,7 +17,6 @@ pub mod ClosingRows
 pub mod ClosingTags
 pub mod ClosingRaw
 pub mod ClosingMarkup
-pub mod ClosingTable
 pub mod SettlingRows
 pub mod Settling
 pub mod FillingRows

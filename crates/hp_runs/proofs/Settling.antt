@@ -23,8 +23,7 @@ use Rattle.hp_lex_markup.specs.Words.{asks, count, is_open, word}
 use Rattle.hp_lex_markup.specs.declared.words.Word.{Word}
 use Rattle.hp_lexer.specs.Table.{table}
 use Rattle.hp_runs.specs.Closing.{AreCharacters, TagsRest}
-use Rattle.hp_runs.proofs.ClosingRows.{flushed-alone}
-use Rattle.hp_runs.proofs.ClosingTable.{began_alone}
+use Rattle.hp_runs.proofs.ClosingRows.{began_alone, flushed-alone}
 use Rattle.hp_runs.proofs.SettlingRows.{Settles, markup_settles, raw_settle, tags_settle}
 
 -- what a move leaves

@@ -1,7 +1,6 @@
 -- Tokens that are handled at once, and the tokens of the table of which they consist.
-use Rattle.std.proofs.Common.{◌≡◌, ℕ, List, [], ◌∷◌, ◌++◌, refl, ap, ◌∙◌, sym, subst, append-nil, map, Option, None, Some}
+use Rattle.std.proofs.Common.{◌≡◌, ℕ, List, [], ◌∷◌, ◌++◌, refl, ap, ◌∙◌, sym, subst, append-nil, map}
 use Rattle.hp_elements.specs.declared.token.CharClass.{CharClass}
-use Rattle.hp_elements.specs.declared.token.Rest.{Rest}
 use Rattle.hp_elements.specs.declared.token.Token.{Token}
 use Rattle.hp_elements.specs.declared.token.Token.TheVariants as token
 use Rattle.hp_tokens.specs.Advancing.{AreRuns, single, singles, tokens_of}
@@ -13,12 +12,11 @@ use Rattle.hp_control.specs.Tree.{Tree, applied, applied_all}
 use Rattle.hp_model.proofs.Handled.{handle-valid}
 use Rattle.hp_model.specs.Handling.{handle, handle_all, handle_piece}
 use Rattle.hp_model.specs.Runs.{AreRead, ReadsHtml}
-use Rattle.hp_model.specs.Turns.{Handled, later, left_by}
+use Rattle.hp_model.specs.Turns.{Handled, left_by}
 use Rattle.hp_model.specs.Whole.{IsRead}
-use Rattle.hp_model.specs.AtOnce.{LeaveSame, MakeSame, RunsAtOnce, handle_at_once}
+use Rattle.hp_model.specs.AtOnce.{RunsAtOnce, handle_at_once}
 use Rattle.hp_runs.specs.Tokens.{AllRead}
-use Rattle.hp_runs.specs.Handling.{AreQuiet, left_after, made_after}
-use Rattle.hp_runs.proofs.Batches.{left-append, made-append, quiet-join}
+use Rattle.hp_runs.specs.Handling.{left_after, made_after}
 
 pub applied-append : (t : Tree) (es fs : List Edit) → applied_all t (es ++ fs) ≡ applied_all (applied_all t es) fs
 applied-append t [] fs = refl
@@ -57,17 +55,6 @@ runs-read es ts same h = singles-read ts (subst AllRead (sym same) (tokens-read 
 abbrev letters : CharClass → List ℕ → List Token
 letters class text = map (λ x. token.Characters class (x ∷ [])) text
 
-no-later : (a b : Option Rest) → later a b ≡ None → (a ≡ None) × (b ≡ None)
-no-later a None h = (h, refl)
-no-later a (Some rest) h = cc
-
-letters-quiet : (class : CharClass) (text : List ℕ) (c : ControlState) → (handle_all c (letters class text)).switch ≡ None → AreQuiet handle c (letters class text)
-letters-quiet class [] c h = tt
-letters-quiet class (x ∷ xs) c h =
-    let first : Handled = handle_piece c (token.Characters class (x ∷ [])) in
-    let parts = no-later first.switch (handle_all (left_by first) (letters class xs)).switch h in
-    (parts.0, letters-quiet class xs (left_by first) parts.1)
-
 letters-left : (class : CharClass) (text : List ℕ) (c : ControlState) → left_after handle c (letters class text) ≡ left_by (handle_all c (letters class text))
 letters-left class [] c = refl
 letters-left class (x ∷ xs) c = letters-left class xs (left_by (handle_piece c (token.Characters class (x ∷ []))))
@@ -78,10 +65,6 @@ letters-made class (x ∷ xs) c =
     let first : Handled = handle_piece c (token.Characters class (x ∷ [])) in
     ap (λ (es : List Edit). es ++ made_after handle (left_by first) (letters class xs)) (append-nil first.outcome.edits)
     ∙ ap (λ (es : List Edit). first.outcome.edits ++ es) (letters-made class xs (left_by first))
-
-quiet-single : (c : ControlState) (t : Token) → (handle c t).switch ≡ None → AreQuiet handle c (single t)
-quiet-single c (token.Characters class text) h = letters-quiet class text c h
-quiet-single c t h = (h, tt)
 
 pub left-single : (c : ControlState) (t : Token) → left_after handle c (single t) ≡ left_by (handle c t)
 left-single c (token.Characters class text) = letters-left class text c
@@ -94,34 +77,3 @@ made-single c t = append-nil (handle c t).outcome.edits
 -- a token at once leaves a valid state
 pub at_once-valid : RunsAtOnce → (t : Token) (c : ControlState) → IsRead t → AreRuns (t ∷ []) → IsValid c → IsValid (left_by (handle_at_once c t))
 at_once-valid law t c read runs v = subst IsValid (law t c read runs.0 v).control (handle-valid t c read v)
-
--- the tokens of the table do what the runs do at once
-pub record Comes (c : ControlState) (ts : List Token) : Type 0 where
-  pub quiet : AreQuiet handle c (singles ts)
-  pub left : left_after handle c (singles ts) ≡ left_after handle_at_once c ts
-  pub made : MakeSame (made_after handle c (singles ts)) (made_after handle_at_once c ts)
-
--- one token more
-comes-on : (t : Token) (ts : List Token) (c : ControlState) → LeaveSame (handle c t) (handle_at_once c t) → (handle_at_once c t).switch ≡ None → Comes (left_by (handle c t)) ts → Comes c (t ∷ ts)
-comes-on t ts c same q rest = record {
-  quiet = quiet-join handle c (single t) (singles ts) (quiet-single c t (same.switch ∙ q)) (subst (λ (x : ControlState). AreQuiet handle x (singles ts)) (sym (left-single c t)) rest.quiet);
-  left =
-      left-append handle c (single t) (singles ts)
-      ∙ (ap (λ (x : ControlState). left_after handle x (singles ts)) (left-single c t)
-      ∙ (rest.left ∙ ap (λ (x : ControlState). left_after handle_at_once x ts) same.control));
-  made = λ tree.
-      ap (applied_all tree) (made-append handle c (single t) (singles ts) ∙ ap (λ (es : List Edit). es ++ made_after handle (left_after handle c (single t)) (singles ts)) (made-single c t))
-      ∙ (ap (λ (x : ControlState). applied_all tree ((handle c t).outcome.edits ++ made_after handle x (singles ts))) (left-single c t)
-      ∙ (applied-append tree (handle c t).outcome.edits (made_after handle (left_by (handle c t)) (singles ts))
-      ∙ (ap (λ (x : Tree). applied_all x (made_after handle (left_by (handle c t)) (singles ts))) (same.edits tree)
-      ∙ (rest.made (applied_all tree (handle_at_once c t).outcome.edits)
-      ∙ (ap (λ (x : ControlState). applied_all (applied_all tree (handle_at_once c t).outcome.edits) (made_after handle_at_once x ts)) same.control
-      ∙ sym (applied-append tree (handle_at_once c t).outcome.edits (made_after handle_at_once (left_by (handle_at_once c t)) ts)))))));
-}
-
-pub together : RunsAtOnce → (ts : List Token) (c : ControlState) → AllRead ts → AreRuns ts → IsValid c → AreQuiet handle_at_once c ts → Comes c ts
-together law [] c read runs v q = record { quiet = tt; left = refl; made = λ t. refl }
-together law (t ∷ ts) c read runs v q =
-    let same : LeaveSame (handle c t) (handle_at_once c t) = law t c read.0 runs.0 v in
-    comes-on t ts c same q.0
-    (together law ts (left_by (handle c t)) read.1 runs.1 (handle-valid t c read.0 v) (subst (λ (x : ControlState). AreQuiet handle_at_once x ts) (sym same.control) q.1))

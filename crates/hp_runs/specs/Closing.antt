@@ -1,5 +1,5 @@
--- What is no character is emitted where the lexer comes to a rest; and text in which `>` stands last.
-use Rattle.std.specs.Prelude.{◌≡◌, ◌⊎◌, ℕ, true, List, [], ◌∷◌, ◌++◌}
+-- What is no character is emitted where the lexer comes to a rest.
+use Rattle.std.specs.Prelude.{◌≡◌, ◌⊎◌, true, List, [], ◌∷◌, ◌++◌}
 use Rattle.hp_elements.specs.declared.token.Token.{Token}
 use Rattle.hp_elements.specs.declared.token.Token.TheVariants as token
 use Rattle.hp_names.specs.References.{Reference}
@@ -7,11 +7,6 @@ use Rattle.hp_tokens.specs.Advancing.{tokens_of}
 use Rattle.hp_tokens.specs.Moves.{Emitted, Lexing, Move, makes, move}
 use Rattle.hp_tokens.specs.States.{is_resting}
 use Rattle.hp_lexer.specs.Table.{table}
-
--- nothing stands behind a `>`
-abbrev pub EndsAtTag : List ℕ → Type 0
-EndsAtTag [] = Unit {0}
-EndsAtTag (c ∷ cs) = (c ≡ 62 → cs ≡ []) × EndsAtTag cs
 
 abbrev pub AreCharacters : List Token → Type 0
 AreCharacters [] = Unit {0}

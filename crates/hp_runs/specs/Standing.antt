@@ -1,8 +1,8 @@
 -- How far the sequential parser has come over a text, told by where the lexer stands in a piece of it (13.2).
-use Rattle.std.specs.Prelude.{◌≡◌, ℕ, List, [], ◌∷◌}
+use Rattle.std.specs.Prelude.{ℕ, List}
 use Rattle.hp_names.specs.References.{Reference}
-use Rattle.hp_tokens.specs.Moves.{Lexing, Emitted, makes, move}
-use Rattle.hp_tokens.specs.Runs.{Leads, followed_by as more_unread}
+use Rattle.hp_tokens.specs.Moves.{Lexing}
+use Rattle.hp_tokens.specs.Runs.{followed_by as more_unread}
 use Rattle.hp_control.specs.declared.edit.Edit.{Edit}
 use Rattle.hp_control.specs.States.{ControlState}
 use Rattle.hp_lexer.specs.Table.{table}
@@ -19,9 +19,3 @@ pub record HasGone (names : List Reference) (from : Parser) (here : Lexing) (lat
 -- the same from a page's start
 abbrev pub HasRead : List Reference → List ℕ → Lexing → List ℕ → ControlState → List Edit → Type 0
 HasRead names page here later c edits = HasGone names (followed_by at_start page) here later c edits
-
--- Moves emitted a token by the last of them, and nothing before it.
-pub record EmitsLast (names : List Reference) (l : Lexing) (e : Emitted) (k : Lexing) : Type 0 where
-  pub mid : Lexing
-  pub leads : Leads (move (table names)) l [] mid
-  pub last : move (table names) mid ≡ makes k (e ∷ [])

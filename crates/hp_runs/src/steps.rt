@@ -1,8 +1,8 @@
-//! What the lexer's calls are as steps of the run.
+//! What is true of the moves of the lexer's table.
 
 ghost use Rattle.hp_runs.specs.Closing.{TagsRest};
 ghost use Rattle.hp_runs.specs.Filled.{AnswerFills, LeadsFilled, MovesFilled, ToldStays, UntoldAsks};
-ghost use Rattle.hp_runs.specs.Laws.{BatchSteps, CharactersQuiet, EndMovesSame, LoudStep, MovesSame, QuietSteps, TagsClose};
+ghost use Rattle.hp_runs.specs.Laws.{CharactersQuiet, EndMovesSame, MovesSame};
 
 /// Places are only counted: lexers that have the same machine and the same unread text make the same moves.
 pub fn places_count()
@@ -19,15 +19,9 @@ pub fn names_wait()
     ensures answer { AnswerFills }
 {}
 
-/// What is no character is emitted by a move that ends at a rest. In a text in which nothing stands behind a `>`, such a token is
-/// the last that is emitted. Tokens that switch the lexer nowhere, and one that may and was emitted last, are steps of the run, with
-/// the edits of their handling. Characters switch it nowhere, and so all tokens of some moves are such steps, each switch behind its
-/// token.
+/// What is no character is emitted by a move that ends at a rest, where a switch that it calls for takes effect. Characters switch
+/// the lexer nowhere.
 pub fn tokens_step()
     ensures rest { TagsRest }
-    ensures close { TagsClose }
-    ensures quiet { QuietSteps }
-    ensures loud { LoudStep }
     ensures characters { CharactersQuiet }
-    ensures batch { BatchSteps }
 {}

@@ -1,5 +1,5 @@
-//! The acts that set one field.
-ghost use Rattle.std.specs.Prelude.{◌≡◌};
+//! The acts that set one field. Those that may cross take no memory.
+ghost use Rattle.std.specs.Prelude.{◌≡◌, ◌≢◌, Err};
 ghost use Rattle.hp_views.specs.Steps.{append_pending_step, empty_form_step, empty_pending_step, frameset_step, keep_step, original_step, point_form_step, point_head_step, pop_mode_step, push_mode_step, quirks_step, replace_mode_step, skip_step, switch_step};
 ghost use Rattle.hp_views.specs.View.{sight, Carries, Meets};
 
@@ -62,7 +62,8 @@ impl<'p, B: Below> View<'p, B> {
 
     /// The last template mode goes. An older one isn't this view's to take.
     pub fn pop_template_mode(&mut self, _alloc: Global) -> Result<(), Refusal>
-        ensures { Meets result (sight B.heard self.old) (sight B.heard self.new) pop_mode_step }
+        ensures plan { Meets result (sight B.heard self.old) (sight B.heard self.new) pop_mode_step }
+        ensures no_memory { result ≢ Err Refusal.NoMemory }
     {
         if self.change.templates.is_empty() {
             return self.without_template_mode();
@@ -73,7 +74,8 @@ impl<'p, B: Below> View<'p, B> {
 
     /// Another mode in place of the last template mode. An older one isn't this view's to replace.
     pub fn replace_template_mode(&mut self, _alloc: Global, mode: Mode) -> Result<(), Refusal>
-        ensures { Meets result (sight B.heard self.old) (sight B.heard self.new) (replace_mode_step mode) }
+        ensures plan { Meets result (sight B.heard self.old) (sight B.heard self.new) (replace_mode_step mode) }
+        ensures no_memory { result ≢ Err Refusal.NoMemory }
     {
         if self.change.templates.is_empty() {
             return self.without_template_mode();
@@ -84,7 +86,8 @@ impl<'p, B: Below> View<'p, B> {
 
     /// The last template mode isn't the view's own.
     fn without_template_mode(&mut self) -> Result<(), Refusal>
-        ensures { Carries result (sight B.heard self.old) (sight B.heard self.new) (λ v. last_mode_on v.page v) }
+        ensures plan { Carries result (sight B.heard self.old) (sight B.heard self.new) (λ v. last_mode_on v.page v) }
+        ensures no_memory { result ≢ Err Refusal.NoMemory }
     {
         match self.page {
             Some(_) => Ok(()),
@@ -112,7 +115,8 @@ impl<'p, B: Below> View<'p, B> {
 
     /// The page is in quirks mode.
     pub fn set_quirks(&mut self, _alloc: Global) -> Result<(), Refusal>
-        ensures { Meets result (sight B.heard self.old) (sight B.heard self.new) quirks_step }
+        ensures plan { Meets result (sight B.heard self.old) (sight B.heard self.new) quirks_step }
+        ensures no_memory { result ≢ Err Refusal.NoMemory }
     {
         match self.page {
             Some(facts) => {
@@ -128,7 +132,8 @@ impl<'p, B: Below> View<'p, B> {
 
     /// The head pointer points at the current node.
     pub fn point_head(&mut self, _alloc: Global) -> Result<(), Refusal>
-        ensures { Meets result (sight B.heard self.old) (sight B.heard self.new) point_head_step }
+        ensures plan { Meets result (sight B.heard self.old) (sight B.heard self.new) point_head_step }
+        ensures no_memory { result ≢ Err Refusal.NoMemory }
     {
         match self.page {
             Some(facts) => {
@@ -155,7 +160,8 @@ impl<'p, B: Below> View<'p, B> {
 
     /// There are no pending table characters any more. Those of an older state are not this view's to take.
     pub fn empty_pending(&mut self, _alloc: Global) -> Result<(), Refusal>
-        ensures { Meets result (sight B.heard self.old) (sight B.heard self.new) empty_pending_step }
+        ensures plan { Meets result (sight B.heard self.old) (sight B.heard self.new) empty_pending_step }
+        ensures no_memory { result ≢ Err Refusal.NoMemory }
     {
         if self.older_text {
             return Err(Refusal::Crossed(Crossing::X7));

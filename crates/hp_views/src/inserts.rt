@@ -1,5 +1,5 @@
 //! The edits that acts make.
-ghost use Rattle.std.specs.Prelude.{◌≡◌, ◌∷◌, true, IfOk};
+ghost use Rattle.std.specs.Prelude.{◌≡◌, ◌≢◌, ◌∷◌, true, IfOk, Err, IsNone};
 ghost use Rattle.hp_control.specs.Acts.{element_for, point_in};
 ghost use Rattle.hp_control.specs.Plan.{gives};
 ghost use Rattle.hp_views.specs.Steps.{add_body_step, add_first_step, detach_step, insert_document_step, insert_step, put_document_step, put_first_step, put_step};
@@ -213,7 +213,8 @@ impl<'p, B: Below> View<'p, B> {
 
     /// Takes the body out of the tree.
     pub fn detach_body(&mut self, alloc: Global) -> Result<(), Refusal>
-        ensures { Meets result (sight B.heard self.old) (sight B.heard self.new) detach_step }
+        ensures plan { Meets result (sight B.heard self.old) (sight B.heard self.new) detach_step }
+        ensures no_memory { IsNone self.old.page → result ≢ Err Refusal.NoMemory }
     {
         if self.page.is_none() {
             return Err(Refusal::Crossed(Crossing::X5));

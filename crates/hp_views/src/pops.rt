@@ -1,5 +1,5 @@
 //! Popping elements off the stack.
-ghost use Rattle.std.specs.Prelude.{◌≡◌, ◌≤◌, length, Ok, OnOk};
+ghost use Rattle.std.specs.Prelude.{◌≡◌, ◌≢◌, ◌≤◌, length, Ok, Err, OnOk, IsNone};
 ghost use Rattle.hp_views.specs.Steps.{pop_run_step, pop_step, pop_to_first_step, pop_to_step, through_step};
 ghost use Rattle.hp_views.specs.View.{sight, split_of, Carries, Meets};
 ghost use Rattle.hp_views.specs.StackPlans.{own_popped, pop_run_on, pop_to_on, through_on};
@@ -151,7 +151,8 @@ impl<'p, B: Below> View<'p, B> {
 
     /// Pops all but the first element.
     pub fn pop_to_first(&mut self, _alloc: Global) -> Result<(), Refusal>
-        ensures { Meets result (sight B.heard self.old) (sight B.heard self.new) pop_to_first_step }
+        ensures plan { Meets result (sight B.heard self.old) (sight B.heard self.new) pop_to_first_step }
+        ensures no_memory { IsNone self.old.page → result ≢ Err Refusal.NoMemory }
     {
         match self.page {
             Some(_) => self.pop_past(0),

@@ -27,10 +27,10 @@ pub returns-in-PushTemplateMode : goal.returns-in-PushTemplateMode
 returns-in-PushTemplateMode g c = record { plan = by_act field_plan c.push_template_mode.result (sight g.B.Below.heard c.args.view.now) (sight g.B.Below.heard c.push_template_mode.new.self) c.args.act (act.PushTemplateMode c.in-PushTemplateMode.mode) c.in-PushTemplateMode.is c.push_template_mode.ensures }
 
 pub returns-in-ReplaceTemplateMode : goal.returns-in-ReplaceTemplateMode
-returns-in-ReplaceTemplateMode g c = record { plan = by_act field_plan c.replace_template_mode.result (sight g.B.Below.heard c.args.view.now) (sight g.B.Below.heard c.replace_template_mode.new.self) c.args.act (act.ReplaceTemplateMode c.in-ReplaceTemplateMode.mode) c.in-ReplaceTemplateMode.is c.replace_template_mode.ensures }
+returns-in-ReplaceTemplateMode g c = record { plan = by_act field_plan c.replace_template_mode.result (sight g.B.Below.heard c.args.view.now) (sight g.B.Below.heard c.replace_template_mode.new.self) c.args.act (act.ReplaceTemplateMode c.in-ReplaceTemplateMode.mode) c.in-ReplaceTemplateMode.is c.replace_template_mode.ensures.plan }
 
 pub returns-in-PopTemplateMode : goal.returns-in-PopTemplateMode
-returns-in-PopTemplateMode g c = record { plan = by_act field_plan c.pop_template_mode.result (sight g.B.Below.heard c.args.view.now) (sight g.B.Below.heard c.pop_template_mode.new.self) c.args.act act.PopTemplateMode c.in-PopTemplateMode.is c.pop_template_mode.ensures }
+returns-in-PopTemplateMode g c = record { plan = by_act field_plan c.pop_template_mode.result (sight g.B.Below.heard c.args.view.now) (sight g.B.Below.heard c.pop_template_mode.new.self) c.args.act act.PopTemplateMode c.in-PopTemplateMode.is c.pop_template_mode.ensures.plan }
 
 pub returns-in-SkipLineFeed : goal.returns-in-SkipLineFeed
 returns-in-SkipLineFeed g c = record { plan = by_act field_plan c.skip_line_feed.result (sight g.B.Below.heard c.args.view.now) (sight g.B.Below.heard c.skip_line_feed.new.self) c.args.act act.SkipLineFeed c.in-SkipLineFeed.is c.skip_line_feed.ensures }
@@ -39,7 +39,7 @@ pub returns-in-FormPointer : goal.returns-in-FormPointer
 returns-in-FormPointer g c = record { plan = by_act field_plan c.point_form.result (sight g.B.Below.heard c.args.view.now) (sight g.B.Below.heard c.point_form.new.self) c.args.act act.FormPointer c.in-FormPointer.is c.point_form.ensures }
 
 pub returns-in-HeadPointer : goal.returns-in-HeadPointer
-returns-in-HeadPointer g c = record { plan = by_act field_plan c.point_head.result (sight g.B.Below.heard c.args.view.now) (sight g.B.Below.heard c.point_head.new.self) c.args.act act.HeadPointer c.in-HeadPointer.is c.point_head.ensures }
+returns-in-HeadPointer g c = record { plan = by_act field_plan c.point_head.result (sight g.B.Below.heard c.args.view.now) (sight g.B.Below.heard c.point_head.new.self) c.args.act act.HeadPointer c.in-HeadPointer.is c.point_head.ensures.plan }
 
 pub returns-in-PushHead : goal.returns-in-PushHead
 returns-in-PushHead g c = record { plan = by_act field_plan c.push_head.result (sight g.B.Below.heard c.args.view.now) (sight g.B.Below.heard c.push_head.new.self) c.args.act act.PushHead c.in-PushHead.is c.push_head.ensures }
@@ -48,10 +48,10 @@ pub returns-in-TakeHeadOff : goal.returns-in-TakeHeadOff
 returns-in-TakeHeadOff g c = record { plan = by_act field_plan c.take_head_off.result (sight g.B.Below.heard c.args.view.now) (sight g.B.Below.heard c.take_head_off.new.self) c.args.act act.TakeHeadOff c.in-TakeHeadOff.is c.take_head_off.ensures }
 
 pub returns-in-Quirks : goal.returns-in-Quirks
-returns-in-Quirks g c = record { plan = by_act field_plan c.set_quirks.result (sight g.B.Below.heard c.args.view.now) (sight g.B.Below.heard c.set_quirks.new.self) c.args.act act.Quirks c.in-Quirks.is c.set_quirks.ensures }
+returns-in-Quirks g c = record { plan = by_act field_plan c.set_quirks.result (sight g.B.Below.heard c.args.view.now) (sight g.B.Below.heard c.set_quirks.new.self) c.args.act act.Quirks c.in-Quirks.is c.set_quirks.ensures.plan }
 
 pub returns-in-EmptyPending : goal.returns-in-EmptyPending
-returns-in-EmptyPending g c = record { plan = by_act field_plan c.empty_pending.result (sight g.B.Below.heard c.args.view.now) (sight g.B.Below.heard c.empty_pending.new.self) c.args.act act.EmptyPending c.in-EmptyPending.is c.empty_pending.ensures }
+returns-in-EmptyPending g c = record { plan = by_act field_plan c.empty_pending.result (sight g.B.Below.heard c.args.view.now) (sight g.B.Below.heard c.empty_pending.new.self) c.args.act act.EmptyPending c.in-EmptyPending.is c.empty_pending.ensures.plan }
 
 pub returns-in-Flush : goal.returns-in-Flush
 returns-in-Flush g c = record { plan = by_act field_plan c.flush.result (sight g.B.Below.heard c.args.view.now) (sight g.B.Below.heard c.flush.new.view) c.args.act act.Flush c.in-Flush.is c.flush.ensures }
