@@ -103,6 +103,7 @@ fn tells_last_tag<'p, B: Below>(alloc: Global, view: &mut View<'p, B>) -> bool {
 /// Whether the older current node is HTML, and a text goes into it.
 fn reads_below<'p, B: Below>(alloc: Global, view: &mut View<'p, B>) -> bool {
     matches!(view.current_is(alloc, Kinds::AnyHtml), Ok(true))
+        && may_take_text(view)
         && handle_text_below(alloc, view, Text::of_char('a')).is_ok()
 }
 
@@ -125,7 +126,7 @@ fn comes_out<'p, B: Below>(alloc: Global, view: &mut View<'p, B>, step: Step) ->
         }
         Step::Handles(known) => handle(alloc, view, start(known)).is_ok(),
         Step::Reads => takes_text(view) && handle_text(alloc, view, Text::of_char('a')).is_ok(),
-        Step::ReadsBelow => may_take_text(view) && reads_below(alloc, view),
+        Step::ReadsBelow => reads_below(alloc, view),
         Step::IsHtml => matches!(view.foreign_now(alloc), Ok(false)),
         Step::LastTag => tells_last_tag(alloc, view),
         Step::EmptiesForm => view.empty_form(alloc).is_ok(),
