@@ -1,6 +1,6 @@
 -- The short way of a run of text comes to the same as the rows.
 use Rattle.std.proofs.Common.{◌≡◌, ℕ, suc, ◌-◌, ◌<◌, true, false, List, [], ◌∷◌, Option, Some, None, Result, Ok, Err, length, refl, ap, sym, subst, ◌∙◌, arith}
-use Rattle.std.specs.Prelude.{Bool, if◌then◌else◌, not, ◌||◌, ◌&&◌, ◌==◌}
+use Rattle.std.specs.Prelude.{Bool, if◌then◌else◌, not, ◌||◌, ◌&&◌, ◌==◌, ◌++◌}
 use Rattle.std.specs.List.{list_all}
 use Rattle.std.specs.Result.{IsErrAnd}
 use Rattle.std.proofs.lemmas.Bool.{eqb-true}
@@ -17,11 +17,13 @@ use Rattle.hp_control.specs.declared.change.Refusal.TheVariants.{Crossed, NoMemo
 use Rattle.hp_control.specs.declared.element.OpenElement.{OpenElement}
 use Rattle.hp_control.specs.Faithful.{Page, Split}
 use Rattle.hp_control.specs.Foreign.{enters, is_annotation, is_svg_start}
-use Rattle.hp_control.specs.Plan.{Plan, gives, crosses, asks, followed_by, Heard, Runs}
+use Rattle.hp_control.specs.Plan.{Plan, gives, crosses, asks, asked_by, end_by, followed_by, Heard, Runs}
+use Rattle.hp_control.specs.declared.question.Answer.{Answer}
 use Rattle.hp_control.specs.declared.question.Crossing.{Crossing}
+use Rattle.hp_control.specs.declared.question.Question.{Question}
 use Rattle.hp_adoption.specs.ReconPlans.{reconstruct_plan}
 use Rattle.hp_control.specs.declared.edit.Child.TheVariants as child
-use Rattle.hp_control.specs.Running.{runs_crosses, runs_gives, runs_then}
+use Rattle.hp_control.specs.Running.{asked_then, on_asked, runs_crosses, runs_gives, runs_then}
 use Rattle.hp_foreign.specs.Plans.{goes_on, goes_plan, unless_html}
 use Rattle.hp_rules_rest.specs.Whole.{every_mode_rows}
 use Rattle.hp_views.specs.FieldPlans.{frameset_plan}
@@ -30,7 +32,7 @@ use Rattle.hp_views.specs.StackPlans.{current_is_plan, current_on}
 use Rattle.hp_views.specs.View.{Sight, Carries, Finds}
 use Rattle.hp_model.specs.Texts.{as_run, has_html_top, is_text_mode, is_white, run_of, white_or_other}
 use Rattle.hp_acts.specs.HandlePlans.{all_turns_plan, handle_plan, handle_rest, most_turns, turns_plan, where_again, without_line_feed}
-use Rattle.hp_acts.specs.Handling.{Handles, HandlesBelow, nothing_asked, unskipped}
+use Rattle.hp_acts.specs.Handling.{Handles, nothing_asked, unskipped}
 use Rattle.hp_acts.specs.Plain.{IsPlain, body_text_plan, is_nothing_open, is_run, may_take_text, put_text_plan, run_plan, takes_text, text_plan}
 use Rattle.hp_acts.specs.RowPlans.{Reached, Came, left, changed, dispatched, is_early, mode_plan, rules_plan, turn_plan, where_left}
 use Rattle.hp_acts.proofs.TurnRuns.{turn_by, turn_on, turns_next}
@@ -297,7 +299,7 @@ unskipped_below : (t : Token) (v : Split) → MayTake v → handle_plan t v ≡ 
 unskipped_below t v m = ap (λ b. if b then handle_rest (without_line_feed t) (unskipped v) else all_turns_plan t v) m.skips
 
 pub text_put_below : (class : CharClass) (text : List ℕ) (old mid new : Sight) → may_take_text old.split ≡ true → Finds old mid (current_is_plan kinds.AnyHtml) true → class ≡ white_or_other (list_all is_white text)
-    → Carries (Ok tt) mid new (λ v. text_plan v.change.mode class text v) → HandlesBelow (Ok true) old new (handle_plan (as_run text))
+    → Carries (Ok tt) mid new (λ v. text_plan v.change.mode class text v) → Handles (Ok nothing_asked) old new (handle_plan (as_run text))
 text_put_below class text old mid new h f is run =
     let m = may_take old.split h in
     let at_once : Runs mid.heard new.heard (text_plan mid.split.change.mode (white_or_other (list_all is_white text)) text mid.split) (Ok new.split) = subst (λ k. Runs mid.heard new.heard (text_plan mid.split.change.mode k text mid.split) (Ok new.split)) is run in
@@ -306,7 +308,7 @@ text_put_below class text old mid new h f is run =
     (subst (λ (v : Split). Runs mid.heard new.heard (text_plan v.change.mode (white_or_other (list_all is_white text)) text v) (Ok new.split)) f.same at_once))
 
 pub text_refused_below : (refused : Refusal) (class : CharClass) (text : List ℕ) (old mid new : Sight) → may_take_text old.split ≡ true → Finds old mid (current_is_plan kinds.AnyHtml) true → class ≡ white_or_other (list_all is_white text)
-    → Carries (Err refused) mid new (λ v. text_plan v.change.mode class text v) → HandlesBelow (Err refused) old new (handle_plan (as_run text))
+    → Carries (Err refused) mid new (λ v. text_plan v.change.mode class text v) → Handles (Err refused) old new (handle_plan (as_run text))
 text_refused_below NoMemory class text old mid new h f is run = tt
 text_refused_below (Crossed crossing) class text old mid new h f is run =
     let m = may_take old.split h in
@@ -314,3 +316,44 @@ text_refused_below (Crossed crossing) class text old mid new h f is run =
     subst (λ plan. Runs old.heard new.heard plan (Err crossing)) (sym (unskipped_below (as_run text) old.split m))
     (below_crosses old.heard mid.heard new.heard (white_or_other (list_all is_white text)) text old.split mid.split crossing (run_or_white (list_all is_white text) text) m f
     (subst (λ (v : Split). Runs mid.heard new.heard (text_plan v.change.mode (white_or_other (list_all is_white text)) text v) (Err crossing)) f.same at_once))
+
+-- and before all else it is asked whether the older current node is HTML
+pub record AsksFirst (says : Question → Answer) (v : Split) (plan : Plan Reached) : Type 0 where
+  pub more : List Question
+  pub first : asked_by says plan ≡ asked_by says (current_is_plan kinds.AnyHtml v) ++ more
+
+pub asks_first : (says : Question → Answer) (class : CharClass) (text : List ℕ) (v : Split) → may_take_text v ≡ true → AsksFirst says v (handle_plan (Characters class text) v)
+asks_first says class text v h = record {
+  more = on_asked (end_by says (current_is_plan kinds.AnyHtml v)) (λ b. asked_by says (go b));
+  first = ap (asked_by says) as_asked ∙ asked_then says (current_is_plan kinds.AnyHtml v) go;
+}
+  where
+    m : MayTake v
+    m = may_take v h
+
+    t : Token
+    t = Characters class text
+
+    r : Reached
+    r = at_first v
+
+    n : ℕ
+    n = most_turns v
+
+    all : n ≡ n - 0
+    all = omega arith
+
+    next : Came → Plan Reached
+    next = where_again (turns_plan (n - 1))
+
+    go : Bool → Plan Reached
+    go b = followed_by (followed_by (unless_html (kind.Characters class) v.change.popped b) (dispatched t v.change.mode r)) next
+
+    as_asked : handle_plan t v ≡ followed_by (current_is_plan kinds.AnyHtml v) go
+    as_asked =
+        unskipped_below t v m
+        ∙ (ap (λ k. turns_plan k t r) all
+        ∙ (turns_next n 0 t r (omega arith)
+        ∙ (ap (λ p. followed_by p next) (turn_on t r (not_early v.page v.change.mode m.place) ∙ ap (λ p. followed_by p (dispatched t v.change.mode r)) (html_first class v v.change.stack m.none))
+        ∙ (ap (λ p. followed_by p next) (follow_assoc (current_is_plan kinds.AnyHtml v) (unless_html (kind.Characters class) v.change.popped) (dispatched t v.change.mode r))
+        ∙ follow_assoc (current_is_plan kinds.AnyHtml v) (λ b. followed_by (unless_html (kind.Characters class) v.change.popped b) (dispatched t v.change.mode r)) next))))

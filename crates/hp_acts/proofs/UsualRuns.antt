@@ -22,12 +22,12 @@ use Rattle.hp_control.specs.declared.change.Refusal.TheVariants.{Crossed, NoMemo
 use Rattle.hp_control.specs.declared.element.OpenElement.{OpenElement}
 use Rattle.hp_control.specs.Faithful.{Page, Split}
 use Rattle.hp_control.specs.Foreign.{enters, is_annotation, is_end_of_input, is_svg_start}
-use Rattle.hp_control.specs.Plan.{Plan, gives, followed_by, Runs}
+use Rattle.hp_control.specs.Plan.{Plan, Heard, gives, followed_by, Runs}
 use Rattle.hp_control.specs.Running.{runs_crosses, runs_gives, runs_then}
 use Rattle.hp_adoption.specs.ArkPlans.{append_to_list_plan}
 use Rattle.hp_adoption.specs.LinkPlans.{close_link_plan}
 use Rattle.hp_adoption.specs.ReconPlans.{reconstruct_plan}
-use Rattle.hp_foreign.specs.Plans.{goes_on}
+use Rattle.hp_foreign.specs.Plans.{goes_on, goes_plan}
 use Rattle.hp_rules_body.specs.Body.{in_body}
 use Rattle.hp_rules_table.specs.TableModes.{in_cell, in_row, in_table_body}
 use Rattle.hp_rules_rest.specs.Whole.{every_mode_rows}
@@ -39,6 +39,7 @@ use Rattle.hp_views.specs.StackPlans.{in_scope_plan, pop_plan, pop_to_plan, thro
 use Rattle.hp_views.specs.View.{Sight, Carries, Finds}
 use Rattle.hp_model.specs.Texts.{has_html_top}
 use Rattle.hp_model.specs.Tokens.{bare, name_of}
+use Rattle.hp_acts.specs.Carrying.{Comes}
 use Rattle.hp_acts.specs.HandlePlans.{all_turns_plan, handle_plan, handle_rest, most_turns, turns_plan, where_again, without_line_feed}
 use Rattle.hp_acts.specs.Handling.{Handles, nothing_asked, unskipped}
 use Rattle.hp_acts.specs.RowPlans.{Reached, Came, left, acts_plan, changed, dispatched, is_early, mode_plan, nothing_more, rules_plan, turn_plan, where_left}
@@ -53,7 +54,7 @@ use Rattle.hp_acts.specs.declared.usual.TablePart.TheVariants as part
 use Rattle.hp_acts.specs.declared.usual.UsualRow.{UsualRow}
 use Rattle.hp_acts.specs.declared.usual.UsualRow.TheVariants.{Begins, Closes, Ends, Opens}
 use Rattle.hp_acts.proofs.PlainRuns.{first_refused, follow_assoc}
-use Rattle.hp_acts.proofs.TurnRuns.{turn_on, turns_next}
+use Rattle.hp_acts.proofs.TurnRuns.{turn_by, turn_on, turns_next}
 
 abbrev ended : Reached → Split → Plan Came
 ended r v = gives (left (changed r v))
@@ -231,6 +232,30 @@ usual_turn row t r u =
     turn_on t r (not_early r.split.page r.split.change.mode row t u.place)
     ∙ (ap (λ p. followed_by p (dispatched t r.split.change.mode r)) (not_foreign (kind_of t) r.split r.split.change.stack u.top)
     ∙ by_mode r.split.change.mode row t r u.place)
+
+-- the same where it was asked that the token is no foreign content
+pub turn_straight : (a b c : Heard) (row : UsualRow) (t out : Token) (v w x : Split) (r : Reached) → is_early v.page v.change.mode ≡ false → Finds (record { heard = a; split = v }) (record { heard = b; split = w }) (goes_plan (kind_of t)) false → HasRow v.change.mode t row
+    → Runs b c (usual_plan row t w) (Ok x) → Comes (Ok false) a c (turn_plan t (record r { split = v })) out (record r { split = x })
+turn_straight a b c row t out v w x r early f h run =
+    let P : Plan Came → Type 0 = λ plan. Runs b c plan (Ok (left (record r { split = x }))) in
+    let Q : Split → Type 0 = λ u. Runs b c (usual_plan row t u) (Ok x) in
+    turn_by (Ok false) a b c t out (record r { split = v }) (record r { split = x }) false early f.runs
+    (subst P (sym (by_mode v.change.mode row t (record r { split = v }) h)) (runs_then (ended (record r { split = v })) (subst Q f.same run) (runs_gives c (left (record r { split = x })))))
+
+pub straight_refused : (result : Result Bool Refusal) (refused : Refusal) (a b : Heard) (new : Sight) (row : UsualRow) (t out : Token) (v w : Split) (r s : Reached) → IsErrAnd result (λ e. e ≡ refused) → is_early v.page v.change.mode ≡ false → Finds (record { heard = a; split = v }) (record { heard = b; split = w }) (goes_plan (kind_of t)) false → HasRow v.change.mode t row
+    → Carries (Err refused) (record { heard = b; split = w }) new (usual_plan row t) → Comes result a new.heard (turn_plan t (record r { split = v })) out s
+straight_refused (Ok again) refused a b new row t out v w r s is early f h run = absurd is
+straight_refused (Err e) refused a b new row t out v w r s is early f h run =
+    let R : Refusal → Type 0 = λ x. Comes (Err x) a new.heard (turn_plan t (record r { split = v })) out s in
+    subst R (sym is) (by_refusal refused run)
+  where
+    by_refusal : (x : Refusal) → Carries (Err x) (record { heard = b; split = w }) new (usual_plan row t) → Comes (Err x) a new.heard (turn_plan t (record r { split = v })) out s
+    by_refusal NoMemory k = tt
+    by_refusal (Crossed crossing) k =
+        let P : Plan Came → Type 0 = λ plan. Runs b new.heard plan (Err crossing) in
+        let Q : Split → Type 0 = λ u. Runs b new.heard (usual_plan row t u) (Err crossing) in
+        turn_by (Err (Crossed crossing)) a b new.heard t out (record r { split = v }) s false early f.runs
+        (subst P (sym (by_mode v.change.mode row t (record r { split = v }) h)) (runs_crosses (ended (record r { split = v })) (subst Q f.same k)))
 
 abbrev done_with : Split → Plan Reached
 done_with v = gives (record { split = v; handled = nothing_asked })

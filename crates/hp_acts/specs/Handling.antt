@@ -1,5 +1,5 @@
 -- How a row goes on after an act, and that a token was handled.
-use Rattle.std.specs.Prelude.{ℕ, ◌<◌, Bool, true, false, None, Result, Ok, Err}
+use Rattle.std.specs.Prelude.{ℕ, ◌<◌, true, false, None, Result, Ok, Err}
 use Rattle.hp_elements.specs.declared.kinds.Kinds.TheVariants as kinds
 use Rattle.hp_control.specs.declared.change.Refusal.{Refusal}
 use Rattle.hp_control.specs.declared.change.Refusal.TheVariants.{Crossed, NoMemory}
@@ -30,8 +30,6 @@ Handles (Ok handled) old new plan = Runs old.heard new.heard (plan old.split) (O
 Handles (Err (Crossed crossing)) old new plan = Runs old.heard new.heard (plan old.split) (Err crossing)
 Handles (Err NoMemory) old new plan = Unit {0}
 
--- the same of a text that is taken only where the older current node is HTML; where it isn't, that alone was found out
-abbrev pub HandlesBelow : Result Bool Refusal → Sight → Sight → (Split → Plan Reached) → Type 0
-HandlesBelow (Ok true) old new plan = Handles (Ok nothing_asked) old new plan
-HandlesBelow (Ok false) old new plan = Finds old new (current_is_plan kinds.AnyHtml) false
-HandlesBelow (Err refused) old new plan = Handles (Err refused) old new plan
+-- the same behind the question whether the older current node is HTML, which it is: that is asked before all else
+abbrev pub HandlesBelow : Result Handled Refusal → Sight → Sight → (Split → Plan Reached) → Type 0
+HandlesBelow result old new plan = (first : Sight) → Finds first old (current_is_plan kinds.AnyHtml) true → Handles result first new plan

@@ -1,6 +1,6 @@
 //! Runs of text where the rules do nothing but put them into the current node: a short way to what the rows say (13.2.6.4.7,
 //! 13.2.6.4.8).
-ghost use Rattle.std.specs.Prelude.{◌≡◌, true, false, Ok};
+ghost use Rattle.std.specs.Prelude.{◌≡◌, true};
 ghost use Rattle.hp_views.specs.View.{sight, split_of, Carries};
 ghost use Rattle.hp_acts.specs.HandlePlans.{all_turns_plan, handle_plan};
 ghost use Rattle.hp_acts.specs.Handling.{Handles, HandlesBelow};
@@ -9,11 +9,10 @@ ghost use Rattle.hp_model.specs.Texts.{as_run, has_html_top, is_text_mode, is_wh
 ghost use Rattle.std.specs.List.{list_all};
 ghost use Rattle.std.specs.Str.{chars};
 
-use crate::token_parts::taken_text;
 use crate::turns::{Handled, NOTHING};
 use hp_adoption::reconstruct;
 use hp_control::{Below, Child, OpenElements, Refusal, is_html};
-use hp_elements::{CharClass, Kinds, Mode, Text, Token};
+use hp_elements::{CharClass, Mode, Text, Token};
 use hp_views::View;
 use std::alloc::Global;
 
@@ -163,25 +162,19 @@ fn is_nothing_open(stack: &OpenElements) -> bool
     stack.is_empty()
 }
 
-/// Handles a text without U+0000 as one run and takes it, where nothing own is open and the older current node is HTML. Where it isn't,
-/// answers `false`: the text is left, and nothing was done but that this was asked. After a refusal the view is spent: what it shows
-/// is not promised.
+/// Handles a text without U+0000 as one run, where nothing own is open, and it was asked whether the older current node is HTML, which it
+/// is. After a refusal the view is spent: what it shows is not promised.
 pub fn handle_text_below<'p, B: Below>(
     alloc: Global,
     view: &mut View<'p, B>,
-    text: &mut Text<'p>,
-) -> Result<bool, Refusal>
+    text: Text<'p>,
+) -> Result<Handled, Refusal>
     requires may { may_take_text (split_of view.old) ≡ true }
-    ensures plan { HandlesBelow result (sight B.heard view.old) (sight B.heard view.new) (handle_plan (as_run text.old)) }
-    ensures left { result ≡ Ok false → text.new ≡ text.old }
+    ensures plan { HandlesBelow result (sight B.heard view.old) (sight B.heard view.new) (handle_plan (as_run text.entry)) }
 {
-    if !view.current_is(alloc, Kinds::AnyHtml)? {
-        return Ok(false);
-    }
-    let text = taken_text(text);
     let class = class_of_text(&text);
     match put_characters(alloc, view, class, text) {
-        Ok(()) => Ok(true),
+        Ok(()) => Ok(NOTHING),
         Err(refused) => Err(refused),
     }
 }

@@ -124,14 +124,6 @@ pub(crate) fn taken<'p>(token: &mut Token<'p>) -> Token<'p>
     mem::replace(token, Token::EndOfInput)
 }
 
-/// The text, moved out of its place.
-#[inline(always)]
-pub(crate) fn taken_text<'p>(text: &mut Text<'p>) -> Text<'p>
-    ensures { result ≡ text.old }
-{
-    mem::replace(text, Text::new())
-}
-
 /// A text that is moved out of its place, or copied.
 fn text_out<'p>(
     alloc: Global,

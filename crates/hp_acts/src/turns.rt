@@ -1,5 +1,5 @@
 //! One token, handled whole (13.2.6).
-ghost use Rattle.std.specs.Prelude.{◌≡◌, ℕ, ◌<◌, ◌+◌, ◌*◌, ◌^◌, Bool, true, false, if◌then◌else◌, IfOk, drop};
+ghost use Rattle.std.specs.Prelude.{◌≡◌, ℕ, ◌<◌, ◌+◌, ◌*◌, ◌^◌, Bool, true, false, if◌then◌else◌, IfOk, IfSome, drop};
 ghost use Rattle.std.specs.List.{list_any};
 ghost use Rattle.hp_elements.specs.Rules.{goes_later};
 ghost use Rattle.hp_elements.specs.declared.token.Mode.{Mode};
@@ -11,6 +11,7 @@ ghost use Rattle.hp_acts.specs.Handling.{GoesLater, Handles, unskipped};
 ghost use Rattle.hp_acts.specs.RowPlans.{Reached, Came, act_then, is_early, turn_plan};
 ghost use Rattle.hp_acts.specs.Rows.{most_acts};
 ghost use Rattle.hp_acts.specs.TableText.{turns_from};
+ghost use Rattle.hp_acts.specs.Usual.{HasRow};
 ghost use Rattle.hp_acts.specs.Spending.{IsLeftOf, gives_away, leaves_whole, reads_attributes};
 ghost use Rattle.hp_acts.specs.declared.token_parts.Spending.TheVariants.{Copies};
 ghost use Rattle.hp_acts.specs.declared.turns.Next.TheVariants.{At};
@@ -20,8 +21,8 @@ use crate::questions::holds;
 use crate::rows::{Row, foreign_row, row_in};
 use crate::table_text::handle_other;
 use crate::token_parts::{Spending, after_line_feed, rename};
-use crate::usual::{handle_usual, usual_row};
-use hp_control::{Below, Crossing, Refusal};
+use crate::usual::{UsualRow, carry_straight, handle_usual, usual_in_mode, usual_row};
+use hp_control::{Below, Crossing, OpenElements, Refusal};
 use hp_elements::{Act, Mode, Rest, Test, Token};
 use hp_foreign::goes_to_foreign;
 use hp_views::{PageFacts, View};
@@ -247,10 +248,24 @@ fn take_turn<'p, B: Below>(
     }
     if goes_to_foreign(alloc, view, &turn.token)? {
         let row = foreign_row(&turn.token);
-        carry_row(alloc, view, turn, row, Some(mode), false, NESTING)
+        return carry_row(alloc, view, turn, row, Some(mode), false, NESTING);
+    }
+    if let Some(row) = usual_below(&view.change.stack, mode, &turn.token) {
+        carry_straight(alloc, view, &mut turn.token, row)?;
+        return Ok(false);
+    }
+    let row = row_in(mode, &turn.token);
+    carry_row(alloc, view, turn, row, None, false, NESTING - 1)
+}
+
+/// The usual row that the token has in the mode, where nothing own is open: over an own current node it would have been taken before.
+fn usual_below(stack: &OpenElements, mode: Mode, token: &Token<'_>) -> Option<UsualRow>
+    ensures { IfSome result (λ row. HasRow mode token.now row) }
+{
+    if stack.is_empty() {
+        usual_in_mode(mode, token)
     } else {
-        let row = row_in(mode, &turn.token);
-        carry_row(alloc, view, turn, row, None, false, NESTING - 1)
+        None
     }
 }
 

@@ -134,7 +134,21 @@ fn usual_in_cell(token: &Token<'_>) -> Option<UsualRow>
     }
 }
 
-/// The usual row that the token has in this state; none where another row is to be carried out.
+/// The usual row that the token has in the mode; none where another row is to be carried out.
+#[inline(always)]
+pub(crate) fn usual_in_mode(mode: Mode, token: &Token<'_>) -> Option<UsualRow>
+    ensures { IfSome result (λ row. HasRow mode token.now row) }
+{
+    match mode {
+        Mode::InBody => usual_in_body(token),
+        Mode::InTableBody => usual_in_table(Mode::InTableBody, token),
+        Mode::InRow => usual_in_table(Mode::InRow, token),
+        Mode::InCell => usual_in_cell(token),
+        _ => None,
+    }
+}
+
+/// The same where the current node is an own HTML element, so that the token is no foreign content.
 #[inline(always)]
 pub(crate) fn usual_row<'p, B: Below>(view: &View<'p, B>, token: &Token<'p>) -> Option<UsualRow>
     ensures { IfSome result (λ row. IsUsual (split_of view.now) token.now row) }
@@ -142,13 +156,7 @@ pub(crate) fn usual_row<'p, B: Below>(view: &View<'p, B>, token: &Token<'p>) -> 
     if !is_in_html(&view.change.stack) {
         return None;
     }
-    match view.change.mode {
-        Mode::InBody => usual_in_body(token),
-        Mode::InTableBody => usual_in_table(Mode::InTableBody, token),
-        Mode::InRow => usual_in_table(Mode::InRow, token),
-        Mode::InCell => usual_in_cell(token),
-        _ => None,
-    }
+    usual_in_mode(view.change.mode, token)
 }
 
 /// Handles a token that has that row.
@@ -166,6 +174,19 @@ pub(crate) fn handle_usual<'p, B: Below>(
         Ok(()) => Ok(NOTHING),
         Err(refused) => Err(refused),
     }
+}
+
+/// Carries out that row for a token that is no foreign content.
+#[inline(never)]
+pub(crate) fn carry_straight<'p, B: Below>(
+    alloc: Global,
+    view: &mut View<'p, B>,
+    token: &mut Token<'p>,
+    row: UsualRow,
+) -> Result<(), Refusal>
+    ensures { Carries result (sight B.heard view.old) (sight B.heard view.new) (usual_plan row token.old) }
+{
+    carry_usual(alloc, view, token, row)
 }
 
 #[inline(always)]

@@ -7,10 +7,6 @@ use Rattle.hp_control.specs.Plan.{Heard, gives, noting}
 use Rattle.hp_control.specs.Running.{noting_more, runs_gives}
 use Rattle.hp_control.specs.States.{ControlState}
 
-pub true-front : (s : ControlState) (says : Question → Answer) (xs ys : List Question) → AllTrue s says (xs ++ ys) → AllTrue s says xs
-true-front s says [] ys h = tt
-true-front s says (x ∷ xs) ys h = (h.0, true-front s says xs ys h.1)
-
 pub true-back : (s : ControlState) (says : Question → Answer) (xs ys : List Question) → AllTrue s says (xs ++ ys) → AllTrue s says ys
 true-back s says [] ys h = h
 true-back s says (x ∷ xs) ys h = true-back s says xs ys h.1

@@ -1,6 +1,7 @@
 -- Parts of a run, one behind the other.
 use Rattle.std.proofs.Common.{◌≡◌, ◌++◌, [], Bool, true, false, subst}
-use Rattle.hp_fragment.proofs.Asking.{noted-none, noted-then, true-front, true-then}
+use Rattle.hp_older.proofs.Truly.{true-front}
+use Rattle.hp_fragment.proofs.Asking.{noted-none, noted-then, true-then}
 use Rattle.hp_fragment.specs.Reading.{GoesFurther, GoesToEnd, Stage, WentOn}
 
 pub none-further : (p : Stage) → GoesFurther p p

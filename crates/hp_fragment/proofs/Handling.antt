@@ -1,7 +1,9 @@
 -- Tokens that are handled over whatever is below, one behind the other.
 use Rattle.std.proofs.Common.{◌≡◌, ℕ, List, [], ◌∷◌, ◌++◌, map, Bool, true, false, refl, ap, ◌∙◌, sym, subst, append-nil, append_assoc, Option, None, Some}
 use Rattle.std.specs.Prelude.{not, ◌&&◌, Result, Ok}
+use Rattle.std.specs.List.{list_all}
 use Rattle.std.proofs.lemmas.Bool.{and_from, and_parts}
+use Rattle.hp_elements.specs.declared.kinds.Kinds.TheVariants as kinds
 use Rattle.hp_elements.specs.declared.token.CharClass.{CharClass}
 use Rattle.hp_elements.specs.declared.token.Rest.{Rest}
 use Rattle.hp_elements.specs.declared.token.Token.{Token}
@@ -16,22 +18,26 @@ use Rattle.hp_lexer.specs.declared.lexer.Lexer.{Lexer}
 use Rattle.hp_lexer.specs.Standing.{SwitchesFall}
 use Rattle.hp_model.specs.Apart.{AtOnceApart, relexed, relexed_state}
 use Rattle.hp_model.specs.AtOnce.{MakeSame, handle_at_once}
+use Rattle.hp_model.specs.Texts.{as_run, is_white, white_or_other}
 use Rattle.hp_model.specs.Turns.{Handled as Meant, left_by}
 use Rattle.hp_acts.specs.declared.turns.Handled.{Handled as Told}
 use Rattle.hp_acts.specs.HandlePlans.{handle_plan}
+use Rattle.hp_acts.specs.Plain.{may_take_text}
 use Rattle.hp_acts.specs.RowPlans.{Reached}
-use Rattle.hp_older.specs.Laws.{IsDoneOver, StayUnedited, TokensHandled}
+use Rattle.hp_older.proofs.Truly.{true-front}
+use Rattle.hp_older.specs.Laws.{IsDoneOver, StayUnedited, TextsTakenBelow, TokensHandled}
 use Rattle.hp_older.specs.Over.{IsOver, MayCome}
 use Rattle.hp_older.specs.Tokens.{MayAllCome}
+use Rattle.hp_views.specs.StackPlans.{current_is_plan}
 use Rattle.hp_runs.proofs.Batches.{left-append, made-append}
 use Rattle.hp_runs.proofs.Quiet.{at_once-quiet}
 use Rattle.hp_runs.specs.Coming.{untouched_at_once}
 use Rattle.hp_runs.specs.Handling.{Handler, left_after, lexer_after, made_after, turned}
 use Rattle.hp_fragment.proofs.Amounting.{amounts-more}
-use Rattle.hp_fragment.proofs.Asking.{noted-none, noted-then, true-front, true-then}
+use Rattle.hp_fragment.proofs.Asking.{noted-none, noted-then, true-then}
 use Rattle.hp_fragment.proofs.Turning.{none-turned, turned-once, turned-then}
 use Rattle.hp_fragment.specs.Making.{Amounts}
-use Rattle.hp_fragment.specs.Reading.{Handled, IsHandled, IsTurned, Stage, control_at}
+use Rattle.hp_fragment.specs.Reading.{Handled, IsHandled, IsTurned, Stage, TextHandled, control_at}
 use Rattle.hp_fragment.specs.declared.sink.Sink.{Sink}
 
 lexer-append : (does : Handler) (c : ControlState) (xs ys : List Token) (l : Lexer) → lexer_after does c (xs ++ ys) l ≡ lexer_after does (left_after does c xs) ys (lexer_after does c xs l)
@@ -175,4 +181,14 @@ module _ (law : TokensHandled) (apart : AtOnceApart) (stay : StayUnedited) where
     over = λ s all is may.
         over-one s old new w edits (Characters class text) handled split take (lexer ∙ ap (λ (to : Option Rest). turned to old.lexer) (sym (at_once-quiet class text (control_at s old))))
         (law (Characters class text) s old.split old.heard new.heard (Ok (record { split = w; handled = handled })) runs all is may.0);
+  }
+
+  -- a text behind the question whether the older current node is HTML
+  pub below-handled : TextsTakenBelow → (first : Heard) (old new : Stage) (w : Split) (edits : List Edit) (text : List ℕ) (handled : Told) → may_take_text old.split ≡ true → Runs first old.heard (current_is_plan kinds.AnyHtml old.split) (Ok true)
+      → Runs first new.heard (handle_plan (as_run text) old.split) (Ok (record { split = w; handled = handled })) → new.split ≡ record w { edits = edits }
+      → ((grows : Bool) (c : ControlState) (es : List Edit) → Amounts grows old.sink c w.edits es → Amounts grows new.sink c edits es) → new.lexer ≡ old.lexer → new.input ≡ old.input → TextHandled (record old { heard = first }) new text
+  unfolding run-handled
+  below-handled below first old new w edits text handled may found runs split take lexer input = record {
+    handled = run-handled (record old { heard = first }) new w edits (white_or_other (list_all is_white text)) text handled runs split take lexer input;
+    takes = λ s all is. below text s old.split first old.heard may found all is;
   }

@@ -4,6 +4,7 @@ use Rattle.std.specs.Prelude.{not, ◌&&◌, Result, Ok}
 use Rattle.std.specs.List.{list_all}
 use Rattle.std.specs.Option.{unwrap_or}
 use Rattle.std.proofs.lemmas.Bool.{and_parts, not-true}
+use Rattle.hp_elements.specs.declared.kinds.Kinds.TheVariants as kinds
 use Rattle.hp_elements.specs.declared.token.CharClass.{CharClass}
 use Rattle.hp_elements.specs.declared.token.CharClass.TheVariants.{White}
 use Rattle.hp_elements.specs.declared.token.Rest.{Rest}
@@ -21,7 +22,7 @@ use Rattle.hp_control.specs.Agree.{AllTrue}
 use Rattle.hp_control.specs.Composed.{is_foreign_now}
 use Rattle.hp_control.specs.Faithful.{Split, state_over}
 use Rattle.hp_control.specs.Outcome.{touches_any}
-use Rattle.hp_control.specs.Plan.{Heard, Runs, asked_by}
+use Rattle.hp_control.specs.Plan.{Heard, Plan, Runs, asked_by}
 use Rattle.hp_control.specs.States.{ControlState, IsValid, lex_start}
 use Rattle.hp_lexer.specs.declared.lexer.Asked.TheVariants as asked
 use Rattle.hp_lexer.specs.declared.lexer.Lexer.{Lexer}
@@ -43,11 +44,12 @@ use Rattle.hp_runs.specs.Handling.{left_after, lexer_after, made_after, turned}
 use Rattle.hp_runs.specs.Tokens.{AllInside, AllRead}
 use Rattle.hp_views.specs.Asking.{ask_last_tag}
 use Rattle.hp_views.specs.SecondPlans.{foreign_now_plan}
+use Rattle.hp_views.specs.StackPlans.{current_is_plan}
 use Rattle.hp_fragment.proofs.Amounting.{amounts-same}
 use Rattle.hp_fragment.proofs.Asking.{noted-none}
 use Rattle.hp_fragment.proofs.Telling.{after-named, asked-named, leads-named, same-named, section-named, told-named}
 use Rattle.hp_fragment.specs.Making.{Amounts}
-use Rattle.hp_fragment.specs.Reading.{GoesFurther, GoesToEnd, Handled, HasRead, IsHandled, IsNamed, IsReady, Stage, Way, control_at}
+use Rattle.hp_fragment.specs.Reading.{GoesFurther, GoesToEnd, Handled, HandledBelow, HasRead, IsHandled, IsNamed, IsReady, Stage, TextHandled, Way, control_at}
 
 may-all : (s : ControlState) (ts : List Token) → AllRead ts → AllInside ts → MayAllCome s ts
 may-all s [] read inside = tt
@@ -118,21 +120,32 @@ untouched-one : (s c : ControlState) (t : Token) → untouched_at_once s c (t �
 untouched-one s c t h = not-true (touches_any s (handle_at_once c t).outcome) (and_parts (not (touches_any s (handle_at_once c t).outcome)) true h).0
 
 -- a text that the current node takes as it comes
-pub text-further : AreValid → TextComes → TextsTaken → (old new : Stage) (l : Lexer) (u : Unread) (text : List ℕ) → IsReady old → PlainStepped old.lexer old.input l u text → takes_text old.split ≡ true
-    → Handled (lexed old l u) new (as_run text ∷ []) → GoesFurther old new
-text-further valid law taken old new l u text ready stepped takes handled = record {
-  asked = handled.asked;
-  noted = handled.noted;
+pub text-further : AreValid → TextComes → (old new : Stage) (l : Lexer) (u : Unread) (text : List ℕ) → IsReady old → PlainStepped old.lexer old.input l u text → TextHandled (lexed old l u) new text → GoesFurther old new
+text-further valid law old new l u text ready stepped h = record {
+  asked = h.handled.asked;
+  noted = h.handled.noted;
   reads = λ w all r.
       let c : ControlState = control_at w.older old in
-      let t = taken w.older old.split takes in
+      let t = h.takes w.older all r.over in
       let on : TakesText c = record { skips = t.skips; place = t.place; top = t.top } in
-      let done : IsHandled w.older (lexed old l u) new (as_run text ∷ []) = handled.over w.older all r.over (record { read = tt; inside = inl tt }, tt) in
-      reads-on w old new l u (as_run text ∷ []) done handled.input (leads-named w.told w.name w.older old.lexer.names old.lexer l old.input u stepped.stepped.0.es stepped.stepped.0.leads r.named) r
+      let done : IsHandled w.older (lexed old l u) new (as_run text ∷ []) = h.handled.over w.older all r.over (record { read = tt; inside = inl tt }, tt) in
+      reads-on w old new l u (as_run text ∷ []) done h.handled.input (leads-named w.told w.name w.older old.lexer.names old.lexer l old.input u stepped.stepped.0.es stepped.stepped.0.leads r.named) r
       (run-further w c r.edits (white_or_other (list_all is_white text)) text l u
       (law built_in w.name w.base w.older w.from c r.edits old.lexer l old.input u text r.comes ready.names (control-valid valid w.older old r.over) stepped on
       (untouched-one w.older c (as_run text) done.own)));
 }
+
+-- the view takes it so
+pub view-takes : TextsTaken → (old new : Stage) (text : List ℕ) → takes_text old.split ≡ true → Handled old new (as_run text ∷ []) → TextHandled old new text
+view-takes taken old new text takes handled = record { handled = handled; takes = λ s all is. taken s old.split takes }
+
+-- it was asked first whether the older current node is HTML
+pub found-below : (old : Stage) (h : Heard) (v : Split) (l : Lexer) (u : Unread) (mid new : Stage) (text : List ℕ) → Runs old.heard h (current_is_plan kinds.AnyHtml old.split) (Ok true) → v ≡ old.split
+    → mid ≡ record old { heard = h; split = v; lexer = l; input = u } → HandledBelow mid new text → TextHandled (lexed old l u) new text
+found-below old h v l u mid new text found same is handled =
+    let P : Stage → Type 0 = λ m. HandledBelow m new text in
+    let Q : Split → Type 0 = λ x. HandledBelow (record old { heard = h; split = x; lexer = l; input = u }) new text in
+    subst Q same (subst P is handled) old.heard found
 
 -- white space
 pub blanks-further : AreValid → BlanksCome → (old new : Stage) (l : Lexer) (u : Unread) (text : List ℕ) → IsReady old → PlainStepped old.lexer old.input l u text → list_all is_blank text ≡ true
@@ -181,6 +194,14 @@ told-reads w old new r split sink named comes = record {
   amounts =
       subst (λ (v : Split). Amounts w.grows new.sink w.older v.edits r.edits) (sym split)
       (subst (λ x. Amounts w.grows x w.older old.split.edits r.edits) (sym sink) r.amounts);
+}
+
+-- something was asked, and nothing else done
+pub question-further : (old : Stage) (h : Heard) (v : Split) (plan : Plan Bool) (b : Bool) → Runs old.heard h plan (Ok b) → v ≡ old.split → GoesFurther old (record old { heard = h; split = v })
+question-further old h v plan b runs split = record {
+  asked = asked_by old.heard.says plan;
+  noted = runs.noted;
+  reads = λ w all r. told-reads w old (record old { heard = h; split = v }) r split refl r.named r.comes;
 }
 
 -- the question after `<![CDATA[`

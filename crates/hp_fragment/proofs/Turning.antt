@@ -8,6 +8,8 @@ use Rattle.hp_names.specs.BuiltIn.{built_in}
 use Rattle.hp_tokens.specs.Advancing.{held}
 use Rattle.hp_tokens.specs.Ranks.{weight}
 use Rattle.hp_tokens.specs.Reading.{Unread}
+use Rattle.hp_control.specs.Faithful.{Split}
+use Rattle.hp_control.specs.Plan.{Heard}
 use Rattle.hp_lex_raw.specs.Raw.{is_untold}
 use Rattle.hp_lexer.specs.declared.lexer.Asked.{Asked}
 use Rattle.hp_lexer.specs.declared.lexer.Asked.TheVariants as asked
@@ -105,6 +107,9 @@ none-went p ready = record { ready = ready; load = omega arith }
 
 pub went-nowhere : (old new : Stage) → new ≡ old → IsReady old → WentStraight old new
 went-nowhere old new is ready = subst (WentStraight old) (sym is) (none-went old ready)
+
+pub asked-nowhere : (old : Stage) (h : Heard) (v : Split) → IsReady old → WentStraight old (record old { heard = h; split = v })
+asked-nowhere old h v ready = record { ready = record { names = ready.names; answered = ready.answered; held = ready.held }; load = omega arith }
 
 pub one-went : (old mid new : Stage) (made : Bool) → WentStraight old mid → Tried mid new made → WentStraight old new
 one-went old mid new true went tried =

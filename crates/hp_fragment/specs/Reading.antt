@@ -1,6 +1,7 @@
 -- How far a parser has come over a text, over whatever is below it (13.2).
-use Rattle.std.specs.Prelude.{◌≡◌, ℕ, ◌<◌, ◌≤◌, ◌^◌, Bool, true, false, List, [], ◌∷◌, ◌++◌, Option, None, Some, IsTrue}
+use Rattle.std.specs.Prelude.{◌≡◌, ℕ, ◌<◌, ◌≤◌, ◌^◌, Bool, true, false, List, [], ◌∷◌, ◌++◌, Option, None, Some, Ok, IsTrue}
 use Rattle.std.specs.Option.{is_some, unwrap_or}
+use Rattle.hp_elements.specs.declared.kinds.Kinds.TheVariants as kinds
 use Rattle.hp_elements.specs.declared.token.Token.{Token}
 use Rattle.hp_names.specs.BuiltIn.{built_in}
 use Rattle.hp_tokens.specs.Advancing.{held}
@@ -10,14 +11,16 @@ use Rattle.hp_control.specs.declared.edit.Edit.{Edit}
 use Rattle.hp_control.specs.declared.question.Question.{Question}
 use Rattle.hp_control.specs.Agree.{AllTrue}
 use Rattle.hp_control.specs.Faithful.{Split, state_over}
-use Rattle.hp_control.specs.Plan.{Heard, noting}
+use Rattle.hp_control.specs.Plan.{Heard, Runs, noting}
 use Rattle.hp_control.specs.States.{ControlState, lex_start}
 use Rattle.hp_lexer.specs.declared.lexer.Asked.TheVariants as asked
 use Rattle.hp_lexer.specs.declared.lexer.Lexer.{Lexer}
 use Rattle.hp_lexer.specs.Standing.{PlainStepped, is_answered, load, stands}
+use Rattle.hp_views.specs.StackPlans.{current_is_plan}
 use Rattle.hp_views.specs.View.{split_of}
 use Rattle.hp_model.specs.AtOnce.{handle_at_once}
 use Rattle.hp_model.specs.Runs.{Parser}
+use Rattle.hp_model.specs.Texts.{TakesText, as_run}
 use Rattle.hp_runs.specs.Coming.{HasCome, HasEnded, untouched_at_once}
 use Rattle.hp_runs.specs.Handling.{left_after, lexer_after, made_after}
 use Rattle.hp_older.specs.Over.{IsOver}
@@ -155,3 +158,12 @@ pub record Handled (old new : Stage) (tokens : List Token) : Type 0 where
   pub asked : List Question
   pub noted : new.heard ≡ noting old.heard asked
   pub over : (s : ControlState) → AllTrue s old.heard.says asked → IsOver s old.split → MayAllCome s tokens → IsHandled s old new tokens
+
+-- A text was handled as one run, and over each older state of which the answers are true it goes into the current node as it comes.
+pub record TextHandled (old new : Stage) (text : List ℕ) : Type 0 where
+  pub handled : Handled old new (as_run text ∷ [])
+  pub takes : (s : ControlState) → AllTrue s old.heard.says handled.asked → IsOver s old.split → TakesText (state_over old.split s)
+
+-- the same from before the question whether the current node is HTML, which it is
+abbrev pub HandledBelow : Stage → Stage → List ℕ → Type 0
+HandledBelow old new text = (first : Heard) → Runs first old.heard (current_is_plan kinds.AnyHtml old.split) (Ok true) → TextHandled (record old { heard = first }) new text

@@ -1,17 +1,18 @@
 //! The sequential parser within a text, whatever is below it: a page, a part of one behind a known state, or a part behind a guess.
 ghost use Rattle.std.specs.Prelude.{◌≡◌, ◌∷◌, [], ◌≤◌, true, IfOk, OnOk};
 ghost use Rattle.hp_tokens.specs.Advancing.{AreRuns, held};
-ghost use Rattle.hp_acts.specs.Plain.{takes_text};
+ghost use Rattle.hp_acts.specs.Plain.{may_take_text, takes_text};
 ghost use Rattle.hp_model.specs.Texts.{as_run};
 ghost use Rattle.hp_views.specs.View.{split_of};
-ghost use Rattle.hp_fragment.specs.Reading.{stage, GoesFurther, GoesToEnd, Handled, IsAtEnd, IsReady, StepsOn, TookText, Tried, WentOn, WentStraight};
+ghost use Rattle.hp_fragment.specs.Reading.{stage, GoesFurther, GoesToEnd, Handled, HandledBelow, IsAtEnd, IsReady, StepsOn, TookText, Tried, WentOn, WentStraight};
 
 use crate::blanks::next_blanks;
 use crate::sink::Sink;
-use hp_acts::{handle, handle_text, takes_text};
+use hp_acts::{handle, handle_text, handle_text_below, may_take_text, takes_text};
 use hp_control::{Below, Refusal};
-use hp_elements::{CharClass, Text, Token, Tokens};
-use hp_lexer::{Cursor, Lexer, Step};
+use hp_elements::{CharClass, Kinds, Text, Token, Tokens};
+use hp_lexer::{Asked, Cursor, Lexer, Step};
+use hp_tokens::State;
 use hp_views::View;
 use std::alloc::Global;
 
@@ -56,7 +57,7 @@ impl<'p, B: Below + Drop> Parsing<'p, B> {
     }
 
     /// Takes the tag, the text or the white space that comes next straight: a text whole where it goes into the current node as it
-    /// comes, else white space alone. Answers whether there was one.
+    /// comes, which is asked where that is an older one, else white space alone. Answers whether there was one.
     fn step_straight(&mut self, alloc: Global) -> Result<bool, Refusal>
         requires ready { IsReady (stage B.heard self.old) }
         ensures tried { IfOk result (Tried (stage B.heard self.old) (stage B.heard self.new)) }
@@ -68,6 +69,9 @@ impl<'p, B: Below + Drop> Parsing<'p, B> {
         }
         if takes_text(&self.view) {
             return self.take_text(alloc);
+        }
+        if may_take_text(&self.view) && self.is_at_text() {
+            return self.take_text_below(alloc);
         }
         self.take_blanks(alloc)
     }
@@ -87,6 +91,48 @@ impl<'p, B: Below + Drop> Parsing<'p, B> {
         match self.next_text() {
             Some(text) => {
                 self.put_text(alloc, text)?;
+                Ok(true)
+            }
+            None => Ok(false),
+        }
+    }
+
+    /// Whether a code point comes next that is emitted as it stands.
+    #[inline(always)]
+    fn is_at_text(&self) -> bool {
+        let lex = &self.lexer.lex;
+        if lex.machine.after_cr || !lex.ahead.is_empty() {
+            return false;
+        }
+        match self.lexer.asked {
+            Asked::Nothing => match lex.machine.state {
+                State::Data | State::Rcdata | State::Rawtext | State::ScriptData => {
+                    !matches!(self.input.front(), None | Some(0 | b'<' | b'&'))
+                }
+                _ => false,
+            },
+            _ => false,
+        }
+    }
+
+    /// Takes a text at the front whole, where nothing own is open and the older current node is HTML, which is asked first. Answers
+    /// whether one was taken.
+    #[inline(never)]
+    fn take_text_below(&mut self, alloc: Global) -> Result<bool, Refusal>
+        requires ready { IsReady (stage B.heard self.old) }
+        requires may { may_take_text (split_of self.old.view) ≡ true }
+        ensures tried { IfOk result (Tried (stage B.heard self.old) (stage B.heard self.new)) }
+        ensures reads { OnOk result (GoesFurther (stage B.heard self.old) (stage B.heard self.new)) }
+    {
+        hp_lexer::steps_fall();
+        hp_older::views_over();
+        hp_runs::comes_on();
+        if !self.view.current_is(alloc, Kinds::AnyHtml)? {
+            return Ok(false);
+        }
+        match self.next_text() {
+            Some(text) => {
+                self.put_text_below(alloc, text)?;
                 Ok(true)
             }
             None => Ok(false),
@@ -213,6 +259,22 @@ impl<'p, B: Below + Drop> Parsing<'p, B> {
         hp_older::tokens_over();
         hp_older::views_over();
         let _ = handle_text(alloc, &mut self.view, text)?;
+        self.sink.take(alloc, &mut self.view.edits)?;
+        Ok(())
+    }
+
+    /// Handles a text without U+0000 as one run, where nothing own is open, and it was asked whether the older current node is HTML,
+    /// which it is. It calls for no switch.
+    #[inline(always)]
+    fn put_text_below(&mut self, alloc: Global, text: Text<'p>) -> Result<(), Refusal>
+        requires may { may_take_text (split_of self.old.view) ≡ true }
+        ensures { OnOk result (HandledBelow (stage B.heard self.old) (stage B.heard self.new) text.entry) }
+    {
+        hp_model::lexer_apart();
+        hp_older::texts_over();
+        hp_older::tokens_over();
+        hp_older::views_over();
+        let _ = handle_text_below(alloc, &mut self.view, text)?;
         self.sink.take(alloc, &mut self.view.edits)?;
         Ok(())
     }

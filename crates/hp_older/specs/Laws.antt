@@ -3,6 +3,7 @@
 use Rattle.std.specs.Prelude.{◌≡◌, ℕ, ◌<◌, Bool, true, false, List, [], ◌∷◌, ◌++◌, length, map, None, Result, Ok, Err}
 use Rattle.std.specs.List.{list_all}
 use Rattle.std.specs.Option.{unwrap_or}
+use Rattle.hp_elements.specs.declared.kinds.Kinds.TheVariants as kinds
 use Rattle.hp_elements.specs.declared.token.Token.{Token}
 use Rattle.hp_tokens.specs.Plain.{none_of}
 use Rattle.hp_tokens.specs.Rows.{character}
@@ -24,6 +25,7 @@ use Rattle.hp_views.specs.Asking.{ask_last_tag}
 use Rattle.hp_views.specs.BeginLaws.{IsResting}
 use Rattle.hp_views.specs.Begins.{begins}
 use Rattle.hp_views.specs.SecondPlans.{foreign_now_plan}
+use Rattle.hp_views.specs.StackPlans.{current_is_plan}
 use Rattle.hp_model.specs.AtOnce.{MakeSame, handle_at_once}
 use Rattle.hp_model.specs.Growth.{IsInside}
 use Rattle.hp_model.specs.Texts.{TakesText, as_run, each_at_once}
@@ -31,7 +33,7 @@ use Rattle.hp_model.specs.Turns.{Handled as Meant, left_by}
 use Rattle.hp_model.specs.Whole.{IsRead}
 use Rattle.hp_acts.specs.declared.turns.Handled.{Handled}
 use Rattle.hp_acts.specs.HandlePlans.{handle_plan}
-use Rattle.hp_acts.specs.Plain.{takes_text}
+use Rattle.hp_acts.specs.Plain.{may_take_text, takes_text}
 use Rattle.hp_acts.specs.RowPlans.{Reached}
 use Rattle.hp_acts.specs.Told.{is_told_at_once}
 use Rattle.hp_older.specs.GoesOn.{GoesOn}
@@ -96,6 +98,11 @@ TokensHandled = (t : Token) (s : ControlState) (v : Split) (old new : Heard) (en
 -- a text that a view takes as it comes goes into the current node of its state
 abbrev pub TextsTaken : Type 0
 TextsTaken = (s : ControlState) (v : Split) → takes_text v ≡ true → TakesText (state_over v s)
+
+-- so does one where nothing own is open, if it is told truly that the older current node is HTML
+abbrev pub TextsTakenBelow : Type 0
+TextsTakenBelow = (text : List ℕ) (s : ControlState) (v : Split) (old new : Heard) → may_take_text v ≡ true → Runs old new (current_is_plan kinds.AnyHtml v) (Ok true) → AllTrue s old.says (asked_by old.says (handle_plan (as_run text) v))
+    → IsOver s v → TakesText (state_over v s)
 
 -- a text without U+0000 that the state takes so, handled as one run, is its code points, one by one
 abbrev pub TextsHandled : Type 0

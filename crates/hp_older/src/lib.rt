@@ -2,7 +2,7 @@
 //! before the page's first element. Laws on contracts whose bodies do nothing.
 #![tactic(auto)]
 
-ghost use Rattle.hp_older.specs.Laws.{AreValid, Begins, ForeignTold, KnownBegin, LastTagTold, OwnTrue, StayUnedited, TextsHandled, TextsTaken, TokensGoOn, TokensHandled, TokensTold, ViewsBegin};
+ghost use Rattle.hp_older.specs.Laws.{AreValid, Begins, ForeignTold, KnownBegin, LastTagTold, OwnTrue, StayUnedited, TextsHandled, TextsTaken, TextsTakenBelow, TokensGoOn, TokensHandled, TokensTold, ViewsBegin};
 ghost use Rattle.hp_older.specs.Tokens.{AllHandled};
 
 /// Where a view begins: a chunk's state goes on from the older one, since it has no new elements; a view over any valid older state that
@@ -28,9 +28,11 @@ pub fn tokens_over()
     ensures handled { TokensHandled }
 {}
 
-/// The same of a text that goes into the current node as it comes: it is its code points, one by one.
+/// The same of a text that goes into the current node as it comes, an own one or an older one that is told to be HTML: it is its code
+/// points, one by one.
 pub fn texts_over()
     ensures takes { TextsTaken }
+    ensures below { TextsTakenBelow }
     ensures handled { TextsHandled }
 {}
 

@@ -2,7 +2,7 @@ use Rattle.std.proofs.Common.{◌∷◌, [], map, subst}
 use Rattle.std.specs.Prelude.{◌-◌, ◌^◌}
 use Rattle.hp_tokens.specs.Rows.{character}
 use Rattle.hp_model.specs.Texts.{as_run}
-use Rattle.hp_fragment.proofs.Stepping.{same-further, text-further}
+use Rattle.hp_fragment.proofs.Stepping.{lexed, same-further, text-further, view-takes}
 use Rattle.hp_fragment.proofs.Turning.{step-smaller, went-nowhere}
 use Rattle.hp_fragment.specs.Reading.{Handled, Stage, stage}
 use Rattle.hp_fragment.proofs.parsing.Parsing.take_text.Goals as goal
@@ -14,9 +14,10 @@ returns-in_ok-put_text-in-Some-clause-tried g c =
 
 pub returns-in_ok-put_text-in-Some-clause-reads : goal.returns-in_ok-put_text-in-Some-clause-reads
 returns-in_ok-put_text-in-Some-clause-reads g c =
-    text-further c.views_over.ensures.valid c.comes_on.ensures.text c.texts_over.ensures.takes (stage g.B.Below.heard c.args.self.now) (stage g.B.Below.heard c.put_text.new.self) c.next_text.new.self.lexer c.next_text.new.self.input
-    c.in-Some.text c.requires.ready c.in-Some.ensures.stepped c.requires.takes
-    (subst (λ (p : Stage). Handled p (stage g.B.Below.heard c.put_text.new.self) (as_run c.in-Some.text ∷ [])) c.in-Some.ensures.same c.in_ok-put_text-in-Some.ensures)
+    text-further c.views_over.ensures.valid c.comes_on.ensures.text (stage g.B.Below.heard c.args.self.now) (stage g.B.Below.heard c.put_text.new.self) c.next_text.new.self.lexer c.next_text.new.self.input
+    c.in-Some.text c.requires.ready c.in-Some.ensures.stepped
+    (view-takes c.texts_over.ensures.takes (lexed (stage g.B.Below.heard c.args.self.now) c.next_text.new.self.lexer c.next_text.new.self.input) (stage g.B.Below.heard c.put_text.new.self) c.in-Some.text c.requires.takes
+    (subst (λ (p : Stage). Handled p (stage g.B.Below.heard c.put_text.new.self) (as_run c.in-Some.text ∷ [])) c.in-Some.ensures.same c.in_ok-put_text-in-Some.ensures))
 
 pub returns-in-None-clause-tried : goal.returns-in-None-clause-tried
 returns-in-None-clause-tried g c =
