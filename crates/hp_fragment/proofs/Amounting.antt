@@ -1,5 +1,5 @@
 -- What the edits amount to, once more are made.
-use Rattle.std.proofs.Common.{◌≡◌, List, ◌++◌, map, Bool, true, false, refl, ap, ◌∙◌, sym, subst}
+use Rattle.std.proofs.Common.{◌≡◌, List, ◌++◌, map, Bool, true, false, ap, ◌∙◌, sym, subst}
 use Rattle.hp_control.specs.Apply.{named_edit}
 use Rattle.hp_control.specs.Nothing.{nothing}
 use Rattle.hp_control.specs.States.{ControlState}

@@ -3,7 +3,7 @@ use Rattle.std.proofs.Common.{◌≡◌, List, [], ◌∷◌, ◌++◌, ap, ◌�
 use Rattle.hp_control.specs.declared.question.Answer.{Answer}
 use Rattle.hp_control.specs.declared.question.Question.{Question}
 use Rattle.hp_control.specs.Agree.{AllTrue}
-use Rattle.hp_control.specs.Plan.{Heard, gives, noting}
+use Rattle.hp_control.specs.Plan.{Heard, noting}
 use Rattle.hp_control.specs.Running.{noting_more, runs_gives}
 use Rattle.hp_control.specs.States.{ControlState}
 

@@ -8,14 +8,13 @@ use Rattle.std.specs.Str.{IsUtf8, chars}
 use Rattle.hp_elements.specs.declared.token.Token.{Token}
 use Rattle.hp_names.specs.BuiltIn.{built_in}
 use Rattle.hp_tokens.specs.Advancing.{AreRuns, Ends as EndsText, end_of_text, held, lexing, singles}
-use Rattle.hp_tokens.specs.Moves.{Lexing, Move, move, needs_more}
 use Rattle.hp_tokens.specs.Reading.{Unread}
 use Rattle.hp_tokens.specs.declared.lexing.LexState.{LexState}
 use Rattle.hp_tokens.specs.declared.machine.Machine.{Machine}
 use Rattle.hp_control.specs.Agree.{AllTrue}
 use Rattle.hp_control.specs.Apply.{named, named_child, named_edit, named_place}
 use Rattle.hp_control.specs.Edits.{IsFixed, IsFixedChild, IsFixedEdit, IsFixedPlace}
-use Rattle.hp_control.specs.Faithful.{Split, state_over}
+use Rattle.hp_control.specs.Faithful.{state_over}
 use Rattle.hp_control.specs.Nothing.{nothing}
 use Rattle.hp_control.specs.States.{ControlState, IsValid, lex_start, may_be_ahead, start}
 use Rattle.hp_control.specs.Tree.{Tree, applied_all, document}
@@ -37,14 +36,14 @@ use Rattle.hp_lexer.specs.Standing.{stands}
 use Rattle.hp_lexer.specs.Table.{table}
 use Rattle.hp_model.specs.AtOnce.{MakeSame, RunsAtOnce, handle_at_once}
 use Rattle.hp_model.specs.Handling.{handle}
-use Rattle.hp_model.specs.Runs.{Parser, Rests, followed_by, goes, rests, step, step_by}
+use Rattle.hp_model.specs.Runs.{Parser, followed_by, goes, rests, step_by}
 use Rattle.hp_older.specs.Laws.{OwnTrue}
 use Rattle.hp_older.specs.Over.{IsOver}
 use Rattle.hp_older.specs.Tokens.{MayAllCome}
 use Rattle.hp_pieces.proofs.SameRuns.{end-same}
 use Rattle.hp_pieces.specs.Fragments.{IsEnd, IsRun}
 use Rattle.hp_pieces.specs.Laws.{EndsHandled, LeadsValid, PageBuilt}
-use Rattle.hp_pieces.specs.Running.{Ends, Leads, parser_in, state_at}
+use Rattle.hp_pieces.specs.Running.{Ends, parser_in}
 use Rattle.hp_runs.proofs.Own.{own-goes}
 use Rattle.hp_runs.proofs.Turning.{Does, all-together}
 use Rattle.hp_runs.specs.Coming.{HasCome, TextBegins}
@@ -54,7 +53,7 @@ use Rattle.hp_runs.specs.Tokens.{AllRead}
 use Rattle.hp_fragment.proofs.Telling.{known-filled}
 use Rattle.hp_fragment.specs.Known.{EndsInput, RanFrom, state_of, way_from}
 use Rattle.hp_fragment.specs.Making.{Amounts, HasGrownBy, is_growing}
-use Rattle.hp_fragment.specs.Reading.{GoesToEnd, Handled, HasRead, HasReadAll, IsHandled, IsReady, Stage, control_at}
+use Rattle.hp_fragment.specs.Reading.{GoesToEnd, Handled, HasRead, HasReadAll, IsHandled, Stage, control_at}
 use Rattle.hp_fragment.specs.declared.sink.Sink.{Sink}
 use Rattle.hp_fragment.specs.declared.sink.Sink.TheVariants.{Grows, Keeps}
 

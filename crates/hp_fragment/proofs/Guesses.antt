@@ -1,9 +1,8 @@
 -- What a parser behind a guess has made is true of each older state of which the answers are true.
-use Rattle.std.proofs.Common.{◌≡◌, ℕ, ◌^◌, ◌<◌, List, [], ◌∷◌, ◌++◌, map, length, Bool, true, false, cond, refl, ap, ◌∙◌, sym, subst, lit≤, arith, ◌≤◌, Option, None, Some}
-use Rattle.std.specs.Prelude.{All, IsSome, IsTrue, Result, Ok, take, if◌then◌else◌}
+use Rattle.std.proofs.Common.{◌≡◌, ℕ, ◌^◌, ◌<◌, List, [], ◌∷◌, ◌++◌, map, length, Bool, true, false, refl, ap, ◌∙◌, sym, subst, lit≤, arith, ◌≤◌, Option, None, Some}
+use Rattle.std.specs.Prelude.{All, IsTrue, Result, Ok, take, if◌then◌else◌}
 use Rattle.std.specs.Option.{is_some, unwrap_or}
-use Rattle.std.specs.Str.{IsCharBoundary, IsUtf8, chars}
-use Rattle.std.proofs.lemmas.Bool.{true≢false}
+use Rattle.std.specs.Str.{IsUtf8, chars}
 use Rattle.std.proofs.lemmas.List.Elements.{All-cons, All-nil}
 use Rattle.std.proofs.lemmas.List.{length-take}
 use Rattle.std.proofs.lemmas.Str.{IsCharBoundary-from_take, IsCharBoundary-start}
@@ -11,9 +10,8 @@ use Rattle.hp_elements.specs.declared.token.Mode.{Mode}
 use Rattle.hp_elements.specs.declared.token.Rest.{Rest}
 use Rattle.hp_names.specs.BuiltIn.{built_in}
 use Rattle.hp_tokens.specs.Advancing.{held, rest_state}
-use Rattle.hp_tokens.specs.Moves.{Lexing, standing}
+use Rattle.hp_tokens.specs.Moves.{standing}
 use Rattle.hp_tokens.specs.Reading.{Unread}
-use Rattle.hp_tokens.specs.Rows.{resting}
 use Rattle.hp_tokens.specs.declared.lexing.LexState.{LexState}
 use Rattle.hp_tokens.specs.declared.machine.Machine.{Machine}
 use Rattle.hp_control.specs.Agree.{AllTrue}
@@ -25,7 +23,6 @@ use Rattle.hp_control.specs.Laws.{KeptOnceWhereTrue}
 use Rattle.hp_control.specs.Plan.{Heard, added, added_each, is_asked, kept_pairs, noting}
 use Rattle.hp_control.specs.States.{ControlState, Fits, IsValid, lex_start}
 use Rattle.hp_control.specs.Tree.{applied_all}
-use Rattle.hp_control.specs.Truth.{answer_of}
 use Rattle.hp_control.specs.declared.change.Change.{Change}
 use Rattle.hp_control.specs.declared.edit.Edit.{Edit}
 use Rattle.hp_control.specs.declared.question.Answer.{Answer}
@@ -43,12 +40,12 @@ use Rattle.hp_model.specs.AtOnce.{MakeSame}
 use Rattle.hp_model.specs.Runs.{Parser, followed_by, goes, rests, step_by}
 use Rattle.hp_older.specs.Laws.{IsBegun, ViewsBegin}
 use Rattle.hp_older.specs.Over.{IsOver}
-use Rattle.hp_pieces.specs.Guesses.{Guessed, IsSound}
-use Rattle.hp_pieces.specs.Running.{Leads, parser_in, state_at}
+use Rattle.hp_pieces.specs.Guesses.{IsSound}
+use Rattle.hp_pieces.specs.Running.{Leads, parser_in}
 use Rattle.hp_runs.proofs.Own.{own-goes}
 use Rattle.hp_runs.specs.Coming.{HasCome, TextBegins}
 use Rattle.hp_runs.specs.Filled.{filled}
-use Rattle.hp_views.specs.Begins.{Begins, begins, begun_by, ended}
+use Rattle.hp_views.specs.Begins.{Begins, begins, ended}
 use Rattle.hp_fragment.proofs.Asking.{noted-then}
 use Rattle.hp_fragment.proofs.Ended.{some-is}
 use Rattle.hp_fragment.specs.Guessing.{HasBegun, IsGuessOf, IsSaid}

@@ -1,6 +1,6 @@
 -- Tokens that are handled over whatever is below, one behind the other.
-use Rattle.std.proofs.Common.{◌≡◌, ℕ, List, [], ◌∷◌, ◌++◌, map, Bool, true, false, refl, ap, ◌∙◌, sym, subst, append-nil, append_assoc, Option, None, Some}
-use Rattle.std.specs.Prelude.{not, ◌&&◌, Result, Ok}
+use Rattle.std.proofs.Common.{◌≡◌, ℕ, List, [], ◌∷◌, ◌++◌, Bool, true, refl, ap, ◌∙◌, sym, subst, append-nil, append_assoc, Option}
+use Rattle.std.specs.Prelude.{not, ◌&&◌, Ok}
 use Rattle.std.specs.List.{list_all}
 use Rattle.std.proofs.lemmas.Bool.{and_from, and_parts}
 use Rattle.hp_elements.specs.declared.kinds.Kinds.TheVariants as kinds
@@ -9,7 +9,6 @@ use Rattle.hp_elements.specs.declared.token.Rest.{Rest}
 use Rattle.hp_elements.specs.declared.token.Token.{Token}
 use Rattle.hp_elements.specs.declared.token.Token.TheVariants.{Characters}
 use Rattle.hp_control.specs.declared.edit.Edit.{Edit}
-use Rattle.hp_control.specs.Agree.{AllTrue}
 use Rattle.hp_control.specs.Faithful.{Split, state_over}
 use Rattle.hp_control.specs.Outcome.{touches_any}
 use Rattle.hp_control.specs.Plan.{Heard, Runs, asked_by}
@@ -17,16 +16,15 @@ use Rattle.hp_control.specs.States.{ControlState, lex_start}
 use Rattle.hp_lexer.specs.declared.lexer.Lexer.{Lexer}
 use Rattle.hp_lexer.specs.Standing.{SwitchesFall}
 use Rattle.hp_model.specs.Apart.{AtOnceApart, relexed, relexed_state}
-use Rattle.hp_model.specs.AtOnce.{MakeSame, handle_at_once}
+use Rattle.hp_model.specs.AtOnce.{handle_at_once}
 use Rattle.hp_model.specs.Texts.{as_run, is_white, white_or_other}
 use Rattle.hp_model.specs.Turns.{Handled as Meant, left_by}
 use Rattle.hp_acts.specs.declared.turns.Handled.{Handled as Told}
 use Rattle.hp_acts.specs.HandlePlans.{handle_plan}
 use Rattle.hp_acts.specs.Plain.{may_take_text}
-use Rattle.hp_acts.specs.RowPlans.{Reached}
 use Rattle.hp_older.proofs.Truly.{true-front}
 use Rattle.hp_older.specs.Laws.{IsDoneOver, StayUnedited, TextsTakenBelow, TokensHandled}
-use Rattle.hp_older.specs.Over.{IsOver, MayCome}
+use Rattle.hp_older.specs.Over.{IsOver}
 use Rattle.hp_older.specs.Tokens.{MayAllCome}
 use Rattle.hp_views.specs.StackPlans.{current_is_plan}
 use Rattle.hp_runs.proofs.Batches.{left-append, made-append}
@@ -38,7 +36,6 @@ use Rattle.hp_fragment.proofs.Asking.{noted-none, noted-then, true-then}
 use Rattle.hp_fragment.proofs.Turning.{none-turned, turned-once, turned-then}
 use Rattle.hp_fragment.specs.Making.{Amounts}
 use Rattle.hp_fragment.specs.Reading.{Handled, IsHandled, IsTurned, Stage, TextHandled, control_at}
-use Rattle.hp_fragment.specs.declared.sink.Sink.{Sink}
 
 lexer-append : (does : Handler) (c : ControlState) (xs ys : List Token) (l : Lexer) → lexer_after does c (xs ++ ys) l ≡ lexer_after does (left_after does c xs) ys (lexer_after does c xs l)
 lexer-append does c [] ys l = refl

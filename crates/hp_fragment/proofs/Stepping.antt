@@ -1,8 +1,7 @@
 -- What each way of the parser does to how far the run has come.
-use Rattle.std.proofs.Common.{◌≡◌, ℕ, ◌^◌, List, [], ◌∷◌, ◌++◌, Bool, true, false, refl, ap, ◌∙◌, sym, subst, append-nil, inl, Option, None, Some}
-use Rattle.std.specs.Prelude.{not, ◌&&◌, Result, Ok}
+use Rattle.std.proofs.Common.{◌≡◌, ℕ, ◌^◌, List, [], ◌∷◌, ◌++◌, Bool, true, false, refl, ap, ◌∙◌, sym, subst, append-nil, inl, Option, Some}
+use Rattle.std.specs.Prelude.{not, ◌&&◌, Ok}
 use Rattle.std.specs.List.{list_all}
-use Rattle.std.specs.Option.{unwrap_or}
 use Rattle.std.proofs.lemmas.Bool.{and_parts, not-true}
 use Rattle.hp_elements.specs.declared.kinds.Kinds.TheVariants as kinds
 use Rattle.hp_elements.specs.declared.token.CharClass.{CharClass}
@@ -11,15 +10,11 @@ use Rattle.hp_elements.specs.declared.token.Rest.{Rest}
 use Rattle.hp_elements.specs.declared.token.Token.{Token}
 use Rattle.hp_elements.specs.declared.token.Token.TheVariants.{Characters}
 use Rattle.hp_names.specs.BuiltIn.{built_in}
-use Rattle.hp_names.specs.References.{Reference}
-use Rattle.hp_tokens.specs.Moves.{Lexing, asks_last_tag, move}
+use Rattle.hp_tokens.specs.Moves.{Lexing}
 use Rattle.hp_tokens.specs.Reading.{Unread}
 use Rattle.hp_tokens.specs.Rows.{is_blank}
 use Rattle.hp_control.proofs.StartLemmas.{start_valid}
 use Rattle.hp_control.specs.declared.edit.Edit.{Edit}
-use Rattle.hp_control.specs.declared.question.Question.{Question}
-use Rattle.hp_control.specs.Agree.{AllTrue}
-use Rattle.hp_control.specs.Composed.{is_foreign_now}
 use Rattle.hp_control.specs.Faithful.{Split, state_over}
 use Rattle.hp_control.specs.Outcome.{touches_any}
 use Rattle.hp_control.specs.Plan.{Heard, Plan, Runs, asked_by}
@@ -29,11 +24,10 @@ use Rattle.hp_lexer.specs.declared.lexer.Lexer.{Lexer}
 use Rattle.hp_lexer.specs.declared.lexer.Step.TheVariants as steps
 use Rattle.hp_lexer.specs.Places.{told}
 use Rattle.hp_lexer.specs.Standing.{IsBatch, PlainStepped, Reaches, ReachesCdata, Stepped, TagStepped, stands}
-use Rattle.hp_lexer.specs.Table.{table}
 use Rattle.hp_acts.specs.Plain.{takes_text}
 use Rattle.hp_model.specs.AtOnce.{handle_at_once}
 use Rattle.hp_model.specs.Texts.{TakesText, as_run, is_white, white_or_other}
-use Rattle.hp_model.specs.Turns.{Handled as Meant, left_by}
+use Rattle.hp_model.specs.Turns.{left_by}
 use Rattle.hp_older.specs.Laws.{AreValid, ForeignTold, LastTagTold, TextsTaken}
 use Rattle.hp_older.specs.Over.{IsOver}
 use Rattle.hp_older.specs.Tokens.{MayAllCome}

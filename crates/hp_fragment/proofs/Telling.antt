@@ -6,7 +6,7 @@ use Rattle.hp_elements.specs.declared.token.Token.{Token}
 use Rattle.hp_names.specs.References.{Reference}
 use Rattle.hp_tokens.specs.declared.lexing.LexState.{LexState}
 use Rattle.hp_tokens.specs.declared.machine.Machine.{Machine}
-use Rattle.hp_tokens.specs.Moves.{Emitted, Lexing, Move, asks_cdata, asks_last_tag, ends, makes, move, needs_more}
+use Rattle.hp_tokens.specs.Moves.{Emitted, Lexing, Move, asks_cdata, asks_last_tag, makes, move}
 use Rattle.hp_tokens.specs.Reading.{Unread}
 use Rattle.hp_tokens.specs.Runs.{Leads, here, onward}
 use Rattle.hp_control.specs.States.{ControlState}

@@ -1,10 +1,9 @@
 -- The lexer behind switches, and its load behind a step.
 use Rattle.std.proofs.Common.{◌≡◌, ℕ, ◌+◌, ◌*◌, ◌<◌, ◌≤◌, ◌^◌, List, Bool, true, false, cond, refl, ap, ◌∙◌, sym, subst, arith, lit≤, Option, None, Some}
-use Rattle.std.specs.Prelude.{sum_by, IsTrue}
+use Rattle.std.specs.Prelude.{sum_by}
 use Rattle.std.specs.Char.{len_utf8}
 use Rattle.hp_elements.specs.declared.token.Rest.{Rest}
 use Rattle.hp_elements.specs.declared.token.Token.{Token}
-use Rattle.hp_names.specs.BuiltIn.{built_in}
 use Rattle.hp_tokens.specs.Advancing.{held}
 use Rattle.hp_tokens.specs.Ranks.{weight}
 use Rattle.hp_tokens.specs.Reading.{Unread}

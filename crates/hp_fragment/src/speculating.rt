@@ -156,7 +156,10 @@ fn cover<'p, P: Predictor + Drop>(
     ensures { result ≡ made_of text.now covered parsing.entry.lexer.lex parsing.entry.view }
 {
     let Parsing {
-        lexer, view, sink, ..
+        lexer,
+        view,
+        sink,
+        ..
     } = parsing;
     leave_sink(sink);
     let Lexer { lex, .. } = lexer;

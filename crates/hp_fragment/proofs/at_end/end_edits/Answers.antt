@@ -1,4 +1,4 @@
-use Rattle.std.proofs.Common.{List, map, refl, subst, sym}
+use Rattle.std.proofs.Common.{List, subst, sym}
 use Rattle.std.proofs.lemmas.Result.{IfOk-weaker}
 use Rattle.hp_control.specs.States.{IsValid}
 use Rattle.hp_control.specs.declared.edit.Edit.{Edit}

@@ -1,5 +1,5 @@
-use Rattle.std.proofs.Common.{List, ℕ, subst, sym}
-use Rattle.std.specs.Prelude.{Result, IfOk}
+use Rattle.std.proofs.Common.{ℕ, subst, sym}
+use Rattle.std.specs.Prelude.{IfOk}
 use Rattle.hp_control.specs.declared.question.Answer.{Answer}
 use Rattle.hp_control.specs.declared.question.Question.{Question}
 use Rattle.hp_views.specs.View.{split_of}
@@ -11,11 +11,11 @@ use Rattle.hp_fragment.proofs.speculating.try_front.Goals as goal
 pub returns : goal.returns
 returns g c =
     elim c.match-told.branch [
-      in-Resting w ↦
+      | in-Resting w ↦
           subst (λ r. IfOk r (IsTried (g.P.Predictor.says c.args.predictor) c.args.text.now)) (sym w.result-is)
           (subst (λ (x : Question → Answer). IfOk w.read_front.result (IsTried x c.args.text.now))
           (says-stay g.P.Predictor.says c.args.predictor c.new.result c.in_ok-view.view.below (split_of c.in_ok-view.view) c.in_ok-view.told c.new.ensures c.in_ok-view.ensures) w.read_front.ensures)
-    | in_default w ↦
+      | in_default w ↦
           subst (λ r. IfOk r (IsTried (g.P.Predictor.says c.args.predictor) c.args.text.now)) (sym w.result-is)
           (subst (IsGuessOf (g.P.Predictor.says c.args.predictor) c.args.text.now) (sym w.cover_nothing.ensures)
           (nothing-guessed g.P.Predictor.says c.args.predictor c.new.result c.in_ok-view.view.below (split_of c.in_ok-view.view) c.in_ok-view.told c.new.ensures c.in_ok-view.ensures c.args.text.now _ _))

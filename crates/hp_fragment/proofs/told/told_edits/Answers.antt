@@ -1,4 +1,4 @@
-use Rattle.std.proofs.Common.{List, ap, map, ◌∙◌}
+use Rattle.std.proofs.Common.{ap, map, ◌∙◌}
 use Rattle.std.proofs.lemmas.Result.{IfOk-weaker}
 use Rattle.hp_control.specs.Apply.{named_edit}
 use Rattle.hp_control.specs.Nothing.{nothing}

@@ -1,4 +1,4 @@
-use Rattle.std.proofs.Common.{map, refl}
+use Rattle.std.proofs.Common.{map}
 use Rattle.std.specs.Prelude.{◌-◌, ◌^◌}
 use Rattle.hp_tokens.specs.Rows.{character}
 use Rattle.hp_fragment.proofs.Stepping.{blanks-further, lexed, same-further}
