@@ -8,5 +8,4 @@ pub mod Stepping
 pub mod Taking
 pub mod Ended
 pub mod NoNul
-pub mod ToldEdits
 pub mod Guesses

@@ -34,7 +34,7 @@ fn end_edits<'p>(alloc: Global, from: &Control) -> Result<Edits<'p>, NoMemory>
 {
     let mut parsing = Parsing::before(alloc, from, "", Sink::Keeps)?;
     match parsing.end_input(alloc) {
-        Ok(()) => told_edits(alloc, parsing),
+        Ok(()) => Ok(told_edits(parsing)),
         Err(_) => {
             leave(parsing);
             Err(NoMemory)

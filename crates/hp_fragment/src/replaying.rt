@@ -47,5 +47,5 @@ fn run_from<'p>(
 {
     runs_stay_valid();
     let parsing = Parsing::behind(alloc, from, text, Sink::Keeps)?;
-    told_state(alloc, parsing)
+    Ok(told_state(parsing))
 }

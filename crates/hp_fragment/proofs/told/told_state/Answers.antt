@@ -6,8 +6,8 @@ use Rattle.hp_fragment.proofs.told.told_state.Goals as goal
 pub into_control-control-requires : goal.into_control-control-requires
 into_control-control-requires c = record { valid = c.requires.valid }
 
-pub returns-in-Ok-clause-state : goal.returns-in-Ok-clause-state
-returns-in-Ok-clause-state c = c.into_control-control.ensures.state
+pub returns-clause-state : goal.returns-clause-state
+returns-clause-state c = c.into_control-control.ensures.state
 
-pub returns-in-Ok-clause-edits : goal.returns-in-Ok-clause-edits
-returns-in-Ok-clause-edits c = c.in-Ok.ensures ∙ ap (map (named_edit nothing)) c.into_control-control.ensures.edits
+pub returns-clause-edits : goal.returns-clause-edits
+returns-clause-edits c = c.tell.ensures ∙ ap (map (named_edit nothing)) c.into_control-control.ensures.edits
