@@ -6,16 +6,16 @@ ghost use Rattle.hp_print.specs.Out.{Finished, IsEmpty, Prints, Starts};
 ghost use Rattle.hp_print.specs.Print.{indentation};
 
 use crate::filled::Filled;
-use hp_text::{Sink, write_whole};
+use hp_text::{Sink, WriteFault, write_whole};
 use std::alloc::{AllocError as NoMemory, Global};
 
-/// What was printed and isn't written yet.
+/// What was printed and isn't written yet. Counts of bytes stand still at `u64::MAX`.
 #[derive(Drop)]
 pub enum Out {
-    /// What was gathered since the last write.
-    Gathered(Filled),
-    /// A write failed, and nothing more is written.
-    Failed,
+    /// What was gathered since the last write, and how many bytes were written.
+    Gathered { gathered: Filled, written: u64 },
+    /// A write failed after so many bytes were taken, and nothing more is written.
+    Failed { taken: u64 },
 }
 
 const BLANKS: [u8; 64] = [b' '; 64];
@@ -30,7 +30,10 @@ impl Out {
         ensures { IfOk result Starts }
     {
         let gathered = Filled::new(alloc)?;
-        Ok(Out::Gathered(gathered))
+        Ok(Out::Gathered {
+            gathered,
+            written: 0,
+        })
     }
 
     /// Prints these bytes.
@@ -39,12 +42,12 @@ impl Out {
         ensures { Prints self.old self.new (K.taken sink.old, K.faults sink.old) (K.taken sink.new, K.faults sink.new) piece.now }
     {
         match self {
-            Out::Gathered(gathered) => {
+            Out::Gathered { gathered, .. } => {
                 if !gathered.append(piece) {
                     self.put_beyond(sink, piece);
                 }
             }
-            Out::Failed => {}
+            Out::Failed { .. } => {}
         }
     }
 
@@ -55,15 +58,18 @@ impl Out {
     {
         self.flush(sink);
         match self {
-            Out::Gathered(gathered) => {
+            Out::Gathered { gathered, written } => {
                 if !gathered.append(piece) {
                     match write_whole(sink, piece) {
-                        Ok(()) => {}
-                        Err(_) => *self = Out::Failed,
+                        Ok(()) => *written = written.saturating_add(piece.len() as u64),
+                        Err(fault) => {
+                            let taken = written.saturating_add(fault.taken);
+                            *self = Out::Failed { taken };
+                        }
                     }
                 }
             }
-            Out::Failed => {}
+            Out::Failed { .. } => {}
         }
     }
 
@@ -73,25 +79,33 @@ impl Out {
         ensures empty { IsEmpty self.new }
     {
         match self {
-            Out::Gathered(gathered) => {
-                match write_whole(sink, gathered.as_slice()) {
-                    Ok(()) => gathered.clear(),
-                    Err(_) => *self = Out::Failed,
+            Out::Gathered { gathered, written } => {
+                let bytes = gathered.as_slice();
+                let more = bytes.len() as u64;
+                match write_whole(sink, bytes) {
+                    Ok(()) => {
+                        gathered.clear();
+                        *written = written.saturating_add(more);
+                    }
+                    Err(fault) => {
+                        let taken = written.saturating_add(fault.taken);
+                        *self = Out::Failed { taken };
+                    }
                 }
             }
-            Out::Failed => {}
+            Out::Failed { .. } => {}
         }
     }
 
-    /// Writes the rest. Whether all was written.
+    /// Writes the rest. An `Err` tells how many of all bytes that were printed the sink took.
     #[tactic(auto, using(crate::proofs::Pieces::finished_whole, crate::proofs::Pieces::finished_part))]
-    pub fn finish<K: Sink>(&mut self, sink: &mut K) -> bool
+    pub fn finish<K: Sink>(&mut self, sink: &mut K) -> Result<(), WriteFault>
         ensures { Finished self.old result (K.taken sink.old, K.faults sink.old) (K.taken sink.new, K.faults sink.new) }
     {
         self.flush(sink);
         match self {
-            Out::Gathered(_) => true,
-            Out::Failed => false,
+            Out::Gathered { .. } => Ok(()),
+            Out::Failed { taken } => Err(WriteFault { taken: *taken }),
         }
     }
 
@@ -110,12 +124,12 @@ impl Out {
         ensures { Prints self.old self.new (K.taken sink.old, K.faults sink.old) (K.taken sink.new, K.faults sink.new) (indentation depth ++ left ∷ (encode_utf8_all (chars text.now) ++ right ∷ 10 ∷ [])) }
     {
         match self {
-            Out::Gathered(gathered) => {
+            Out::Gathered { gathered, .. } => {
                 if !gathered.append_line(depth, left, text, right) {
                     self.put_line_beyond(sink, depth, left, text, right);
                 }
             }
-            Out::Failed => {}
+            Out::Failed { .. } => {}
         }
     }
 
@@ -145,12 +159,12 @@ impl Out {
         ensures { Prints self.old self.new (K.taken sink.old, K.faults sink.old) (K.taken sink.new, K.faults sink.new) (indentation depth ++ encode_utf8_all (chars name.now) ++ codes "=\"" ++ encode_utf8_all (chars value.now) ++ codes "\"\n") }
     {
         match self {
-            Out::Gathered(gathered) => {
+            Out::Gathered { gathered, .. } => {
                 if !gathered.append_pair(depth, name, value) {
                     self.put_pair_beyond(sink, depth, name, value);
                 }
             }
-            Out::Failed => {}
+            Out::Failed { .. } => {}
         }
     }
 

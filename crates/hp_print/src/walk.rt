@@ -5,7 +5,8 @@ ghost use Rattle.std.specs.Io.KnownBytes.{append_known};
 ghost use Rattle.hp_text.specs.Device.{Rose};
 ghost use Rattle.hp_arena.specs.Readers.{parent_of, place_of, HasTag};
 ghost use Rattle.hp_control.specs.Tree.{branch};
-ghost use Rattle.hp_print.specs.Out.{Prints, TakesPart};
+ghost use Rattle.hp_print.specs.Out.{Prints, TakesFirst};
+ghost use Rattle.hp_print.specs.Faults.{OnFault};
 ghost use Rattle.hp_print.specs.Print.{print};
 ghost use Rattle.hp_print.specs.Stack.{HasRoom, IsDeep, IsMark, Pushed, Stepped, attributes_in, lines_at, steps_at};
 
@@ -33,8 +34,8 @@ pub struct Mark {
 pub enum Refusal {
     /// Memory was wanting, or the text would be of absurd length. Nothing was written.
     NoMemory,
-    /// A write failed.
-    Fault,
+    /// A write failed, after the sink had taken so many bytes of the text. The count stands still at `u64::MAX`.
+    Fault { taken: u64 },
 }
 
 /// A text with more levels than these above its lines is of absurd length: that of a tree goes by the square of its depth.
@@ -55,9 +56,9 @@ pub fn print_tree(alloc: Global, tree: &Tree<'_>) -> Result<Vec<u8>, NoMemory>
 pub fn write_tree<K: Sink>(alloc: Global, tree: &Tree<'_>, sink: &mut K) -> Result<(), Refusal>
     ensures whole { OnOk result (K.taken sink.new ≡ append_known (K.taken sink.old) (print tree.now.branches)) }
 
-    // At a fault the sink took a proper first part, and its own count shows it.
-    ensures part { result ≡ Err Refusal.Fault → TakesPart (print tree.now.branches) (K.taken sink.old) (K.taken sink.new) }
-    ensures failed { result ≡ Err Refusal.Fault → Rose (K.faults sink.old) (K.faults sink.new) }
+    // At a fault the sink took a proper first part, whose length the fault tells, and the sink's own count shows it.
+    ensures part { OnFault result (λ taken. TakesFirst taken (print tree.now.branches) (K.taken sink.old) (K.taken sink.new)) }
+    ensures failed { OnFault result (λ _. Rose (K.faults sink.old) (K.faults sink.new)) }
 
     ensures nothing { result ≡ Err Refusal.NoMemory → sink.new ≡ sink.old }
 {
@@ -75,10 +76,9 @@ pub fn write_tree<K: Sink>(alloc: Global, tree: &Tree<'_>, sink: &mut K) -> Resu
         return Err(Refusal::NoMemory);
     };
     print_all(alloc, tree, &mut stack, &mut list, &mut out, sink);
-    if out.finish(sink) {
-        Ok(())
-    } else {
-        Err(Refusal::Fault)
+    match out.finish(sink) {
+        Ok(()) => Ok(()),
+        Err(fault) => Err(Refusal::Fault { taken: fault.taken }),
     }
 }
 

@@ -3,7 +3,9 @@ use Rattle.std.proofs.Common.{◌≡◌, ℕ, List, [], subst}
 use Rattle.std.specs.Prelude.{Option, None, Some, IfSome, Result, Ok, Err}
 use Rattle.std.specs.Result.{IsOk, OnOk}
 use Rattle.std.specs.Str.{chars}
+use Rattle.hp_print.specs.Faults.{IsFault, OnFault}
 use Rattle.hp_print.specs.declared.walk.Refusal.{Refusal}
+use Rattle.hp_print.specs.declared.walk.Refusal.TheVariants.{NoMemory, Fault}
 use Rattle.hp_text.specs.Text.{without_mark}
 use Rattle.hp_program.specs.Answers.{ComesExactly, IsText, TakesPage, TakesPagePart, TakesSomePage, TakesSomePagePart, TakesTreeOf, TakesTreePartOf}
 use Rattle.hp_program.specs.declared.status.Status.{Status}
@@ -19,6 +21,12 @@ takes_page_part bytes page old new is taken = subst (λ (p : List ℕ). TakesTre
 pub of_ok : (outcome : Result (Unit {0}) Refusal) (P : Type 0) → IsOk outcome → OnOk outcome P → P
 of_ok (Ok v) P is h = h
 of_ok (Err refusal) P is h = absurd (cc is)
+
+-- what a write that failed ensures
+pub of_fault : (outcome : Result (Unit {0}) Refusal) (P : Type 0) → IsFault outcome → OnFault outcome (λ _. P) → P
+of_fault (Ok v) P is h = absurd is
+of_fault (Err NoMemory) P is h = absurd is
+of_fault (Err (Fault taken)) P is h = h
 
 -- it is that of some page
 pub takes_some : (bytes : List ℕ) (old new : Option (List ℕ)) → IsText bytes → TakesPage bytes old new → TakesSomePage old new

@@ -5,7 +5,8 @@ ghost use Rattle.hp_text.specs.Device.{Rose, Gives};
 ghost use Rattle.hp_program.specs.Answers.{IsTooLarge, IsNotText, IsText, ComesExactly, TakesTreeOf, TakesTreePartOf, TakesPage, TakesPagePart, TakesSomePage, TakesSomePagePart};
 ghost use Rattle.hp_text.specs.Page.{text_of};
 ghost use Rattle.hp_text.specs.Text.{without_mark};
-ghost use Rattle.hp_print.specs.Out.{TakesPart};
+ghost use Rattle.hp_print.specs.Faults.{IsFault, OnFault};
+ghost use Rattle.hp_print.specs.Out.{TakesFirst};
 ghost use Rattle.hp_print.specs.Print.{print};
 ghost use Rattle.std.specs.Io.KnownBytes.{append_known};
 ghost use Rattle.std.specs.Str.{chars};
@@ -38,8 +39,8 @@ fn refused(refusal: ReadRefusal) -> Status
 /// Writes a tree as text to `out`.
 fn write_parsed<K: Sink>(alloc: Global, tree: Tree<'_>, out: &mut K) -> Result<(), Refusal>
     ensures whole { OnOk result (K.taken out.new ≡ append_known (K.taken out.old) (print tree.entry.branches)) }
-    ensures part { result ≡ Err Refusal.Fault → TakesPart (print tree.entry.branches) (K.taken out.old) (K.taken out.new) }
-    ensures failed { result ≡ Err Refusal.Fault → Rose (K.faults out.old) (K.faults out.new) }
+    ensures part { OnFault result (λ taken. TakesFirst taken (print tree.entry.branches) (K.taken out.old) (K.taken out.new)) }
+    ensures failed { OnFault result (λ _. Rose (K.faults out.old) (K.faults out.new)) }
     ensures nothing { result ≡ Err Refusal.NoMemory → out.new ≡ out.old }
 {
     let outcome = write_tree(alloc, &tree, out);
@@ -51,8 +52,8 @@ fn write_parsed<K: Sink>(alloc: Global, tree: Tree<'_>, out: &mut K) -> Result<(
 /// Writes the printed tree of a page to `out`.
 fn write_page<K: Sink>(alloc: Global, page: Page<'_>, out: &mut K) -> Result<(), Refusal>
     ensures whole { OnOk result (TakesTreeOf (chars (text_of page.entry)) (K.taken out.old) (K.taken out.new)) }
-    ensures part { result ≡ Err Refusal.Fault → TakesTreePartOf (chars (text_of page.entry)) (K.taken out.old) (K.taken out.new) }
-    ensures failed { result ≡ Err Refusal.Fault → Rose (K.faults out.old) (K.faults out.new) }
+    ensures part { OnFault result (λ _. TakesTreePartOf (chars (text_of page.entry)) (K.taken out.old) (K.taken out.new)) }
+    ensures failed { OnFault result (λ _. Rose (K.faults out.old) (K.faults out.new)) }
     ensures nothing { result ≡ Err Refusal.NoMemory → out.new ≡ out.old }
 {
     match parse_whole(alloc, page) {
@@ -64,13 +65,13 @@ fn write_page<K: Sink>(alloc: Global, page: Page<'_>, out: &mut K) -> Result<(),
 /// The status of a write.
 fn status_of(outcome: Result<(), Refusal>) -> Status
     ensures done { (result ≡ Status.Done) ↔ IsOk outcome }
-    ensures write_fault { (result ≡ Status.WriteFault) ↔ (outcome ≡ Err Refusal.Fault) }
+    ensures write_fault { (result ≡ Status.WriteFault) ↔ IsFault outcome }
     ensures no_memory { (result ≡ Status.NoMemory) ↔ (outcome ≡ Err Refusal.NoMemory) }
     ensures answers { (result ≡ Status.Done) ⊎ (result ≡ Status.WriteFault) ⊎ (result ≡ Status.NoMemory) }
 {
     match outcome {
         Ok(()) => Status::Done,
-        Err(Refusal::Fault) => Status::WriteFault,
+        Err(Refusal::Fault { .. }) => Status::WriteFault,
         Err(Refusal::NoMemory) => Status::NoMemory,
     }
 }

@@ -45,12 +45,17 @@ fn grow(rt: &impl Abort, alloc: Global, tree: &mut Tree<'static>, by: By, count:
     }
 }
 
-/// An output with so much room takes that much of the text; and all of it where there is room for it.
+/// An output with so much room takes that much of the text, and the fault tells it; and all of it where there is room for it.
 fn assert_taken(rt: &impl Abort, alloc: Global, tree: &Tree<'_>, text: &[u8], room: usize) {
     let mut out = MemorySink::new(alloc, room, &[]).expect(rt, "there is memory");
-    let is_whole = write_tree(alloc, tree, &mut out).is_ok();
+    let outcome = write_tree(alloc, tree, &mut out);
     assert!(rt; room <= text.len());
-    let well = out.taken() == &text[..room] && is_whole == (room == text.len());
+    let expected = if room == text.len() {
+        Ok(())
+    } else {
+        Err(Refusal::Fault { taken: room as u64 })
+    };
+    let well = out.taken() == &text[..room] && outcome == expected;
     mem::forget(out);
     assert!(rt; well, "room for {room}");
 }

@@ -1,6 +1,7 @@
-use Rattle.std.proofs.Common.{rules, ◌≡◌, ap, sym, refl, inl, ◌∙◌}
+use Rattle.std.proofs.Common.{rules, ◌≡◌, ap, sym, subst, refl, inl, ◌∙◌}
 use Rattle.std.proofs.lemmas.Bool.{true≢false}
 use Rattle.std.specs.Prelude.{is_ok}
+use Rattle.hp_print.specs.Faults.{IsFault}
 use Rattle.hp_program.specs.declared.status.Status.TheVariants.{Done, WriteFault}
 use Rattle.hp_program.proofs.top.status_of.Goals as goal
 
@@ -11,7 +12,7 @@ pub returns-in-Ok-clause-done : goal.returns-in-Ok-clause-done
 returns-in-Ok-clause-done c = (λ _. ap is_ok c.in-Ok.is, λ _. refl)
 
 pub returns-in-Ok-clause-write_fault : goal.returns-in-Ok-clause-write_fault
-returns-in-Ok-clause-write_fault c = (λ e. absurd (apart e), λ e. absurd (true≢false (sym (ap is_ok c.in-Ok.is) ∙ ap is_ok e)))
+returns-in-Ok-clause-write_fault c = (λ e. absurd (apart e), λ e. absurd (subst IsFault c.in-Ok.is e))
 
 pub returns-in-Ok-clause-answers : goal.returns-in-Ok-clause-answers
 returns-in-Ok-clause-answers c = inl refl
