@@ -1,5 +1,5 @@
 -- What was written of a page.
-use Rattle.std.proofs.Common.{◌≡◌, ℕ, List, [], subst}
+use Rattle.std.proofs.Common.{◌≡◌, ℕ, List, [], ap, ◌∙◌, subst}
 use Rattle.std.specs.Prelude.{Option, None, Some, IfSome, Result, Ok, Err}
 use Rattle.std.specs.Result.{IsOk, OnOk}
 use Rattle.std.specs.Str.{chars}
@@ -45,3 +45,15 @@ pub without_words : (left : Option (List ℕ)) (answer : Status) (cause : List �
     → IfSome left (λ bytes. ComesExactly answer (cause bytes) result rose) → IfSome left (λ bytes. ComesExactly answer ((words ≡ []) × cause bytes) result rose)
 without_words None answer cause words result rose none h = tt
 without_words (Some bytes) answer cause words result rose none h = record { only = λ e. (none, h.only e); always = λ k. h.always k.1 }
+
+ok_same : (words : Result (List (List ℕ)) Status) (one other : List (List ℕ)) → words ≡ Ok one → words ≡ Ok other → one ≡ other
+ok_same words one other first second = cc
+
+-- the same of words that were read
+pub of_words : (left : Option (List ℕ)) (answer : Status) (cause : List ℕ → Type 0) (words : Result (List (List ℕ)) Status) (read : List (List ℕ)) (result : Status) (rose : Type 0)
+    → words ≡ Ok read → IfSome left (λ bytes. ComesExactly answer ((read ≡ []) × cause bytes) result rose) → IfSome left (λ bytes. ComesExactly answer ((words ≡ Ok []) × cause bytes) result rose)
+of_words None answer cause words read result rose is h = tt
+of_words (Some bytes) answer cause words read result rose is h = record {
+  only = λ e. (is ∙ ap Ok (h.only e).0, (h.only e).1);
+  always = λ k. h.always (ok_same words read [] is k.0, k.1);
+}

@@ -1,6 +1,7 @@
 //! The program `hpar`: reads a page from the standard input, and prints its tree to the standard output.
 #![tactic(auto)]
 
+mod answering;
 mod gate;
 mod status;
 #[cfg(test)]
@@ -8,6 +9,7 @@ mod tests;
 mod top;
 mod words;
 
+pub use answering::answer;
 pub use gate::{Gate, OpenGate};
 use hp_text::{StreamSink, StreamSource};
 pub use status::Status;
@@ -19,17 +21,14 @@ fn main(rt: HostRuntime) -> ExitCode {
     let mut page = StreamSource::new(rt.stdin());
     let mut out = StreamSink::new(rt.stdout());
     let mut notes = StreamSink::new(rt.stderr());
-    let status = match words::program_words(&rt) {
-        Ok(words) => hpar(
-            &rt,
-            rt.alloc(),
-            &words,
-            &mut page,
-            &mut out,
-            &mut notes,
-            &OpenGate,
-        ),
-        Err(status) => status,
-    };
+    let status = answer(
+        &rt,
+        rt.alloc(),
+        words::program_words(&rt),
+        &mut page,
+        &mut out,
+        &mut notes,
+        &OpenGate,
+    );
     ExitCode::from(status.code())
 }

@@ -1,10 +1,11 @@
 //! The words that the program is called with.
-ghost use Rattle.std.specs.Prelude.{◌≡◌, ◌⊎◌, ◌↔◌, [], ◌∷◌, ◌++◌, IsTrue, IfErr, OnOk, OnErr};
+ghost use Rattle.std.specs.Prelude.{◌≡◌, ◌⊎◌, ◌↔◌, [], ◌∷◌, ◌++◌, map, drop, string_bytes, IsTrue, IfOk, IfErr, OnOk, OnErr};
+ghost use Rattle.std.specs.Vec.Iter.{into_iter_items};
 
 use crate::status::Status;
 use hp_text::NoMemory;
 use std::alloc::Global;
-use std::env;
+use std::env::{self, Args};
 use std::io::ErrorKind;
 use std::marker::Model;
 use std::rt::Env;
@@ -70,11 +71,17 @@ pub fn program_words<R: Env + AllocGlobal>(rt: &R) -> Result<Words, Status>
         Err(fault) if fault.kind() == ErrorKind::OutOfMemory => return Err(Status::NoMemory),
         Err(_) => return Err(Status::Usage),
     };
+    words_after_name(rt.alloc(), args).map_err(|_| Status::NoMemory)
+}
+
+/// The words after the first one, which is the program's name.
+fn words_after_name(alloc: Global, mut args: Args) -> Result<Words, NoMemory>
+    ensures { IfOk result (λ words. words ≡ drop 1 (map string_bytes (into_iter_items args))) }
+{
+    let _name = args.next();
     let mut words = Words::new();
-    for word in args.skip(1) {
-        if words.push(rt.alloc(), word.as_str()).is_err() {
-            return Err(Status::NoMemory);
-        }
+    for word in args {
+        words.push(alloc, word.as_str())?;
     }
     Ok(words)
 }
