@@ -9,10 +9,11 @@
 //! - Calls within others: `is_seen` by `InScope`, `through` by `CloseItem`, `close`, `implied_except` and `has_paragraph` by `CloseParagraph`, `through_named` and
 //!   `end_form_in_template` by `EndForm` in a template, `pop_run` by `Implied`, `place` and `put` by `Characters`, `remove_entry` and `take_off` by
 //!   `CloseLink`, `append_entry` by `AppendToList`, `switch_to` by `Switch`.
-//! - `hp_foreign::goes_to_foreign` by `Handles`, `put_replacements` by `Replacement`; `hp_acts::handle` and `handle_text` by `Handles` and `Reads`.
-use hp_acts::{Spending, carry, handle, handle_text, takes_text};
+//! - `hp_foreign::goes_to_foreign` by `Handles`, `put_replacements` by `Replacement`; `hp_acts::handle`, `handle_text` and `handle_text_below` by `Handles`,
+//!   `Reads` and `ReadsBelow`.
+use hp_acts::{Spending, carry, handle, handle_text, handle_text_below, may_take_text, takes_text};
 use hp_control::{Below, Refusal};
-use hp_elements::{Act, Chain, CharClass, Known, Name, Namespace, Tag, Test, Text, Token};
+use hp_elements::{Act, Chain, CharClass, Kinds, Known, Name, Namespace, Tag, Test, Text, Token};
 use hp_views::View;
 use std::alloc::Global;
 use std::mem;
@@ -38,6 +39,8 @@ pub(crate) enum Step {
     Handles(Known),
     /// A text is handled as it comes.
     Reads,
+    /// The same where nothing own is open, and the older current node is HTML.
+    ReadsBelow,
     /// The adjusted current node, where there is one, is an HTML element.
     IsHtml,
     /// The last start tag's name is told.
@@ -97,6 +100,13 @@ fn tells_last_tag<'p, B: Below>(alloc: Global, view: &mut View<'p, B>) -> bool {
     well
 }
 
+/// Whether the older current node is HTML, and a text goes into it.
+fn reads_below<'p, B: Below>(alloc: Global, view: &mut View<'p, B>) -> bool {
+    matches!(view.current_is(alloc, Kinds::AnyHtml), Ok(true))
+        && may_take_text(view)
+        && handle_text_below(alloc, view, Text::of_char('a')).is_ok()
+}
+
 /// Whether the step comes out so.
 fn comes_out<'p, B: Below>(alloc: Global, view: &mut View<'p, B>, step: Step) -> bool {
     match step {
@@ -116,6 +126,7 @@ fn comes_out<'p, B: Below>(alloc: Global, view: &mut View<'p, B>, step: Step) ->
         }
         Step::Handles(known) => handle(alloc, view, start(known)).is_ok(),
         Step::Reads => takes_text(view) && handle_text(alloc, view, Text::of_char('a')).is_ok(),
+        Step::ReadsBelow => reads_below(alloc, view),
         Step::IsHtml => matches!(view.foreign_now(alloc), Ok(false)),
         Step::LastTag => tells_last_tag(alloc, view),
         Step::EmptiesForm => view.empty_form(alloc).is_ok(),

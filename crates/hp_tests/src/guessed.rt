@@ -1,6 +1,7 @@
 //! Steps over the guess of a prescan: each comes out, and what was asked is true of the guessed state.
 use crate::carrying::Step::{
     self, Crosses, Does, Fails, Fosters, Handles, Holds, IsHtml, LastTag, Notes, Puts, Reads,
+    ReadsBelow,
 };
 use crate::carrying::count_of;
 use crate::parts::chunk_of;
@@ -153,6 +154,18 @@ static CASES: &[Case] = &[
             Does(Known::P, Act::SkipLineFeed),
         ],
         open: 1,
+        gone: 0,
+    },
+    Case {
+        before: "<div>",
+        steps: &[
+            ReadsBelow,
+            Handles(Known::LI),
+            Reads,
+            Does(Known::LI, Act::CloseItem),
+            ReadsBelow,
+        ],
+        open: 0,
         gone: 0,
     },
     Case {
