@@ -1,5 +1,6 @@
 -- The front behind a guess that covers something.
 use Rattle.std.proofs.Common.{◌≡◌, ◌<◌, ℕ, zero, suc, Bool, false, [], map, refl, sym, ap, ap₂, subst, ◌∙◌, arith}
+use Rattle.std.proofs.Math.Dec.{eqb-suc-zero}
 use Rattle.std.specs.Prelude.{◌==◌, if◌then◌else◌}
 use Rattle.hp_control.specs.Apply.{applied, named_edit}
 use Rattle.hp_control.specs.States.{ControlState}
@@ -14,7 +15,7 @@ fore s t = record { control = s; tree = t }
 
 some : (n : ℕ) → 0 < n → (n == 0) ≡ false
 some zero h = absurd (omega arith)
-some (suc n) h = refl
+some (suc n) h = eqb-suc-zero n
 
 pub guess_joined : (f : Fore) (g : Guess) (s new : ControlState) (t made : Tree) → 0 < g.covered → fore s t ≡ f → new ≡ applied g.change s → made ≡ applied_all t (map (named_edit s) g.edits)
     → fore new made ≡ joined f (Guessed g)
