@@ -4,7 +4,7 @@ ghost use Rattle.hp_control.specs.Holds.{Holds};
 ghost use Rattle.hp_names.specs.BuiltIn.{built_in};
 ghost use Rattle.hp_pieces.specs.Guesses.{IsSound};
 
-use hp_control::{Answer, Assumptions, Control, Kept, Question, truth};
+use hp_control::{Answer, Control, Kept, Question, truth};
 use hp_pieces::{Fragment, Guessed};
 
 /// What comes of looking at a fragment over a known state.
@@ -56,7 +56,7 @@ pub(crate) fn check<'f>(control: &Control, fragment: &'f Fragment<'_>) -> Checke
                 Checked::OtherEntry
             }
         }
-        Fragment::Guessed(guessed) => match first_false(control, guessed.assumptions()) {
+        Fragment::Guessed(guessed) => match first_false(control, guessed.assumptions().as_slice()) {
             None => Checked::Holds,
             Some(Kept { question, answer }) => Checked::Fails { question, answer },
         },
@@ -64,10 +64,10 @@ pub(crate) fn check<'f>(control: &Control, fragment: &'f Fragment<'_>) -> Checke
 }
 
 /// The first pair of which the answer isn't the true one.
-fn first_false<'f>(control: &Control, kept: &'f Assumptions) -> Option<&'f Kept>
+fn first_false<'f>(control: &Control, kept: &'f [Kept]) -> Option<&'f Kept>
     ensures { MatchOption result (Holds kept.now control.now) (λ pair. IsFirstFalse control.now kept.now pair.now.question pair.now.answer) }
 {
-    for pair in kept.as_slice() {
+    for pair in kept {
         if !truth(control, &pair.question, &pair.answer) {
             return Some(pair);
         }

@@ -1,10 +1,10 @@
 //! What a chunk keeps of its own, copied with its ids counted on, and put on top of the older ones.
-ghost use Rattle.std.specs.Prelude.{◌≡◌, ◌+◌, ◌<◌, ◌^◌, ◌++◌, All, map, OnOk, OnErr};
+ghost use Rattle.std.specs.Prelude.{◌≡◌, ◌+◌, ◌<◌, ◌^◌, ◌∷◌, ◌++◌, All, map, OnOk, OnErr};
 ghost use Rattle.hp_control.specs.Apply.{shifted, shifted_entry, IsShiftable};
-ghost use Rattle.hp_merge.specs.Parts.{laid, AreCounted};
+ghost use Rattle.hp_merge.specs.Parts.{laid, laid_list, laid_others, AreCounted};
 
 use crate::parts::Parts;
-use hp_control::{Change, FormattingEntry, OpenElements, Stack, put_listed, put_open};
+use hp_control::{Change, FormattingEntry, OpenElement, OpenElements, Stack, put_listed, put_open};
 use hp_elements::{Mode, NoMemory};
 use std::alloc::Global;
 
@@ -37,16 +37,27 @@ fn lay_elements(
 {
     let count = own.len();
     for turn in 0..count {
-        let element = own.at(count - 1 - turn);
-        let laid = match element.shifted(alloc, next) {
-            Ok(copy) => put_open(alloc, stack, copy).is_ok(),
-            Err(_) => false,
-        };
-        if !laid {
+        if lay_element(alloc, own.at(count - 1 - turn), next, stack).is_err() {
             stack.drop_top(turn);
             return Err(NoMemory);
         }
     }
+    Ok(())
+}
+
+/// Puts one element on top.
+fn lay_element(
+    alloc: Global,
+    element: &OpenElement,
+    next: u64,
+    stack: &mut OpenElements,
+) -> Result<(), NoMemory>
+    requires { next + element.now.id < 2 ^ 64 }
+    ensures ok { OnOk result (stack.new ≡ shifted next element.now ∷ stack.old) }
+    ensures err { OnErr result (stack.new ≡ stack.old) }
+{
+    let copy = element.shifted(alloc, next)?;
+    put_open(alloc, stack, copy)?;
     Ok(())
 }
 
@@ -64,16 +75,27 @@ fn lay_entries(
 {
     let count = own.len();
     for turn in 0..count {
-        let entry = own.at(count - 1 - turn);
-        let laid = match entry.shifted(alloc, next) {
-            Ok(copy) => put_listed(alloc, list, copy).is_ok(),
-            Err(_) => false,
-        };
-        if !laid {
+        if lay_entry(alloc, own.at(count - 1 - turn), next, list).is_err() {
             list.drop_top(turn);
             return Err(NoMemory);
         }
     }
+    Ok(())
+}
+
+/// Puts one formatting entry on top.
+fn lay_entry(
+    alloc: Global,
+    entry: &FormattingEntry,
+    next: u64,
+    list: &mut Stack<FormattingEntry>,
+) -> Result<(), NoMemory>
+    requires { IsShiftable next entry.now }
+    ensures ok { OnOk result (list.new ≡ shifted_entry next entry.now ∷ list.old) }
+    ensures err { OnErr result (list.new ≡ list.old) }
+{
+    let copy = entry.shifted(alloc, next)?;
+    put_listed(alloc, list, copy)?;
     Ok(())
 }
 
@@ -91,8 +113,6 @@ pub(crate) fn lay(alloc: Global, change: &Change, parts: &mut Parts) -> Result<(
     }
     Ok(())
 }
-
-ghost use Rattle.hp_merge.specs.Parts.{laid_elements, laid_others};
 
 /// The same of all but the template modes.
 fn lay_others(alloc: Global, change: &Change, parts: &mut Parts) -> Result<(), NoMemory>

@@ -33,9 +33,10 @@ pub(crate) fn make_over<'p>(
     ensures { tree.new.branches ≡ applied_all tree.old.branches (map (named_edit_over (drop above stack.now) next) edits.entry) }
 {
     laws::edits_are_told();
-    let mut edits = edits.into_vec(alloc);
-    name_all(edits.as_mut_slice(), stack, above, next);
-    tree.apply_all(edits.as_mut_slice());
+    let mut batch = edits.into_vec(alloc);
+    let edits = batch.as_mut_slice();
+    name_all(edits, stack, above, next);
+    tree.apply_all(edits);
     // Its elements are counted in 32 bits.
     let _count = tree.len();
 }

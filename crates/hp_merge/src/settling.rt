@@ -93,9 +93,10 @@ fn lex_after(is_set: bool, own: LexState, older: LexState) -> LexState
     }
     let LexState { machine, ahead } = own;
     let LexState {
-        machine: Machine { last_tag, .. },
+        machine: before,
         ..
     } = older;
+    let Machine { last_tag, .. } = before;
     let machine = Machine {
         last_tag,
         ..machine
