@@ -1,5 +1,5 @@
 -- Fronts at places of a page's text.
-use Rattle.std.proofs.Common.{◌≡◌, ◌+◌, ◌≤◌, ◌^◌, ℕ, List, length, map, sym, subst, IfOk}
+use Rattle.std.proofs.Common.{◌≡◌, ℕ, List, length, sym, subst, IfOk}
 use Rattle.std.specs.Prelude.{Result, Ok, Err}
 use Rattle.std.specs.Str.{chars}
 use Rattle.hp_names.specs.BuiltIn.{built_in}

@@ -1,4 +1,4 @@
-use Rattle.std.proofs.Common.{◌≡◌, ◌+◌, sym, subst}
+use Rattle.std.proofs.Common.{◌+◌, sym, subst}
 use Rattle.std.specs.Str.{IsUtf8}
 use Rattle.hp_text.specs.Page.{text_of as page_text}
 use Rattle.hp_pieces.specs.Texts.{covered_of}

@@ -1,6 +1,5 @@
-use Rattle.std.proofs.Common.{◌≡◌, sym, rules}
+use Rattle.std.proofs.Common.{sym, rules}
 use Rattle.std.proofs.lemmas.Bool.{true≢false}
-use Rattle.hp_merge.specs.declared.checking.Checked.TheVariants as checked
 use Rattle.hp_workers.proofs.Holding.{may_not}
 use Rattle.hp_workers.proofs.joining.may_join.Goals as goal
 

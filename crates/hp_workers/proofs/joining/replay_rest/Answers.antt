@@ -1,6 +1,6 @@
 use Rattle.std.proofs.Common.{◌≡◌, ◌+◌, ℕ, ap, subst, OnOk, length, arith}
 use Rattle.hp_text.specs.Page.{text_of as page_text}
-use Rattle.hp_pieces.specs.Texts.{covered_of, text_of}
+use Rattle.hp_pieces.specs.Texts.{covered_of}
 use Rattle.hp_workers.specs.Joining.{StandsAt}
 use Rattle.hp_workers.proofs.Holding.{covers_all}
 use Rattle.hp_workers.proofs.joining.replay_rest.Goals as goal

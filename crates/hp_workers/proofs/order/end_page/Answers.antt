@@ -1,4 +1,4 @@
-use Rattle.std.proofs.Common.{◌≡◌, ◌∙◌}
+use Rattle.std.proofs.Common.{◌∙◌}
 use Rattle.hp_text.specs.Page.{text_of as page_text}
 use Rattle.hp_workers.proofs.Placing.{builds_page}
 use Rattle.hp_workers.proofs.order.end_page.Goals as goal
