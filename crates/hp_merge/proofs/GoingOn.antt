@@ -1,0 +1,56 @@
+-- A front at a place of a page's text goes on by a fragment of what follows.
+use Rattle.std.proofs.Common.{◌≡◌, ℕ, ◌+◌, ◌-◌, ◌≤◌, List, length, take, drop, sym, ap, subst, ◌∙◌, arith}
+use Rattle.std.specs.Prelude.{slice_range}
+use Rattle.std.specs.Str.{chars, IsCharBoundary, IsUtf8}
+use Rattle.std.proofs.lemmas.List.{length-take, length-drop, take-take, take_all}
+use Rattle.std.proofs.lemmas.Str.{IsCharBoundary-from_rest, IsCharBoundary-from_take, IsUtf8-drop, IsUtf8-take}
+use Rattle.hp_names.specs.BuiltIn.{built_in}
+use Rattle.hp_names.specs.References.{Reference}
+use Rattle.hp_control.specs.States.{ControlState, start}
+use Rattle.hp_control.specs.Tree.{document}
+use Rattle.hp_pieces.specs.At.{AtCovers, AtStart, AtValid}
+use Rattle.hp_pieces.specs.Guesses.{edits_over, state_behind}
+use Rattle.hp_pieces.specs.Laws.{GuessLeads, RunsWait}
+use Rattle.hp_pieces.specs.Running.{Leads}
+use Rattle.hp_pieces.specs.Waiting.{MayStand, Waits}
+use Rattle.hp_pieces.specs.declared.fragment.Fragment.TheVariants.{Exact, Guessed}
+use Rattle.hp_merge.specs.Laws.{GoesOn, StandsBehind}
+
+-- what a part covers ends within it
+reaches : (text part : List ℕ) (n m k : ℕ) → part ≡ slice_range text n m → k ≤ length part → n ≤ m → n + k ≤ m
+reaches text part n m k is h low = omega (arith, ap length is, length-take (m - n) (drop n text))
+
+covers_front : (text part : List ℕ) (n m k : ℕ) → part ≡ slice_range text n m → k ≤ length part → k ≤ m - n
+covers_front text part n m k is h = omega (arith, ap length is, length-take (m - n) (drop n text))
+
+covers_rest : (text part : List ℕ) (n m k : ℕ) → part ≡ slice_range text n m → k ≤ length part → k ≤ length (drop n text)
+covers_rest text part n m k is h = omega (arith, ap length is, length-take (m - n) (drop n text))
+
+begins : (text part : List ℕ) (n m k : ℕ) → IsUtf8 text → IsCharBoundary text n → part ≡ slice_range text n m → k ≤ length part → IsUtf8 (take k part) → IsCharBoundary text (n + k)
+begins text part n m k utf8 from is h covered =
+    let same : take k part ≡ take k (drop n text) = ap (take k) is ∙ take-take k (m - n) (drop n text) (covers_front text part n m k is h) in
+    IsCharBoundary-from_rest text n k from.0 (IsCharBoundary-from_take (drop n text) k (IsUtf8-drop text n utf8 from) (covers_rest text part n m k is h) (subst IsUtf8 same covered))
+
+pub stands_behind : StandsBehind
+stands_behind text n m (Exact known) utf8 from low sound is =
+    let all : take (length known.text) known.text ≡ known.text = take_all (length known.text) known.text (omega arith) in
+    (begins text known.text n m (length known.text) utf8 from is (omega arith) (subst IsUtf8 (sym all) sound.utf8), reaches text known.text n m (length known.text) is (omega arith) low)
+stands_behind text n m (Guessed g) utf8 from low sound is =
+    (begins text g.text n m g.covered utf8 from is sound.0.within (IsUtf8-take g.text g.covered sound.0.utf8 sound.0.boundary), reaches text g.text n m g.covered is sound.0.within low)
+
+pub goes_on : AtCovers → AtStart → AtValid → RunsWait → GuessLeads → GoesOn
+goes_on covers begun valid waits guess text n m f (Exact known) at fits utf8 from low sound entry is =
+    let all : take (length known.text) known.text ≡ known.text = take_all (length known.text) known.text (omega arith) in
+    covers text n m (length known.text) f.control known.exit f.tree known.edits at utf8 from (reaches text known.text n m (length known.text) is (omega arith) low)
+    (subst (λ (s : ControlState). Leads built_in (chars (take (length known.text) (slice_range text n m))) s known.edits known.exit) entry
+    (subst (λ (bytes : List ℕ). Leads built_in (chars bytes) known.entry known.edits known.exit) (sym all ∙ ap (take (length known.text)) is) sound.leads))
+goes_on covers begun valid waits guess text n m f (Guessed g) at fits utf8 from low sound holds is =
+    let may : MayStand g.names f.control = record {
+      valid = valid text n f.control f.tree at;
+      fits = fits;
+      waits = subst (λ (names : List Reference). Waits names f.control) (sym sound.1) (waits (chars (take n text)) start f.control at.edits at.leads (valid text 0 start document (begun text)));
+    } in
+    covers text n m g.covered f.control (state_behind g f.control) f.tree (edits_over g f.control) at utf8 from (reaches text g.text n m g.covered is sound.0.within low)
+    (subst (λ (bytes : List ℕ). Leads built_in (chars (take g.covered bytes)) f.control (edits_over g f.control) (state_behind g f.control)) is
+    (subst (λ (names : List Reference). Leads names (chars (take g.covered g.text)) f.control (edits_over g f.control) (state_behind g f.control)) sound.1
+    (guess g f.control sound.0 may holds)))

@@ -1,0 +1,15 @@
+use Rattle.std.proofs.Common.{◌≡◌, List, arith, rules, subst}
+use Rattle.std.proofs.lemmas.List.{take_all}
+use Rattle.hp_control.specs.declared.question.Kept.{Kept}
+use Rattle.hp_control.specs.Holds.{Holds}
+use Rattle.hp_control.specs.Truth.{answer_of}
+use Rattle.hp_merge.proofs.Holding.{holds_more}
+use Rattle.hp_merge.proofs.checking.first_false.Goals as goal
+
+pub loop-pair-preserved : goal.loop-pair-preserved
+loop-pair-preserved c =
+    let here : answer_of c.args.control.now c.pair-item.result.question ≡ c.pair-item.result.answer = search rules in
+    holds_more c.args.control.now c.args.kept.now c.loop-pair.pair-index c.pair-item.result (omega arith) c.pair-item.is c.loop-pair.invariant here
+
+pub returns : goal.returns
+returns c = subst (λ (kept : List Kept). Holds kept c.args.control.now) (take_all c.loop-pair.pair-index c.args.kept.now (omega arith)) c.loop-pair.invariant

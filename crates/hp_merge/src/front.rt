@@ -1,0 +1,141 @@
+//! The front.
+ghost use Rattle.std.specs.Prelude.{◌≡◌, IfOk, IfErr, OnOk, OnErr};
+ghost use Rattle.hp_control.specs.States.{Fits, start};
+ghost use Rattle.hp_control.specs.Tree.{applied_all, document};
+
+use crate::checking::{Checked, check};
+use crate::joining::{end_tree, join_exact, joined_to};
+use hp_arena::Tree;
+use hp_control::Control;
+use hp_elements::NoMemory;
+use hp_pieces::{Ending, Exact, Fragment, Guessed};
+use std::alloc::Global;
+use std::marker::Model;
+use std::mem;
+
+/// The state and the tree behind the text of a page that was joined so far. A contract sees it as a `Fore`.
+#[derive(Drop)]
+pub struct Front<'p> {
+    control: Control,
+    tree: Tree<'p>,
+}
+
+impl<'p> Model for Front<'p> {
+    ghost use Rattle.hp_merge.specs.Fore.{Fore};
+
+    ghost Value = { Fore };
+
+    ghost view = { λ f. record { control = f.control; tree = f.tree.branches } };
+}
+
+/// There is no memory to join a fragment, which comes back.
+#[derive(Drop)]
+pub struct JoinRefusal<'p> {
+    pub fragment: Fragment<'p>,
+}
+
+impl<'p> Front<'p> {
+    ghost use Rattle.hp_merge.specs.Checked.{IsChecked, MayJoin};
+    ghost use Rattle.hp_merge.specs.Joined.{joined};
+    ghost use Rattle.hp_pieces.specs.declared.fragment.Fragment.TheVariants as fragment_of;
+
+    /// The front before a page's text. `Err` is want of memory.
+    pub fn start(alloc: Global) -> Result<Front<'p>, NoMemory>
+        ensures { IfOk result (λ front. front ≡ record { control = start; tree = document }) }
+    {
+        let tree = Tree::start(alloc)?;
+        Ok(Front {
+            control: Control::start(),
+            tree,
+        })
+    }
+
+    /// The state.
+    pub fn control(&self) -> &Control
+        ensures { result.now ≡ self.now.control }
+    {
+        &self.control
+    }
+
+    /// The tree.
+    pub fn tree(&self) -> &Tree<'p>
+        ensures { result.now.branches ≡ self.now.tree }
+    {
+        &self.tree
+    }
+
+    /// Whether a fragment may be joined, and if not, which answer that it assumes is the first that isn't the true one. It takes no
+    /// memory.
+    pub fn check<'f>(&self, fragment: &'f Fragment<'_>) -> Checked<'f>
+        ensures { IsChecked self.now.control fragment.now result }
+    {
+        check(&self.control, fragment)
+    }
+
+    /// Joins a fragment: the front is then the state and the tree behind what the fragment covers. `Err` is want of memory, which hands
+    /// the fragment back.
+    pub fn join(&mut self, alloc: Global, fragment: Fragment<'p>) -> Result<(), JoinRefusal<'p>>
+        requires fits { Fits self.old.control }
+        requires holds { MayJoin self.old.control fragment }
+        ensures ok { OnOk result (self.new ≡ joined self.old fragment.entry) }
+        ensures err { OnErr result (self.new ≡ self.old) }
+        ensures back { IfErr result (λ refusal. refusal.fragment ≡ fragment.entry) }
+    {
+        match fragment {
+            Fragment::Exact(exact) => self.join_exact(alloc, exact),
+            Fragment::Guessed(guess) => self.join_guess(alloc, guess),
+        }
+    }
+
+    /// Joins what is exact from this state.
+    fn join_exact(&mut self, alloc: Global, exact: Exact<'p>) -> Result<(), JoinRefusal<'p>>
+        ensures ok { OnOk result (self.new ≡ joined self.old (fragment_of.Exact exact.entry)) }
+        ensures err { OnErr result (self.new ≡ self.old) }
+        ensures back { IfErr result (λ refusal. refusal.fragment ≡ fragment_of.Exact exact.entry) }
+    {
+        match join_exact(alloc, &mut self.tree, exact) {
+            Ok(exit) => {
+                self.control = exit;
+                Ok(())
+            }
+            Err(exact) => Err(JoinRefusal {
+                fragment: Fragment::Exact(exact),
+            }),
+        }
+    }
+
+    /// Joins a guess of which the answers are true.
+    fn join_guess(&mut self, alloc: Global, guess: Guessed<'p>) -> Result<(), JoinRefusal<'p>>
+        requires fits { Fits self.old.control }
+        requires holds { MayJoin self.old.control (fragment_of.Guessed guess) }
+        ensures ok { OnOk result (self.new ≡ joined self.old (fragment_of.Guessed guess.entry)) }
+        ensures err { OnErr result (self.new ≡ self.old) }
+        ensures back { IfErr result (λ refusal. refusal.fragment ≡ fragment_of.Guessed guess.entry) }
+    {
+        if guess.covered() == 0 {
+            return Ok(());
+        }
+        let control = mem::replace(&mut self.control, Control::start());
+        match joined_to(alloc, control, &mut self.tree, guess) {
+            Ok(control) => {
+                self.control = control;
+                Ok(())
+            }
+            Err((control, guess)) => {
+                self.control = control;
+                Err(JoinRefusal {
+                    fragment: Fragment::Guessed(guess),
+                })
+            }
+        }
+    }
+
+    /// Ends the page: the tree with the edits of the end of input. `Err` is want of memory.
+    pub fn end(self, alloc: Global, ending: Ending<'p>) -> Result<Tree<'p>, NoMemory>
+        requires { ending.entry ≡ self.control }
+        ensures { IfOk result (λ tree. tree.branches ≡ applied_all self.entry.tree ending.entry.edits) }
+    {
+        let Front { tree, .. } = self;
+        end_tree(alloc, tree, ending)
+    }
+}

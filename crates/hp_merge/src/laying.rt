@@ -1,0 +1,147 @@
+//! What a chunk keeps of its own, copied with its ids counted on, and put on top of the older ones.
+ghost use Rattle.std.specs.Prelude.{◌≡◌, ◌+◌, ◌<◌, ◌^◌, ◌∷◌, ◌++◌, All, map, OnOk, OnErr};
+ghost use Rattle.hp_control.specs.Apply.{shifted, shifted_entry, IsShiftable};
+ghost use Rattle.hp_merge.specs.Parts.{laid, laid_list, laid_others, AreCounted};
+
+use crate::parts::Parts;
+use hp_control::{Change, FormattingEntry, OpenElement, OpenElements, Stack, put_listed, put_open};
+use hp_elements::{Mode, NoMemory};
+use std::alloc::Global;
+
+/// Puts the template modes on top of the older ones. At an `Err`, which is want of memory, these are as before.
+fn lay_modes(alloc: Global, own: &Stack<Mode>, modes: &mut Stack<Mode>) -> Result<(), NoMemory>
+    ensures ok { OnOk result (modes.new ≡ own.now ++ modes.old) }
+    ensures err { OnErr result (modes.new ≡ modes.old) }
+{
+    let count = own.len();
+    for turn in 0..count {
+        if modes.add(alloc, *own.at(count - 1 - turn)).is_err() {
+            modes.drop_top(turn);
+            return Err(NoMemory);
+        }
+    }
+    Ok(())
+}
+
+/// Puts the elements on top of the older ones, their ids counted from this one on. At an `Err`, which is want of memory, these are
+/// as before.
+fn lay_elements(
+    alloc: Global,
+    own: &OpenElements,
+    next: u64,
+    stack: &mut OpenElements,
+) -> Result<(), NoMemory>
+    requires counted { All (λ e. next + e.id < 2 ^ 64) own.now }
+    ensures ok { OnOk result (stack.new ≡ map (shifted next) own.now ++ stack.old) }
+    ensures err { OnErr result (stack.new ≡ stack.old) }
+{
+    let count = own.len();
+    for turn in 0..count {
+        if lay_element(alloc, own.at(count - 1 - turn), next, stack).is_err() {
+            stack.drop_top(turn);
+            return Err(NoMemory);
+        }
+    }
+    Ok(())
+}
+
+/// Puts one element on top.
+fn lay_element(
+    alloc: Global,
+    element: &OpenElement,
+    next: u64,
+    stack: &mut OpenElements,
+) -> Result<(), NoMemory>
+    requires { next + element.now.id < 2 ^ 64 }
+    ensures ok { OnOk result (stack.new ≡ shifted next element.now ∷ stack.old) }
+    ensures err { OnErr result (stack.new ≡ stack.old) }
+{
+    let copy = element.shifted(alloc, next)?;
+    put_open(alloc, stack, copy)?;
+    Ok(())
+}
+
+/// Puts the formatting entries on top of the older ones, their ids counted from this one on. At an `Err`, which is want of memory,
+/// these are as before.
+fn lay_entries(
+    alloc: Global,
+    own: &Stack<FormattingEntry>,
+    next: u64,
+    list: &mut Stack<FormattingEntry>,
+) -> Result<(), NoMemory>
+    requires counted { All (IsShiftable next) own.now }
+    ensures ok { OnOk result (list.new ≡ map (shifted_entry next) own.now ++ list.old) }
+    ensures err { OnErr result (list.new ≡ list.old) }
+{
+    let count = own.len();
+    for turn in 0..count {
+        if lay_entry(alloc, own.at(count - 1 - turn), next, list).is_err() {
+            list.drop_top(turn);
+            return Err(NoMemory);
+        }
+    }
+    Ok(())
+}
+
+/// Puts one formatting entry on top.
+fn lay_entry(
+    alloc: Global,
+    entry: &FormattingEntry,
+    next: u64,
+    list: &mut Stack<FormattingEntry>,
+) -> Result<(), NoMemory>
+    requires { IsShiftable next entry.now }
+    ensures ok { OnOk result (list.new ≡ shifted_entry next entry.now ∷ list.old) }
+    ensures err { OnErr result (list.new ≡ list.old) }
+{
+    let copy = entry.shifted(alloc, next)?;
+    put_listed(alloc, list, copy)?;
+    Ok(())
+}
+
+/// Puts all that a chunk keeps of its own on top of the older ones, which stay for now. At an `Err`, which is want of memory, the
+/// parts are as before.
+pub(crate) fn lay(alloc: Global, change: &Change, parts: &mut Parts) -> Result<(), NoMemory>
+    requires counted { AreCounted parts.old.next change.now }
+    ensures ok { OnOk result (parts.new ≡ laid change.now parts.old) }
+    ensures err { OnErr result (parts.new ≡ parts.old) }
+{
+    lay_modes(alloc, &change.templates, &mut parts.templates)?;
+    if lay_others(alloc, change, parts).is_err() {
+        parts.templates.drop_top(change.templates.len());
+        return Err(NoMemory);
+    }
+    Ok(())
+}
+
+/// The same of all but the template modes.
+fn lay_others(alloc: Global, change: &Change, parts: &mut Parts) -> Result<(), NoMemory>
+    requires counted { AreCounted parts.old.next change.now }
+    ensures ok { OnOk result (parts.new ≡ laid_others change.now parts.old) }
+    ensures err { OnErr result (parts.new ≡ parts.old) }
+{
+    lay_elements(alloc, &change.stack, parts.next, &mut parts.stack)?;
+    if lay_list(alloc, change, parts).is_err() {
+        parts.stack.drop_top(change.stack.len());
+        return Err(NoMemory);
+    }
+    Ok(())
+}
+
+/// The same of the formatting entries and the pending table characters.
+fn lay_list(alloc: Global, change: &Change, parts: &mut Parts) -> Result<(), NoMemory>
+    requires counted { AreCounted parts.old.next change.now }
+    ensures ok { OnOk result (parts.new ≡ laid_list change.now parts.old) }
+    ensures err { OnErr result (parts.new ≡ parts.old) }
+{
+    lay_entries(alloc, &change.formatting, parts.next, &mut parts.formatting)?;
+    if parts
+        .pending
+        .push_str(alloc, change.pending.as_str())
+        .is_err()
+    {
+        parts.formatting.drop_top(change.formatting.len());
+        return Err(NoMemory);
+    }
+    Ok(())
+}

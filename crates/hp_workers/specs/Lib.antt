@@ -1,0 +1,2 @@
+-- What becomes of the fragment of a chunk.
+pub mod Joining
