@@ -15,8 +15,8 @@ use Rattle.hp_control.specs.Agree.{AllTrue}
 use Rattle.hp_control.specs.Faithful.{Split, state_over}
 use Rattle.hp_control.specs.Plan.{Heard, Runs, asked_by, end_by, noting}
 use Rattle.hp_control.specs.States.{ControlState, lex_start}
-use Rattle.hp_control.specs.declared.below.Refusal.{Refusal}
-use Rattle.hp_control.specs.declared.below.Refusal.TheVariants as refusal
+use Rattle.hp_control.specs.declared.change.Refusal.{Refusal}
+use Rattle.hp_control.specs.declared.change.Refusal.TheVariants as refusal
 use Rattle.hp_lexer.specs.declared.lexer.Asked.TheVariants as asked
 use Rattle.hp_lexer.specs.declared.lexer.Lexer.{Lexer}
 use Rattle.hp_lexer.specs.Standing.{PlainStepped, is_answered, load, stands}
