@@ -1,9 +1,8 @@
 -- Right answers stay right along the run.
-use Rattle.std.proofs.Common.{◌≡◌, ℕ, Bool, true, false, not, List, [], ◌∷◌, ◌++◌, refl, ap, ◌∙◌, sym, subst, inl}
+use Rattle.std.proofs.Common.{◌≡◌, ℕ, Bool, true, false, not, List, [], ◌∷◌, refl, ◌∙◌, sym, subst, inl}
 use Rattle.std.specs.Prelude.{Ok}
 use Rattle.hp_elements.specs.Tokens.{class_of}
 use Rattle.hp_elements.specs.declared.kinds.Kinds.TheVariants as kinds
-use Rattle.hp_names.specs.References.{Reference}
 use Rattle.hp_tokens.specs.Rows.{character}
 use Rattle.hp_control.specs.declared.element.OpenElement.{OpenElement}
 use Rattle.hp_control.specs.declared.question.Answer.{Answer}
@@ -11,7 +10,6 @@ use Rattle.hp_control.specs.declared.question.FactKind.TheVariants.{LastTag}
 use Rattle.hp_control.specs.declared.question.Question.{Question}
 use Rattle.hp_control.specs.declared.question.Question.TheVariants as ask
 use Rattle.hp_control.specs.Agree.{AllTrue, ends_alike}
-use Rattle.hp_control.specs.Faithful.{Split}
 use Rattle.hp_control.specs.Plan.{Plan, asked_by, end_by}
 use Rattle.hp_control.specs.Running.{asked_then, on_asked}
 use Rattle.hp_control.specs.States.{is_html}
@@ -24,7 +22,7 @@ use Rattle.hp_acts.specs.HandlePlans.{handle_plan}
 use Rattle.hp_acts.specs.RowPlans.{Reached}
 use Rattle.hp_acts.proofs.PlainRuns.{AsksFirst, asks_first}
 use Rattle.hp_asked.specs.Laws.{RightAtStart, RightBeforeText, RightByTruth, RightName, RightSection, RightTokens}
-use Rattle.hp_asked.specs.Right.{AsksOver, RightFrom, entry, onward as begun_onward, seeker_at}
+use Rattle.hp_asked.specs.Right.{entry, onward as begun_onward, seeker_at}
 use Rattle.hp_asked.specs.Seeking.{Asks, Seeker, at, led_to, name, nothing, onward, section, seek, tokens}
 use Rattle.hp_asked.proofs.Agreed.{own-true, said-true, true-back, true-front}
 
