@@ -1,21 +1,26 @@
 -- How far a parser has come over a text, over whatever is below it (13.2).
-use Rattle.std.specs.Prelude.{◌≡◌, ℕ, ◌<◌, ◌≤◌, ◌^◌, Bool, true, false, List, [], ◌∷◌, ◌++◌, Option, None, Some, Ok, IsTrue}
+use Rattle.std.specs.Prelude.{◌≡◌, ℕ, ◌-◌, ◌<◌, ◌≤◌, ◌^◌, Bool, true, false, List, [], ◌∷◌, ◌++◌, Option, None, Some, Ok, IsTrue}
 use Rattle.std.specs.Option.{is_some, unwrap_or}
 use Rattle.hp_elements.specs.declared.kinds.Kinds.TheVariants as kinds
 use Rattle.hp_elements.specs.declared.token.Token.{Token}
 use Rattle.hp_names.specs.BuiltIn.{built_in}
-use Rattle.hp_tokens.specs.Advancing.{held}
+use Rattle.hp_tokens.specs.Advancing.{held, tokens_of}
+use Rattle.hp_tokens.specs.Moves.{Emitted, Lexing, makes, move}
 use Rattle.hp_tokens.specs.Ranks.{weight}
 use Rattle.hp_tokens.specs.Reading.{Unread}
+use Rattle.hp_tokens.specs.Rows.{character}
 use Rattle.hp_control.specs.declared.edit.Edit.{Edit}
 use Rattle.hp_control.specs.declared.question.Question.{Question}
 use Rattle.hp_control.specs.Agree.{AllTrue}
 use Rattle.hp_control.specs.Faithful.{Split, state_over}
-use Rattle.hp_control.specs.Plan.{Heard, Runs, noting}
+use Rattle.hp_control.specs.Plan.{Heard, Runs, asked_by, end_by, noting}
 use Rattle.hp_control.specs.States.{ControlState, lex_start}
+use Rattle.hp_control.specs.declared.change.Refusal.{Refusal}
+use Rattle.hp_control.specs.declared.change.Refusal.TheVariants as refusal
 use Rattle.hp_lexer.specs.declared.lexer.Asked.TheVariants as asked
 use Rattle.hp_lexer.specs.declared.lexer.Lexer.{Lexer}
 use Rattle.hp_lexer.specs.Standing.{PlainStepped, is_answered, load, stands}
+use Rattle.hp_lexer.specs.Table.{table}
 use Rattle.hp_views.specs.StackPlans.{current_is_plan}
 use Rattle.hp_views.specs.View.{split_of}
 use Rattle.hp_model.specs.AtOnce.{handle_at_once}
@@ -23,11 +28,15 @@ use Rattle.hp_model.specs.Runs.{Parser}
 use Rattle.hp_model.specs.Texts.{TakesText, as_run}
 use Rattle.hp_runs.specs.Coming.{HasCome, HasEnded, untouched_at_once}
 use Rattle.hp_runs.specs.Handling.{left_after, lexer_after, made_after}
+use Rattle.hp_runs.specs.Touching.{TouchesFrom}
+use Rattle.hp_asked.specs.Right.{RightFrom}
+use Rattle.hp_asked.specs.Seeking.{Seeker, seek}
 use Rattle.hp_older.specs.Over.{IsOver}
 use Rattle.hp_older.specs.Tokens.{MayAllCome}
 use Rattle.hp_fragment.specs.Making.{Amounts}
 use Rattle.hp_fragment.specs.declared.parsing.Parsing.{Parsing}
 use Rattle.hp_fragment.specs.declared.sink.Sink.{Sink}
+use Rattle.hp_fragment.specs.declared.sink.Sink.TheVariants.{Keeps}
 
 -- a parser, whatever is below it
 pub record Stage : Type 0 where
@@ -77,17 +86,46 @@ pub record HasReadAll (w : Way) (p : Stage) : Type 0 where
   pub ended : HasEnded built_in w.name w.older w.from p.lexer (control_at w.older p) edits
   pub amounts : Amounts w.grows p.sink w.older p.split.edits edits
 
+-- where the lexer stands, and what was changed so far over what is below
+abbrev pub seeker_of : Stage → Seeker
+seeker_of p = record { lexing = stands p.lexer p.input; split = p.split }
+
+-- answers that are right for all that the run over s asks from here on
+abbrev pub AreRight : ControlState → Stage → Type 0
+AreRight s p = RightFrom built_in p.heard.says s (seeker_of p)
+
+-- Where the edits stay in the view: over a state for which the answers are right from there on, these questions were answered truly, and
+-- the answers are right from here on.
+pub record AsksRightly (old new : Stage) (asked : List Question) : Type 0 where
+  pub keeps : old.sink ≡ Keeps → new.sink ≡ Keeps
+  pub right : (s : ControlState) → old.sink ≡ Keeps → AreRight s old → AllTrue s old.heard.says asked × AreRight s new
+
 -- These questions were asked, and nothing else; and over each older state of which the answers are true the run goes on.
 pub record GoesFurther (old new : Stage) : Type 0 where
   pub asked : List Question
   pub noted : new.heard ≡ noting old.heard asked
   pub reads : (w : Way) → AllTrue w.older old.heard.says asked → HasRead w old → HasRead w new
+  pub rightly : AsksRightly old new asked
 
 -- the same, to the end of the text
 pub record GoesToEnd (old new : Stage) : Type 0 where
   pub asked : List Question
   pub noted : new.heard ≡ noting old.heard asked
   pub reads : (w : Way) → AllTrue w.older old.heard.says asked → HasRead w old → HasReadAll w new
+  pub right : (s : ControlState) → old.sink ≡ Keeps → AreRight s old → AllTrue s old.heard.says asked
+
+-- These questions were asked, the last of them for a token that touches something older, over each older state of which the answers are
+-- true: it began where the lexer rested last. Places of its text count from 2 ^ 32 on.
+pub record Crosses (old new : Stage) : Type 0 where
+  pub asked : List Question
+  pub noted : new.heard ≡ noting old.heard asked
+  pub touches : (w : Way) → w.base ≡ 0 → AllTrue w.older old.heard.says asked → HasRead w old → TouchesFrom (table built_in) w.older w.from (new.lexer.rested - 2 ^ 32)
+  pub right : (s : ControlState) → old.sink ≡ Keeps → AreRight s old → AllTrue s old.heard.says asked
+
+-- want of memory says nothing
+abbrev pub IfCrossed : Refusal → Type 0 → Type 0
+IfCrossed (refusal.Crossed crossing) fact = fact
+IfCrossed refusal.NoMemory fact = Unit {0}
 
 abbrev pub WentOn : Stage → Stage → Bool → Type 0
 WentOn old new true = GoesFurther old new
@@ -158,6 +196,15 @@ pub record Handled (old new : Stage) (tokens : List Token) : Type 0 where
   pub asked : List Question
   pub noted : new.heard ≡ noting old.heard asked
   pub over : (s : ControlState) → AllTrue s old.heard.says asked → IsOver s old.split → MayAllCome s tokens → IsHandled s old new tokens
+  pub sought : old.sink ≡ Keeps → (new.sink ≡ Keeps) × (asked ≡ asked_by old.heard.says (seek tokens (seeker_of old))) × (end_by old.heard.says (seek tokens (seeker_of old)) ≡ Ok (seeker_of new))
+
+-- These questions were asked for the tokens, and over each older state of which the answers are true one of them touches something older.
+pub record Touched (old new : Stage) (tokens : List Token) : Type 0 where
+  pub asked : List Question
+  pub noted : new.heard ≡ noting old.heard asked
+  pub rested : new.lexer.rested ≡ old.lexer.rested
+  pub over : (s : ControlState) → AllTrue s old.heard.says asked → IsOver s old.split → MayAllCome s tokens → untouched_at_once s (control_at s old) tokens ≡ false
+  pub sought : old.sink ≡ Keeps → asked ≡ asked_by old.heard.says (seek tokens (seeker_of old))
 
 -- A text was handled as one run, and over each older state of which the answers are true it goes into the current node as it comes.
 pub record TextHandled (old new : Stage) (text : List ℕ) : Type 0 where
@@ -167,3 +214,11 @@ pub record TextHandled (old new : Stage) (text : List ℕ) : Type 0 where
 -- the same from before the question whether the current node is HTML, which it is
 abbrev pub HandledBelow : Stage → Stage → List ℕ → Type 0
 HandledBelow old new text = (first : Heard) → Runs first old.heard (current_is_plan kinds.AnyHtml old.split) (Ok true) → TextHandled (record old { heard = first }) new text
+
+-- a character comes next
+pub record IsAtText (l : Lexing) : Type 0 where
+  pub next : Lexing
+  pub emitted : List Emitted
+  pub code_point : ℕ
+  pub makes_it : move (table built_in) l ≡ makes next emitted
+  pub is_it : tokens_of emitted ≡ character code_point ∷ []
