@@ -1,4 +1,5 @@
 pub mod Rooms
+pub mod Changed
 pub mod Reversed
 pub mod RestLemmas
 pub mod WalkLemmas

@@ -1,9 +1,12 @@
 //! The edits of a document tree. What they do to a tree stands in specs/Tree.antt.
 
-ghost use Rattle.std.specs.Prelude.{◌≡◌, ◌+◌, ◌∷◌, ◌++◌, [], length, IsTrue, ◌↔◌, OnOk, OnErr};
+ghost use Rattle.std.specs.Prelude.{◌≡◌, ◌+◌, ◌∷◌, ◌++◌, [], length, map, IsTrue, ◌↔◌, OnOk, OnErr};
+ghost use Rattle.hp_control.specs.Apply.{named_edit};
+ghost use Rattle.hp_control.specs.Nothing.{nothing};
 ghost use Rattle.hp_control.specs.Edits.{room_of, room_of_all};
 
 use crate::items::{add, as_slice, begin, lose};
+use crate::telling::tell_all;
 use hp_elements::{Attribute, Chain, Doctype, Tag, Text};
 use std::alloc::{AllocError, Global};
 use std::marker::Model;
@@ -193,6 +196,16 @@ impl<'p> Edits<'p> {
         ensures { result.now ≡ self.now }
     {
         as_slice(&self.items)
+    }
+
+    /// Tells the elements of each edit by their ids, where no older state is below. It takes no memory.
+    pub fn tell(&mut self)
+        ensures { self.new ≡ map (named_edit nothing) self.old }
+    {
+        let Some(items) = &mut self.items else {
+            return;
+        };
+        tell_all(items);
     }
 
     /// The edits as a `Vec`. It takes no memory.

@@ -1,5 +1,5 @@
 //! Edits whose elements are told by their ids: over the stack of an older state, or where none is below.
-ghost use Rattle.std.specs.Prelude.{◌≡◌, ◌≤◌, drop, length, slice_get};
+ghost use Rattle.std.specs.Prelude.{◌≡◌, ◌≤◌, drop, length, map, slice_get};
 ghost use Rattle.hp_control.specs.Apply.{element_id, named, named_child, named_edit, named_place};
 ghost use Rattle.hp_control.specs.Edits.{IsFixed, IsFixedChild, IsFixedEdit, IsFixedPlace};
 ghost use Rattle.hp_control.specs.Nothing.{nothing};
@@ -38,6 +38,15 @@ impl<'p> Edit<'p> {
         ensures fixed { IsFixedEdit self.new }
     {
         self.name_over(&OpenElements::new(), 0, 0);
+    }
+}
+
+/// Tells the elements of each edit by their ids, where no older state is below. It takes no memory.
+pub(crate) fn tell_all(edits: &mut [Edit<'_>])
+    ensures { edits.new ≡ map (named_edit nothing) edits.old }
+{
+    for edit in edits.iter_mut() {
+        edit.tell();
     }
 }
 

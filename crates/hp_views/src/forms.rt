@@ -1,4 +1,5 @@
 //! The end of a form (13.2.6.4.7).
+ghost use Rattle.std.specs.Prelude.{◌≡◌, [], Err};
 ghost use Rattle.hp_views.specs.FormPlans.{own_form_plan, older_form_on, older_form_plan, older_off_plan};
 ghost use Rattle.hp_views.specs.Steps.{end_form_step};
 ghost use Rattle.hp_views.specs.View.{sight, Carries, Meets};
@@ -73,9 +74,10 @@ impl<'p, B: Below> View<'p, B> {
     }
 
     /// Takes the older element at that depth off the stack, where it stands there still: one that isn't the current node is
-    /// not this view's to take.
+    /// not this view's to take. Memory is wanting only where it is the current node.
     fn take_older_off(&mut self, alloc: Global, depth: u64) -> Result<(), Refusal>
-        ensures { Carries result (sight B.heard self.old) (sight B.heard self.new) (older_off_plan depth) }
+        ensures plan { Carries result (sight B.heard self.old) (sight B.heard self.new) (older_off_plan depth) }
+        ensures no_memory { result ≡ Err Refusal.NoMemory → (self.old.change.stack ≡ []) × (depth ≡ self.old.change.popped) }
     {
         if depth < self.change.popped {
             return Ok(());
