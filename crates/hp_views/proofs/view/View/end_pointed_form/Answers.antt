@@ -17,4 +17,4 @@ returns-in_ok-implied-in-Here g c =
     (λ w. ask_pointer w.change.popped) (λ w. pointed_plan (form_emptied w)) (first_then implied_plan (older_off_plan d)) c.in_ok-pointed.pointed
     c.in_ok-pointed.ensures.learns (ap (pointed_plan emptied) (sym c.in-Here.is))
     (carries_next c.take_older_off.result mid (sight heard c.implied.new.self) (sight heard c.take_older_off.new.self)
-    implied_plan (older_off_plan d) c.in_ok-implied-in-Here.ensures c.take_older_off.ensures)
+    implied_plan (older_off_plan d) c.in_ok-implied-in-Here.ensures c.take_older_off.ensures.plan)
