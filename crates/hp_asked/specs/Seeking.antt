@@ -1,5 +1,6 @@
 -- What the run over a chunk's text asks of the state that stood before it (13.2).
 use Rattle.std.specs.Prelude.{◌≡◌, ◌⊎◌, Bool, true, if◌then◌else◌, List, [], ◌∷◌, ◌++◌, ℕ, map, Some, Ok}
+use Rattle.std.specs.List.{list_all}
 use Rattle.std.specs.Option.{unwrap_or}
 use Rattle.hp_elements.specs.declared.kinds.Kinds.TheVariants as kinds
 use Rattle.hp_elements.specs.declared.token.Token.{Token}
@@ -7,6 +8,7 @@ use Rattle.hp_elements.specs.declared.token.Token.TheVariants as token
 use Rattle.hp_names.specs.References.{Reference}
 use Rattle.hp_tokens.specs.Advancing.{singles, tokens_of}
 use Rattle.hp_tokens.specs.Moves.{Emitted, Lexing, asks_cdata, asks_last_tag, move}
+use Rattle.hp_tokens.specs.Plain.{none_of}
 use Rattle.hp_tokens.specs.Rows.{character}
 use Rattle.hp_control.specs.declared.question.FactKind.TheVariants.{LastTag}
 use Rattle.hp_control.specs.declared.question.Question.{Question}
@@ -52,11 +54,12 @@ AreFilled (_ ∷ ts) = AreFilled ts
 abbrev pub GoesWhole : ControlState → Split → Type 0
 GoesWhole s v = (takes_text v ≡ true) ⊎ ((may_take_text v ≡ true) × (end_by (answer_of s) (current_is_plan kinds.AnyHtml v) ≡ Ok true))
 
--- tokens that spell what was emitted: characters of one class as they stand or in runs, and a text as one run where it goes whole
+-- Tokens that spell what was emitted: characters of one class as they stand or in runs, and a text without U+0000 as one run where it
+-- goes whole.
 abbrev pub Spells : ControlState → Split → List Token → List Emitted → Type 0
 Spells s v ts es =
     (AreFilled ts × (singles ts ≡ tokens_of es))
-    ⊎ ((text : List ℕ) × GoesWhole s v × (ts ≡ as_run text ∷ []) × AreFilled ts × (tokens_of es ≡ map character text))
+    ⊎ ((text : List ℕ) × GoesWhole s v × (list_all (none_of (0 ∷ [])) text ≡ true) × (ts ≡ as_run text ∷ []) × AreFilled ts × (tokens_of es ≡ map character text))
 
 -- the last start tag's name before the text
 abbrev pub name_before : ControlState → List ℕ
