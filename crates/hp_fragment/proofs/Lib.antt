@@ -11,3 +11,4 @@ pub mod NoNul
 pub mod ToldEdits
 pub mod Guesses
 pub mod AtText
+pub mod Covering
