@@ -1,18 +1,16 @@
 -- Before a code point that is emitted as it stands a character comes next.
-use Rattle.std.proofs.Common.{◌≡◌, ℕ, ◌+◌, ◌<◌, ◌≤◌, List, [], ◌∷◌, Bool, true, false, refl, ap, ◌∙◌, sym, subst, Option, None, Some, ◌++◌}
+use Rattle.std.proofs.Common.{◌≡◌, ℕ, ◌+◌, List, [], ◌∷◌, Bool, true, false, refl, ap, ◌∙◌, sym, subst, Option, None, Some, ◌++◌}
 use Rattle.std.specs.Prelude.{◌==◌, ◌&&◌, if◌then◌else◌, nat_lt}
 use Rattle.std.specs.Char.{len_utf8}
 use Rattle.std.proofs.lemmas.Bool.{ltb-false, ltb-true}
 use Rattle.hp_names.specs.BuiltIn.{built_in}
 use Rattle.hp_names.specs.References.{Reference}
 use Rattle.hp_tokens.specs.Advancing.{lexing}
-use Rattle.hp_tokens.specs.Moves.{Lexing, Move, after_pair, after_row, all_began, asks_last_tag, makes, move, move_on, needs_more, read_as, row_move, standing}
-use Rattle.hp_tokens.specs.Plain.{EmitsPlain, none_of, whole_data_stops, whole_raw_stops}
+use Rattle.hp_tokens.specs.Moves.{Lexing, Move, after_pair, after_row, all_began, asks_last_tag, move, move_on, needs_more, read_as, row_move, standing}
+use Rattle.hp_tokens.specs.Plain.{none_of, whole_data_stops, whole_raw_stops}
 use Rattle.hp_tokens.specs.PlainLaws.{apart, none-high}
 use Rattle.hp_tokens.specs.Reading.{FrontIs, IsFront, Unread, first}
 use Rattle.hp_tokens.specs.Rows.{Row, character, plus, stay}
-use Rattle.hp_tokens.specs.declared.machine.Machine.{Machine}
-use Rattle.hp_tokens.specs.declared.rows.Reads.TheVariants.{Consume}
 use Rattle.hp_tokens.specs.declared.state.State.{State}
 use Rattle.hp_tokens.specs.declared.state.State.TheVariants.{Data, Rawtext, Rcdata, ScriptData}
 use Rattle.hp_lex_markup.specs.Markup.{markup_rules}

@@ -1,8 +1,6 @@
 -- How much a guess covers over a state for which the answers are right.
-use Rattle.std.proofs.Common.{◌≡◌, ℕ, ◌-◌, ◌^◌, ◌<◌, List, [], ◌∷◌, ◌++◌, length, take, drop, Bool, true, false, refl, ap, ◌∙◌, sym, subst, arith, Option, None, Some}
-use Rattle.std.specs.Prelude.{Ok, sum_by}
+use Rattle.std.proofs.Common.{◌≡◌, ℕ, ◌-◌, ◌^◌, ◌<◌, List, [], ◌∷◌, ◌++◌, length, take, drop, Bool, true, refl, ap, ◌∙◌, sym, subst, arith, Option, None, Some}
 use Rattle.std.specs.Option.{is_some}
-use Rattle.std.specs.Char.{len_utf8}
 use Rattle.std.specs.Str.{IsCharBoundary, IsUtf8, chars}
 use Rattle.std.proofs.lemmas.List.Elements.{All-nil}
 use Rattle.std.proofs.lemmas.List.{take-append-drop}
@@ -14,9 +12,8 @@ use Rattle.hp_names.specs.References.{Reference}
 use Rattle.hp_tokens.proofs.Characters.{bytes-length}
 use Rattle.hp_tokens.specs.Advancing.{rest_state}
 use Rattle.hp_tokens.specs.Reading.{Unread}
-use Rattle.hp_control.specs.Agree.{AllTrue}
 use Rattle.hp_control.specs.Faithful.{Split}
-use Rattle.hp_control.specs.Guessing.{Guessing, heard_by}
+use Rattle.hp_control.specs.Guessing.{Guessing}
 use Rattle.hp_control.specs.Holds.{Holds}
 use Rattle.hp_control.specs.Laws.{KeptOnceWhereTrue}
 use Rattle.hp_control.specs.Plan.{Heard, added_each, kept_pairs}
@@ -39,7 +36,7 @@ use Rattle.hp_lexer.specs.Table.{table}
 use Rattle.hp_model.specs.Runs.{Parser, followed_by, goes, rests, step_by}
 use Rattle.hp_asked.specs.Laws.{RightAtStart, RightBefore}
 use Rattle.hp_asked.specs.Right.{IsRight, RightFrom, seeker_at}
-use Rattle.hp_older.specs.Laws.{IsBegun, ViewsBegin}
+use Rattle.hp_older.specs.Laws.{ViewsBegin}
 use Rattle.hp_pieces.specs.First.{IsFirst, restless, touched, whole}
 use Rattle.hp_pieces.specs.FirstLaws.{FirstInBytes, FirstOnce, TouchesInside}
 use Rattle.hp_pieces.specs.Guesses.{Guessed}
@@ -50,7 +47,7 @@ use Rattle.hp_runs.specs.Touching.{RunsOwn, TouchesFrom}
 use Rattle.hp_views.specs.BeginLaws.{IsResting}
 use Rattle.hp_views.specs.Begins.{Begins, begins}
 use Rattle.hp_fragment.proofs.Guesses.{begins-over, heard-first, ok-same, pairs, some-same, way_over}
-use Rattle.hp_fragment.specs.Guessing.{CrossesAt, HasBegun, IsReached, IsSaid, ReachesFirst, ReachesIn}
+use Rattle.hp_fragment.specs.Guessing.{CrossesAt, HasBegun, IsReached, ReachesIn}
 use Rattle.hp_fragment.specs.Reading.{AreRight, Crosses, GoesToEnd, HasRead, HasReadAll, IfCrossed, Stage, control_at}
 use Rattle.hp_fragment.specs.declared.sink.Sink.TheVariants.{Keeps}
 
@@ -203,7 +200,3 @@ pub nothing-before : FirstOnce → FirstInBytes → RightBefore → (says : Ques
     → CrossesAt built_in says front again → (kept : List Kept) → Reaches kept 0 text says
 nothing-before once in_bytes before says text front at again utf8 crosses is_front long crosses_front kept = λ s may right.
     absurd (front-uncrossed once in_bytes before says text front at utf8 crosses is_front long s may right again crosses_front)
-
--- what reaches so on the whole text is a guess by these answers
-pub guess-by : (says : Question → Answer) (text : List ℕ) (f : Guessed) → IsReached says text text f → IsSaid says f × ReachesFirst says f
-guess-by says text f is = (is.0.said, subst (λ (bytes : List ℕ). ReachesIn bytes says f) (sym is.0.whole) is.1)
