@@ -10,3 +10,4 @@ pub mod Ended
 pub mod NoNul
 pub mod ToldEdits
 pub mod Guesses
+pub mod AtText

@@ -1,18 +1,19 @@
 //! The sequential parser within a text, whatever is below it: a page, a part of one behind a known state, or a part behind a guess.
 ghost use Rattle.std.specs.Prelude.{◌≡◌, ◌∷◌, [], ◌≤◌, true, IfOk, OnOk};
 ghost use Rattle.hp_tokens.specs.Advancing.{AreRuns, held};
+ghost use Rattle.hp_lexer.specs.Standing.{stands};
 ghost use Rattle.hp_acts.specs.Plain.{may_take_text, takes_text};
 ghost use Rattle.hp_model.specs.Texts.{as_run};
 ghost use Rattle.hp_views.specs.View.{split_of};
-ghost use Rattle.hp_fragment.specs.Reading.{stage, GoesFurther, GoesToEnd, Handled, HandledBelow, IsAtEnd, IsReady, StepsOn, TookText, Tried, WentOn, WentStraight};
+ghost use Rattle.hp_fragment.specs.Reading.{stage, GoesFurther, GoesToEnd, Handled, HandledBelow, IsAtEnd, IsAtText, IsReady, StepsOn, TookText, Tried, WentOn, WentStraight};
 
+use crate::at_text::{begins_text, is_of_text};
 use crate::blanks::next_blanks;
 use crate::sink::Sink;
 use hp_acts::{handle, handle_text, handle_text_below, may_take_text, takes_text};
 use hp_control::{Below, Refusal};
 use hp_elements::{CharClass, Kinds, Text, Token, Tokens};
 use hp_lexer::{Asked, Cursor, Lexer, Step};
-use hp_tokens::State;
 use hp_views::View;
 use std::alloc::Global;
 
@@ -99,18 +100,15 @@ impl<'p, B: Below + Drop> Parsing<'p, B> {
 
     /// Whether a code point comes next that is emitted as it stands.
     #[inline(always)]
-    fn is_at_text(&self) -> bool {
+    fn is_at_text(&self) -> bool
+        ensures { result ≡ true → IsAtText (stands self.now.lexer self.now.input) }
+    {
         let lex = &self.lexer.lex;
         if lex.machine.after_cr || !lex.ahead.is_empty() {
             return false;
         }
         match self.lexer.asked {
-            Asked::Nothing => match lex.machine.state {
-                State::Data | State::Rcdata | State::Rawtext | State::ScriptData => {
-                    !matches!(self.input.front(), None | Some(0 | b'<' | b'&'))
-                }
-                _ => false,
-            },
+            Asked::Nothing => is_of_text(lex.machine.state) && begins_text(self.input.front()),
             _ => false,
         }
     }
