@@ -1,5 +1,5 @@
 -- Which answers are right for a text behind an older state.
-use Rattle.std.specs.Prelude.{◌≡◌, ℕ, ◌^◌, List, [], ◌∷◌}
+use Rattle.std.specs.Prelude.{ℕ, ◌^◌, List, [], ◌∷◌}
 use Rattle.hp_names.specs.References.{Reference}
 use Rattle.hp_tokens.specs.Moves.{standing}
 use Rattle.hp_control.specs.declared.question.Answer.{Answer}
