@@ -1,10 +1,15 @@
 pub mod Asking
 pub mod Amounting
+pub mod Refusing
+pub mod Seeking
+pub mod Quiet
+pub mod Leading
 pub mod Further
 pub mod Handling
 pub mod Turning
 pub mod Telling
 pub mod Stepping
+pub mod Crossing
 pub mod Taking
 pub mod Ended
 pub mod NoNul
