@@ -97,7 +97,7 @@ left-filled own s some = by_cases own.machine.last_tag refl s.lex.machine.last_t
 
 -- the answers that were kept
 module _ (says : Question → Answer) where
-  abbrev none_heard : Heard
+  abbrev pub none_heard : Heard
   none_heard = record { says = says; kept = Some [] }
 
   pairs-said : (qs : List Question) → AreSaid says (kept_pairs says qs)
@@ -137,7 +137,7 @@ module _ (law : TextBegins) (s : ControlState) (text : List ℕ) (valid : IsVali
   name = unwrap_or s.lex.machine.last_tag []
 
   -- nothing was read yet
-  begins-over : (rest : Rest) (after_cr : Bool) (m : Mode) (original : Option Mode) (skip_lf : Bool) (p : Stage) → IsBegun s (begins (answer.Resting rest after_cr m original skip_lf))
+  pub begins-over : (rest : Rest) (after_cr : Bool) (m : Mode) (original : Option Mode) (skip_lf : Bool) (p : Stage) → IsBegun s (begins (answer.Resting rest after_cr m original skip_lf))
       → p.lexer ≡ record { lex = rest_state rest after_cr; names = built_in; asked = asked.Nothing; rested = 2 ^ 32 } → p.input ≡ text_at (2 ^ 32) text → p.split ≡ begins (answer.Resting rest after_cr m original skip_lf) → p.sink ≡ Keeps
       → HasRead (way_over s text) p
   unfolding name
@@ -201,14 +201,14 @@ module _ (law : TextBegins) (s : ControlState) (text : List ℕ) (valid : IsVali
       kept Keeps h = h
       kept (Grows tree) h = absurd h
 
-some-same : (xs ys : List Kept) → Some xs ≡ Some ys → xs ≡ ys
+pub some-same : (xs ys : List Kept) → Some xs ≡ Some ys → xs ≡ ys
 some-same xs ys e = cc
 
 none_positive : 0 < 0 → ⊥
 none_positive h = omega (arith, h)
 
 -- what was asked first
-abbrev first_asked : (Question → Answer) → Heard
+abbrev pub first_asked : (Question → Answer) → Heard
 first_asked says = noting (none_heard says) (ask.Entry ∷ [])
 
 front-within : (text front : List ℕ) → front ≡ take (length front) text → length front ≤ length text
@@ -228,7 +228,7 @@ pairs-are-said says text covered qs kept change edits is =
 
 -- what the begin of a view asks and is told
 module _ {P : Type 0} (says : P → Question → Answer) (predictor : P) (guess below : Guessing P) (v : Split) (a : Answer) (new : guess ≡ record { predictor = predictor; kept = [] }) (b : Begins says guess below v a) where
-  heard-first : heard_by says below ≡ first_asked (says predictor)
+  pub heard-first : heard_by says below ≡ first_asked (says predictor)
   heard-first = b.told.noted ∙ ap (λ (g : Guessing P). noting (heard_by says g) (ask.Entry ∷ [])) new
 
   pub says-stay : says below.predictor ≡ says predictor
@@ -237,11 +237,12 @@ module _ {P : Type 0} (says : P → Question → Answer) (predictor : P) (guess 
   -- where nothing is read
   pub nothing-guessed : (text : List ℕ) (change : Change) (edits : List Edit) → IsGuessOf (says predictor) text (record { names = built_in; text = text; covered = 0; assumptions = below.kept; change = change; edits = edits })
   nothing-guessed text change edits = record {
+    names = refl;
     whole = refl;
     said = pairs-are-said (says predictor) text 0 [] below.kept change edits (some-same below.kept (added_each [] (kept_pairs (says predictor) (ask.Entry ∷ []))) (ap (λ (h : Heard). h.kept) heard-first));
   }
 
-ok-same : (a b : Answer) → Path (Result Answer Crossing) (Ok a) (Ok b) → a ≡ b
+pub ok-same : (a b : Answer) → Path (Result Answer Crossing) (Ok a) (Ok b) → a ≡ b
 ok-same a b e = cc
 
 pub begun-front : {P : Type 0} (says : P → Question → Answer) (predictor : P) (guess below : Guessing P) (v : Split) (rest : Rest) (after_cr : Bool) (m : Mode) (original : Option Mode) (skip_lf : Bool) (l : Lexer) → guess ≡ record { predictor = predictor; kept = [] }
@@ -279,7 +280,7 @@ ready-front l text h v x b = record {
 
 -- A front was read to its end: what is kept is all that was asked.
 module _ (old new : Stage) (b : HasBegun old.lexer old.heard old.split) (g : GoesToEnd old new) (kept : List Kept) (is : new.heard.kept ≡ Some kept) where
-  pairs : kept ≡ added_each [] (kept_pairs old.heard.says (ask.Entry ∷ g.asked))
+  pub pairs : kept ≡ added_each [] (kept_pairs old.heard.says (ask.Entry ∷ g.asked))
   pairs = some-same kept (added_each [] (kept_pairs old.heard.says (ask.Entry ∷ g.asked))) (sym is ∙ ap (λ (h : Heard). h.kept) all)
     where
       first : old.heard ≡ first_asked old.heard.says
@@ -289,7 +290,7 @@ module _ (old new : Stage) (b : HasBegun old.lexer old.heard old.split) (g : Goe
       all = noted-then (none_heard old.heard.says) old.heard new.heard (ask.Entry ∷ []) g.asked first g.noted
 
   pub covered-said : (text : List ℕ) (covered : ℕ) (change : Change) (edits : List Edit) → IsGuessOf old.heard.says text (record { names = built_in; text = text; covered = covered; assumptions = kept; change = change; edits = edits })
-  covered-said text covered change edits = record { whole = refl; said = pairs-are-said old.heard.says text covered g.asked kept change edits pairs }
+  covered-said text covered change edits = record { names = refl; whole = refl; said = pairs-are-said old.heard.says text covered g.asked kept change edits pairs }
 
   leads-over : TextBegins → ViewsBegin → KeptOnceWhereTrue → (s : ControlState) (text : List ℕ) → IsValid s → Fits s → old.input ≡ text_at (2 ^ 32) text → old.sink ≡ Keeps → Holds kept s
       → Leads built_in text s (map (named_edit s) new.split.edits) (applied (ended new.lexer.lex (is_some new.lexer.lex.machine.last_tag) new.split.change) s)

@@ -1,41 +1,79 @@
 -- Tokens that are handled over whatever is below, one behind the other.
-use Rattle.std.proofs.Common.{◌≡◌, ℕ, List, [], ◌∷◌, ◌++◌, Bool, true, refl, ap, ◌∙◌, sym, subst, append-nil, append_assoc, Option}
-use Rattle.std.specs.Prelude.{not, ◌&&◌, Ok}
-use Rattle.std.specs.List.{list_all}
+use Rattle.std.proofs.Common.{◌≡◌, ℕ, List, [], ◌∷◌, ◌++◌, Bool, true, false, refl, ap, ◌∙◌, sym, subst, append-nil, append_assoc, Option, None}
+use Rattle.std.specs.Prelude.{not, ◌&&◌, ◌||◌, Result, Ok, Err, IfErr, IsErrAnd}
+use Rattle.std.specs.List.{list_all, list_any}
 use Rattle.std.proofs.lemmas.Bool.{and_from, and_parts}
 use Rattle.hp_elements.specs.declared.kinds.Kinds.TheVariants as kinds
 use Rattle.hp_elements.specs.declared.token.CharClass.{CharClass}
 use Rattle.hp_elements.specs.declared.token.Rest.{Rest}
 use Rattle.hp_elements.specs.declared.token.Token.{Token}
 use Rattle.hp_elements.specs.declared.token.Token.TheVariants.{Characters}
+use Rattle.hp_control.specs.declared.change.Refusal.{Refusal}
+use Rattle.hp_control.specs.declared.change.Refusal.TheVariants as refusal
 use Rattle.hp_control.specs.declared.edit.Edit.{Edit}
+use Rattle.hp_control.specs.declared.question.Answer.{Answer}
+use Rattle.hp_control.specs.declared.question.Crossing.{Crossing}
+use Rattle.hp_control.specs.declared.question.Question.{Question}
 use Rattle.hp_control.specs.Faithful.{Split, state_over}
-use Rattle.hp_control.specs.Outcome.{touches_any}
-use Rattle.hp_control.specs.Plan.{Heard, Runs, asked_by}
+use Rattle.hp_control.specs.Outcome.{Outcome, Touch, is_older, is_touch, same_crossing, touches, touches_any}
+use Rattle.hp_control.specs.Plan.{Heard, Runs, asked_by, noting}
 use Rattle.hp_control.specs.States.{ControlState, lex_start}
 use Rattle.hp_lexer.specs.declared.lexer.Lexer.{Lexer}
-use Rattle.hp_lexer.specs.Standing.{SwitchesFall}
+use Rattle.hp_lexer.specs.Standing.{SwitchesFall, stands}
 use Rattle.hp_model.specs.Apart.{AtOnceApart, relexed, relexed_state}
+use Rattle.hp_asked.specs.Seeking.{Seeker}
 use Rattle.hp_model.specs.AtOnce.{handle_at_once}
+use Rattle.hp_model.specs.Runs.{switched}
 use Rattle.hp_model.specs.Texts.{as_run, is_white, white_or_other}
 use Rattle.hp_model.specs.Turns.{Handled as Meant, left_by}
 use Rattle.hp_acts.specs.declared.turns.Handled.{Handled as Told}
 use Rattle.hp_acts.specs.HandlePlans.{handle_plan}
+use Rattle.hp_acts.specs.Handling.{Handles, HandlesBelow}
 use Rattle.hp_acts.specs.Plain.{may_take_text}
 use Rattle.hp_older.proofs.Truly.{true-front}
 use Rattle.hp_older.specs.Laws.{IsDoneOver, StayUnedited, TextsTakenBelow, TokensHandled}
 use Rattle.hp_older.specs.Over.{IsOver}
 use Rattle.hp_older.specs.Tokens.{MayAllCome}
 use Rattle.hp_views.specs.StackPlans.{current_is_plan}
+use Rattle.hp_views.specs.View.{Sight}
 use Rattle.hp_runs.proofs.Batches.{left-append, made-append}
 use Rattle.hp_runs.proofs.Quiet.{at_once-quiet}
 use Rattle.hp_runs.specs.Coming.{untouched_at_once}
 use Rattle.hp_runs.specs.Handling.{Handler, left_after, lexer_after, made_after, turned}
 use Rattle.hp_fragment.proofs.Amounting.{amounts-more}
-use Rattle.hp_fragment.proofs.Asking.{noted-none, noted-then, true-then}
+use Rattle.hp_fragment.proofs.Asking.{noted-none, noted-then, same-says, true-then}
+use Rattle.hp_fragment.proofs.Quiet.{below-quiet}
+use Rattle.hp_fragment.proofs.Refusing.{refused-so}
+use Rattle.hp_fragment.proofs.Seeking.{one-sought, seeks-before, seeks-none, seeks-one, seeks-then, turned-stands}
 use Rattle.hp_fragment.proofs.Turning.{none-turned, turned-once, turned-then}
 use Rattle.hp_fragment.specs.Making.{Amounts}
-use Rattle.hp_fragment.specs.Reading.{Handled, IsHandled, IsTurned, Stage, TextHandled, control_at}
+use Rattle.hp_fragment.specs.Reading.{Handled, IfCrossed, IsHandled, IsTurned, Seeks, Stage, TextHandled, TextTouched, Touched, TouchedBelow, control_at, seeker_of}
+use Rattle.hp_fragment.specs.declared.sink.Sink.TheVariants.{Keeps}
+
+abbrev sight_of : Stage → Sight
+sight_of p = record { heard = p.heard; split = p.split }
+
+and-false : (b : Bool) → (b && false) ≡ false
+and-false true = refl
+and-false false = refl
+
+first-false : (b : Bool) → (b && true) ≡ false → b ≡ false
+first-false true h = cc
+first-false false h = refl
+
+-- what is touched by a crossing is touched
+older-so : (c o t u : Bool) → ((c && o) || t) ≡ true → (t ≡ true → u ≡ true) → (o || u) ≡ true
+older-so true true t u h next = refl
+older-so true false t u h next = next h
+older-so false true t u h next = refl
+older-so false false t u h next = next h
+
+any-older : (s : ControlState) (crossing : Crossing) (ts : List Touch) → list_any (is_touch s crossing) ts ≡ true → list_any (is_older s) ts ≡ true
+any-older s crossing [] h = h
+any-older s crossing (t ∷ ts) h = older-so (same_crossing crossing t.crossing) (is_older s t) (list_any (is_touch s crossing) ts) (list_any (is_older s) ts) h (any-older s crossing ts)
+
+any-touches : (s : ControlState) (crossing : Crossing) (o : Outcome) → touches s crossing o ≡ true → touches_any s o ≡ true
+any-touches s crossing o h = any-older s crossing o.touched h
 
 lexer-append : (does : Handler) (c : ControlState) (xs ys : List Token) (l : Lexer) → lexer_after does c (xs ++ ys) l ≡ lexer_after does (left_after does c xs) ys (lexer_after does c xs l)
 lexer-append does c [] ys l = refl
@@ -70,6 +108,7 @@ none-handled p = record {
     own = refl;
     amounts = λ grows es am. subst (Amounts grows p.sink s p.split.edits) (sym (append-nil es)) am;
   };
+  sought = λ keeps answered. (keeps, seeks-none p.heard.says (seeker_of p));
 }
 
 both-handled : (s : ControlState) (a b c : Stage) (xs ys : List Token) → IsHandled s a b xs → IsHandled s b c ys → IsHandled s a c (xs ++ ys)
@@ -94,6 +133,10 @@ both-handled s a b c xs ys f g = record {
         ∙ ap (λ (fs : List Edit). es ++ fs)
         (ap (λ (d : ControlState). made_after handle_at_once old xs ++ made_after handle_at_once d ys) f.control ∙ sym (made-append handle_at_once old xs ys))
 
+-- the answers are those from before
+said-before : (a b : Stage) (ts : List Token) (qs rs : List Question) (end : Result Seeker Crossing) → b.heard ≡ noting a.heard qs → Seeks b.heard.says (seeker_of b) ts rs end → Seeks a.heard.says (seeker_of b) ts rs end
+said-before a b ts qs rs end noted h = subst (λ (says : Question → Answer). Seeks says (seeker_of b) ts rs end) (same-says a.heard b.heard qs noted) h
+
 pub handled-then : (a b c : Stage) (xs ys : List Token) → Handled a b xs → Handled b c ys → Handled a c (xs ++ ys)
 handled-then a b c xs ys f g = record {
   input = g.input ∙ f.input;
@@ -103,6 +146,38 @@ handled-then a b c xs ys f g = record {
   over = λ s all is may.
       let first = f.over s (true-front s a.heard.says f.asked g.asked all) is (may-front s xs ys may) in
       both-handled s a b c xs ys first (g.over s (true-then s a.heard b.heard f.asked g.asked f.noted all) first.over (may-back s xs ys may));
+  sought = λ keeps answered.
+      let first = f.sought keeps answered in
+      let second = g.sought first.0 (f.turned.asked ∙ answered) in
+      (second.0, seeks-then a.heard.says (seeker_of a) (seeker_of b) xs ys f.asked g.asked (Ok (seeker_of c)) first.1 (said-before a b ys f.asked g.asked (Ok (seeker_of c)) f.noted second.1));
+}
+
+-- a token behind others touches something older
+touched-append : (s c : ControlState) (xs ys : List Token) → untouched_at_once s (left_after handle_at_once c xs) ys ≡ false → untouched_at_once s c (xs ++ ys) ≡ false
+touched-append s c [] ys h = h
+touched-append s c (x ∷ xs) ys h =
+    let m : Meant = handle_at_once c x in
+    ap (λ b. not (touches_any s m.outcome) && b) (touched-append s (left_by m) xs ys h) ∙ and-false (not (touches_any s m.outcome))
+
+touched-front : (s c : ControlState) (t : Token) (ts : List Token) → untouched_at_once s c (t ∷ []) ≡ false → untouched_at_once s c (t ∷ ts) ≡ false
+touched-front s c t ts h =
+    let m : Meant = handle_at_once c t in
+    ap (λ b. b && untouched_at_once s (left_by m) ts) (first-false (not (touches_any s m.outcome)) h)
+
+touched-then : (a b c : Stage) (xs ys : List Token) (t : Token) → Handled a b xs → Touched b c (t ∷ []) → Touched a c (xs ++ t ∷ ys)
+touched-then a b c xs ys t f g = record {
+  asked = f.asked ++ g.asked;
+  noted = noted-then a.heard b.heard c.heard f.asked g.asked f.noted g.noted;
+  rested = g.rested ∙ f.turned.rested;
+  over = λ s all is may.
+      let first = f.over s (true-front s a.heard.says f.asked g.asked all) is (may-front s xs (t ∷ ys) may) in
+      let one = g.over s (true-then s a.heard b.heard f.asked g.asked f.noted all) first.over ((may-back s xs (t ∷ ys) may).0, tt) in
+      touched-append s (control_at s a) xs (t ∷ ys) (touched-front s (left_after handle_at_once (control_at s a) xs) t ys (subst (λ (d : ControlState). untouched_at_once s d (t ∷ []) ≡ false) first.control one));
+  sought = λ keeps answered.
+      let first = f.sought keeps answered in
+      let second = g.sought first.0 (f.turned.asked ∙ answered) in
+      let whole = seeks-before b.heard.says (seeker_of b) (t ∷ []) ys g.asked second.0 second.1 in
+      (second.0, seeks-then a.heard.says (seeker_of a) (seeker_of b) xs (t ∷ ys) f.asked g.asked (Err second.0) first.1 (said-before a b (t ∷ ys) f.asked g.asked (Err second.0) f.noted whole));
 }
 
 -- what is left of the tokens is still to be handled
@@ -124,6 +199,10 @@ going-on start now next tokens before rest t g is one = record {
 pub going-end : (start now : Stage) (tokens rest : List Token) → Going start now tokens rest → rest ≡ [] → Handled start now tokens
 going-end start now tokens rest g is =
     subst (Handled start now) (sym (g.split ∙ (ap (λ (ts : List Token). g.done ++ ts) is ∙ append-nil g.done))) g.handled
+
+pub going-touched : (start now next : Stage) (tokens before rest : List Token) (t : Token) → Going start now tokens before → before ≡ t ∷ rest → Touched now next (t ∷ []) → Touched start next tokens
+going-touched start now next tokens before rest t g is one =
+    subst (Touched start next) (sym (g.split ∙ ap (λ (ts : List Token). g.done ++ ts) is)) (touched-then start now next g.done rest t g.handled one)
 
 -- one token
 module _ (law : TokensHandled) (apart : AtOnceApart) (stay : StayUnedited) where
@@ -154,8 +233,8 @@ module _ (law : TokensHandled) (apart : AtOnceApart) (stay : StayUnedited) where
   -- and the lexer is switched where it calls for that
   pub one-handled : SwitchesFall → (old new : Stage) (w : Split) (edits : List Edit) (t : Token) (handled : Told) → Runs old.heard new.heard (handle_plan t old.split) (Ok (record { split = w; handled = handled }))
       → new.split ≡ record w { edits = edits } → ((grows : Bool) (c : ControlState) (es : List Edit) → Amounts grows old.sink c w.edits es → Amounts grows new.sink c edits es)
-      → new.lexer ≡ turned handled.switch old.lexer → new.input ≡ old.input → Handled old new (t ∷ [])
-  one-handled falls old new w edits t handled runs split take lexer input = record {
+      → (old.sink ≡ Keeps → (new.sink ≡ Keeps) × (edits ≡ w.edits)) → new.lexer ≡ turned handled.switch old.lexer → new.input ≡ old.input → Handled old new (t ∷ [])
+  one-handled falls old new w edits t handled runs split take keep lexer input = record {
     input = input;
     turned = subst (IsTurned old.lexer) (sym lexer) (turned-once falls old.lexer handled.switch);
     asked = asked_by old.heard.says (handle_plan t old.split);
@@ -164,13 +243,38 @@ module _ (law : TokensHandled) (apart : AtOnceApart) (stay : StayUnedited) where
         let d : IsDoneOver s old.split w handled (handle_at_once (state_over old.split s) t) = law t s old.split old.heard new.heard (Ok (record { split = w; handled = handled })) runs all is may.0 in
         over-one s old new w edits t handled split take
         (lexer ∙ ap (λ (to : Option Rest). turned to old.lexer) (d.switch ∙ sym (ap (λ (h : Meant). h.switch) (apart lex_start (state_over old.split s) t)))) d;
+    sought = λ keeps answered. (
+      (keep keeps).0,
+      one-sought old new w edits t handled runs.ends split (keep keeps).1
+          (ap (λ (l : Lexer). stands l new.input) lexer ∙ (ap (stands (turned handled.switch old.lexer)) input ∙ turned-stands handled.switch old.lexer old.input answered)),
+    );
   }
+
+  -- or it crosses
+  pub one-touched : (old new : Stage) (t : Token) (crossing : Crossing) → Runs old.heard new.heard (handle_plan t old.split) (Err crossing) → new.lexer ≡ old.lexer → Touched old new (t ∷ [])
+  one-touched old new t crossing runs lexer = record {
+    asked = asked_by old.heard.says (handle_plan t old.split);
+    noted = runs.noted;
+    rested = ap (λ (l : Lexer). l.rested) lexer;
+    over = λ s all is may.
+        let touched = law t s old.split old.heard new.heard (Err crossing) runs all is may.0 in
+        ap (λ b. not b && true) (ap (λ (h : Meant). touches_any s h.outcome) (apart lex_start (state_over old.split s) t) ∙ any-touches s crossing (handle_at_once (state_over old.split s) t).outcome touched);
+    sought = λ keeps answered. (crossing, seeks-one old.heard.says (seeker_of old) t (Err crossing) runs.ends);
+  }
+
+  pub one-refused : {X : Type 0} (old new : Stage) (t : Token) (result : Result X Refusal) (refused : Refusal) → IsErrAnd result (λ e. e ≡ refused) → Handles (Err refused) (sight_of old) (sight_of new) (handle_plan t) → new.lexer ≡ old.lexer
+      → IfErr result (λ e. IfCrossed e (Touched old new (t ∷ [])))
+  one-refused old new t result refused is h lexer = refused-so result refused is (by refused h) (λ touched. touched)
+    where
+      by : (r : Refusal) → Handles (Err r) (sight_of old) (sight_of new) (handle_plan t) → IfCrossed r (Touched old new (t ∷ []))
+      by (refusal.Crossed crossing) runs = one-touched old new t crossing runs lexer
+      by refusal.NoMemory runs = tt
 
   -- a run of characters, which calls for no switch
   pub run-handled : (old new : Stage) (w : Split) (edits : List Edit) (class : CharClass) (text : List ℕ) (handled : Told) → Runs old.heard new.heard (handle_plan (Characters class text) old.split) (Ok (record { split = w; handled = handled }))
       → new.split ≡ record w { edits = edits } → ((grows : Bool) (c : ControlState) (es : List Edit) → Amounts grows old.sink c w.edits es → Amounts grows new.sink c edits es)
-      → new.lexer ≡ old.lexer → new.input ≡ old.input → Handled old new (Characters class text ∷ [])
-  run-handled old new w edits class text handled runs split take lexer input = record {
+      → (old.sink ≡ Keeps → (new.sink ≡ Keeps) × (edits ≡ w.edits)) → handled.switch ≡ None → new.lexer ≡ old.lexer → new.input ≡ old.input → Handled old new (Characters class text ∷ [])
+  run-handled old new w edits class text handled runs split take keep quiet lexer input = record {
     input = input;
     turned = subst (IsTurned old.lexer) (sym lexer) (none-turned old.lexer);
     asked = asked_by old.heard.says (handle_plan (Characters class text) old.split);
@@ -178,14 +282,35 @@ module _ (law : TokensHandled) (apart : AtOnceApart) (stay : StayUnedited) where
     over = λ s all is may.
         over-one s old new w edits (Characters class text) handled split take (lexer ∙ ap (λ (to : Option Rest). turned to old.lexer) (sym (at_once-quiet class text (control_at s old))))
         (law (Characters class text) s old.split old.heard new.heard (Ok (record { split = w; handled = handled })) runs all is may.0);
+    sought = λ keeps answered. (
+      (keep keeps).0,
+      one-sought old new w edits (Characters class text) handled runs.ends split (keep keeps).1
+          (ap (λ (l : Lexer). stands l new.input) lexer ∙ (ap (stands old.lexer) input ∙ ap (λ (to : Option Rest). switched to (stands old.lexer old.input)) (sym quiet))),
+    );
   }
 
   -- a text behind the question whether the older current node is HTML
   pub below-handled : TextsTakenBelow → (first : Heard) (old new : Stage) (w : Split) (edits : List Edit) (text : List ℕ) (handled : Told) → may_take_text old.split ≡ true → Runs first old.heard (current_is_plan kinds.AnyHtml old.split) (Ok true)
       → Runs first new.heard (handle_plan (as_run text) old.split) (Ok (record { split = w; handled = handled })) → new.split ≡ record w { edits = edits }
-      → ((grows : Bool) (c : ControlState) (es : List Edit) → Amounts grows old.sink c w.edits es → Amounts grows new.sink c edits es) → new.lexer ≡ old.lexer → new.input ≡ old.input → TextHandled (record old { heard = first }) new text
+      → ((grows : Bool) (c : ControlState) (es : List Edit) → Amounts grows old.sink c w.edits es → Amounts grows new.sink c edits es) → (old.sink ≡ Keeps → (new.sink ≡ Keeps) × (edits ≡ w.edits)) → new.lexer ≡ old.lexer → new.input ≡ old.input → TextHandled (record old { heard = first }) new text
   unfolding run-handled
-  below-handled below first old new w edits text handled may found runs split take lexer input = record {
-    handled = run-handled (record old { heard = first }) new w edits (white_or_other (list_all is_white text)) text handled runs split take lexer input;
+  below-handled below first old new w edits text handled may found runs split take keep lexer input = record {
+    handled = run-handled (record old { heard = first }) new w edits (white_or_other (list_all is_white text)) text handled runs split take keep (below-quiet first.says text old.split w handled runs.ends may found.ends) lexer input;
     takes = λ s all is. below text s old.split first old.heard may found all is;
   }
+
+  pub below-touched : TextsTakenBelow → (first : Heard) (old new : Stage) (text : List ℕ) (crossing : Crossing) → may_take_text old.split ≡ true → Runs first old.heard (current_is_plan kinds.AnyHtml old.split) (Ok true)
+      → Runs first new.heard (handle_plan (as_run text) old.split) (Err crossing) → new.lexer ≡ old.lexer → TextTouched (record old { heard = first }) new text
+  unfolding one-touched
+  below-touched below first old new text crossing may found runs lexer = record {
+    touched = one-touched (record old { heard = first }) new (as_run text) crossing runs lexer;
+    takes = λ s all is. below text s old.split first old.heard may found all is;
+  }
+
+  pub below-refused : {X : Type 0} → TextsTakenBelow → (old new : Stage) (text : List ℕ) (result : Result X Refusal) (refused : Refusal) → IsErrAnd result (λ e. e ≡ refused) → may_take_text old.split ≡ true
+      → HandlesBelow (Err refused) (sight_of old) (sight_of new) (handle_plan (as_run text)) → new.lexer ≡ old.lexer → IfErr result (λ e. IfCrossed e (TouchedBelow old new text))
+  below-refused below old new text result refused is may h lexer = refused-so result refused is (by refused h) (λ touched. touched)
+    where
+      by : (r : Refusal) → HandlesBelow (Err r) (sight_of old) (sight_of new) (handle_plan (as_run text)) → IfCrossed r (TouchedBelow old new text)
+      by (refusal.Crossed crossing) runs = λ first found. below-touched below first old new text crossing may found (runs (record { heard = first; split = old.split }) (record { runs = found; same = refl })) lexer
+      by refusal.NoMemory runs = tt

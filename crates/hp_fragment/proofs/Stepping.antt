@@ -1,5 +1,5 @@
 -- What each way of the parser does to how far the run has come.
-use Rattle.std.proofs.Common.{◌≡◌, ℕ, ◌^◌, List, [], ◌∷◌, ◌++◌, Bool, true, false, refl, ap, ◌∙◌, sym, subst, append-nil, inl, Option, Some}
+use Rattle.std.proofs.Common.{◌≡◌, ℕ, ◌^◌, List, [], ◌∷◌, ◌++◌, Bool, true, false, refl, ap, ◌∙◌, sym, subst, append-nil, inl, inr, Option, Some}
 use Rattle.std.specs.Prelude.{not, ◌&&◌, Ok}
 use Rattle.std.specs.List.{list_all}
 use Rattle.std.proofs.lemmas.Bool.{and_parts, not-true}
@@ -17,17 +17,20 @@ use Rattle.hp_control.proofs.StartLemmas.{start_valid}
 use Rattle.hp_control.specs.declared.edit.Edit.{Edit}
 use Rattle.hp_control.specs.Faithful.{Split, state_over}
 use Rattle.hp_control.specs.Outcome.{touches_any}
-use Rattle.hp_control.specs.Plan.{Heard, Plan, Runs, asked_by}
+use Rattle.hp_control.specs.Plan.{Heard, Runs, asked_by}
 use Rattle.hp_control.specs.States.{ControlState, IsValid, lex_start}
 use Rattle.hp_lexer.specs.declared.lexer.Asked.TheVariants as asked
 use Rattle.hp_lexer.specs.declared.lexer.Lexer.{Lexer}
 use Rattle.hp_lexer.specs.declared.lexer.Step.TheVariants as steps
 use Rattle.hp_lexer.specs.Places.{told}
 use Rattle.hp_lexer.specs.Standing.{IsBatch, PlainStepped, Reaches, ReachesCdata, Stepped, TagStepped, stands}
-use Rattle.hp_acts.specs.Plain.{takes_text}
+use Rattle.hp_acts.specs.Plain.{may_take_text, takes_text}
+use Rattle.hp_asked.specs.Laws.{RightBeforeText, RightName, RightSection, RightSilence, RightTokens, SectionLeads, SilenceLeads, TagLeads, TextLeads, TokensLead}
+use Rattle.hp_asked.specs.Seeking.{GoesWhole}
 use Rattle.hp_model.specs.AtOnce.{handle_at_once}
 use Rattle.hp_model.specs.Texts.{TakesText, as_run, is_white, white_or_other}
 use Rattle.hp_model.specs.Turns.{left_by}
+use Rattle.hp_older.proofs.Truly.{ends_so}
 use Rattle.hp_older.specs.Laws.{AreValid, ForeignTold, LastTagTold, TextsTaken}
 use Rattle.hp_older.specs.Over.{IsOver}
 use Rattle.hp_older.specs.Tokens.{MayAllCome}
@@ -41,17 +44,15 @@ use Rattle.hp_views.specs.SecondPlans.{foreign_now_plan}
 use Rattle.hp_views.specs.StackPlans.{current_is_plan}
 use Rattle.hp_fragment.proofs.Amounting.{amounts-same}
 use Rattle.hp_fragment.proofs.Asking.{noted-none}
+use Rattle.hp_fragment.proofs.Further.{none-further}
+use Rattle.hp_fragment.proofs.Leading.{blanks-led, handled-rightly, html-right, html-rightly, lexed, name-rightly, section-rightly, silence-rightly, tag-led, text-led, tokens-led}
 use Rattle.hp_fragment.proofs.Telling.{after-named, asked-named, leads-named, same-named, section-named, told-named}
 use Rattle.hp_fragment.specs.Making.{Amounts}
-use Rattle.hp_fragment.specs.Reading.{GoesFurther, GoesToEnd, Handled, HandledBelow, HasRead, IsHandled, IsNamed, IsReady, Stage, TextHandled, Way, control_at}
+use Rattle.hp_fragment.specs.Reading.{AreRight, GoesFurther, GoesToEnd, Handled, HandledBelow, HasRead, IsAtText, IsHandled, IsNamed, IsReady, Stage, TextHandled, Way, control_at}
 
-may-all : (s : ControlState) (ts : List Token) → AllRead ts → AllInside ts → MayAllCome s ts
+pub may-all : (s : ControlState) (ts : List Token) → AllRead ts → AllInside ts → MayAllCome s ts
 may-all s [] read inside = tt
 may-all s (t ∷ ts) read inside = (record { read = read.0; inside = inl inside.0 }, may-all s ts read.1 inside.1)
-
--- the lexer has come so far in the text, and nothing else is done
-abbrev pub lexed : Stage → Lexer → Unread → Stage
-lexed p l u = record p { lexer = l; input = u }
 
 module _ (valid : AreValid) where
   pub control-valid : (s : ControlState) (p : Stage) → IsOver s p.split → IsValid (control_at s p)
@@ -77,9 +78,9 @@ reads-on w old new l u tokens h input named r f = record {
     c = control_at w.older old
 
 -- the tokens of a step of the lexer
-pub tokens-further : AreValid → TokensCome → TokensRead → (old new : Stage) (l : Lexer) (u : Unread) (began : ℕ) (tokens : List Token) → IsReady old → Stepped old.lexer old.input l u (steps.Tokens began tokens)
+pub tokens-further : AreValid → TokensCome → TokensRead → RightTokens → TokensLead → (old new : Stage) (l : Lexer) (u : Unread) (began : ℕ) (tokens : List Token) → IsReady old → Stepped old.lexer old.input l u (steps.Tokens began tokens)
     → IsBatch old.lexer.names (stands old.lexer old.input) (stands l u) tokens l.rested → Handled (lexed old l u) new tokens → GoesFurther old new
-tokens-further valid law reading old new l u began tokens ready stepped batch handled = record {
+tokens-further valid law reading right lead old new l u began tokens ready stepped batch handled = record {
   asked = handled.asked;
   noted = handled.noted;
   reads = λ w all r.
@@ -87,11 +88,12 @@ tokens-further valid law reading old new l u began tokens ready stepped batch ha
       let done : IsHandled w.older (lexed old l u) new tokens = handled.over w.older all r.over (may-all w.older tokens read.0 read.2) in
       reads-on w old new l u tokens done handled.input (leads-named w.told w.name w.older old.lexer.names old.lexer l old.input u stepped.0.es stepped.0.leads r.named) r
       (law built_in w.name w.base w.older w.from (control_at w.older old) r.edits old.lexer l old.input u began tokens r.comes ready.names (control-valid valid w.older old r.over) stepped batch done.own);
+  rightly = handled-rightly right old new l u tokens (tokens-led lead old l u began tokens ready stepped batch) handled;
 }
 
 -- a tag that was read straight
-pub tag-further : AreValid → TagComes → TokensRead → (old new : Stage) (l : Lexer) (u : Unread) (tag : Token) → IsReady old → TagStepped old.lexer old.input l u (Some tag) → Handled (lexed old l u) new (tag ∷ []) → GoesFurther old new
-tag-further valid law reading old new l u tag ready stepped handled = record {
+pub tag-further : AreValid → TagComes → TokensRead → RightTokens → TagLeads → (old new : Stage) (l : Lexer) (u : Unread) (tag : Token) → IsReady old → TagStepped old.lexer old.input l u (Some tag) → Handled (lexed old l u) new (tag ∷ []) → GoesFurther old new
+tag-further valid law reading right lead old new l u tag ready stepped handled = record {
   asked = handled.asked;
   noted = handled.noted;
   reads = λ w all r.
@@ -99,6 +101,7 @@ tag-further valid law reading old new l u tag ready stepped handled = record {
       let done : IsHandled w.older (lexed old l u) new (tag ∷ []) = handled.over w.older all r.over (may-all w.older (tag ∷ []) read.0 read.2) in
       reads-on w old new l u (tag ∷ []) done handled.input (leads-named w.told w.name w.older old.lexer.names old.lexer l old.input u stepped.0.0.es stepped.0.0.leads r.named) r
       (law built_in w.name w.base w.older w.from (control_at w.older old) r.edits old.lexer l old.input u tag r.comes ready.names (control-valid valid w.older old r.over) stepped done.own);
+  rightly = handled-rightly right old new l u (tag ∷ []) (tag-led lead old l u tag ready stepped) handled;
 }
 
 -- a run of characters switches the lexer nowhere
@@ -114,8 +117,8 @@ untouched-one : (s c : ControlState) (t : Token) → untouched_at_once s c (t �
 untouched-one s c t h = not-true (touches_any s (handle_at_once c t).outcome) (and_parts (not (touches_any s (handle_at_once c t).outcome)) true h).0
 
 -- a text that the current node takes as it comes
-pub text-further : AreValid → TextComes → (old new : Stage) (l : Lexer) (u : Unread) (text : List ℕ) → IsReady old → PlainStepped old.lexer old.input l u text → TextHandled (lexed old l u) new text → GoesFurther old new
-text-further valid law old new l u text ready stepped h = record {
+pub text-further : AreValid → TextComes → RightTokens → TextLeads → (old new : Stage) (l : Lexer) (u : Unread) (text : List ℕ) → IsReady old → PlainStepped old.lexer old.input l u text → ((s : ControlState) → AreRight s old → GoesWhole s old.split) → TextHandled (lexed old l u) new text → GoesFurther old new
+text-further valid law right lead old new l u text ready stepped whole h = record {
   asked = h.handled.asked;
   noted = h.handled.noted;
   reads = λ w all r.
@@ -127,6 +130,7 @@ text-further valid law old new l u text ready stepped h = record {
       (run-further w c r.edits (white_or_other (list_all is_white text)) text l u
       (law built_in w.name w.base w.older w.from c r.edits old.lexer l old.input u text r.comes ready.names (control-valid valid w.older old r.over) stepped on
       (untouched-one w.older c (as_run text) done.own)));
+  rightly = handled-rightly right old new l u (as_run text ∷ []) (text-led lead old l u text ready stepped whole) h.handled;
 }
 
 -- the view takes it so
@@ -141,10 +145,17 @@ found-below old h v l u mid new text found same is handled =
     let Q : Split → Type 0 = λ x. HandledBelow (record old { heard = h; split = x; lexer = l; input = u }) new text in
     subst Q same (subst P is handled) old.heard found
 
+-- so a text goes whole: into an own current node, or into an older one that was right to be asked for
+pub own-whole : (p : Stage) → takes_text p.split ≡ true → (s : ControlState) → AreRight s p → GoesWhole s p.split
+own-whole p takes s right = inl takes
+
+pub html-whole : RightBeforeText → (p : Stage) (h : Heard) → IsAtText (stands p.lexer p.input) → may_take_text p.split ≡ true → Runs p.heard h (current_is_plan kinds.AnyHtml p.split) (Ok true) → (s : ControlState) → AreRight s p → GoesWhole s p.split
+html-whole law p h at_text may found s right = inr (may, ends_so s p.heard h (current_is_plan kinds.AnyHtml p.split) (Ok true) found (html-right law s p at_text may right))
+
 -- white space
-pub blanks-further : AreValid → BlanksCome → (old new : Stage) (l : Lexer) (u : Unread) (text : List ℕ) → IsReady old → PlainStepped old.lexer old.input l u text → list_all is_blank text ≡ true
+pub blanks-further : AreValid → BlanksCome → RightTokens → TextLeads → (old new : Stage) (l : Lexer) (u : Unread) (text : List ℕ) → IsReady old → PlainStepped old.lexer old.input l u text → list_all is_blank text ≡ true
     → Handled (lexed old l u) new (Characters White text ∷ []) → GoesFurther old new
-blanks-further valid law old new l u text ready stepped blank handled = record {
+blanks-further valid law right lead old new l u text ready stepped blank handled = record {
   asked = handled.asked;
   noted = handled.noted;
   reads = λ w all r.
@@ -154,11 +165,12 @@ blanks-further valid law old new l u text ready stepped blank handled = record {
       (run-further w c r.edits White text l u
       (law built_in w.name w.base w.older w.from c r.edits old.lexer l old.input u text r.comes ready.names (control-valid valid w.older old r.over) stepped blank
       (untouched-one w.older c (Characters White text) done.own)));
+  rightly = handled-rightly right old new l u (Characters White text ∷ []) (blanks-led lead old l u text ready stepped blank) handled;
 }
 
 -- moves that emit nothing
-pub silent-further : SilenceComes → (old : Stage) (l : Lexer) (u : Unread) → IsReady old → Reaches old.lexer old.input l u [] false → GoesFurther old (lexed old l u)
-silent-further law old l u ready reached = record {
+pub silent-further : SilenceComes → RightSilence → SilenceLeads → (old : Stage) (l : Lexer) (u : Unread) → IsReady old → Reaches old.lexer old.input l u [] false → GoesFurther old (lexed old l u)
+silent-further law right lead old l u ready reached = record {
   asked = [];
   noted = noted-none old.heard;
   reads = λ w all r. record {
@@ -169,11 +181,12 @@ silent-further law old l u ready reached = record {
     comes = law built_in w.name w.base w.older w.from (control_at w.older old) r.edits old.lexer l old.input u r.comes ready.names reached;
     amounts = r.amounts;
   };
+  rightly = silence-rightly right lead old l u ready reached;
 }
 
 -- nothing was done
 pub same-further : (old new : Stage) → new ≡ old → GoesFurther old new
-same-further old new is = subst (GoesFurther old) (sym is) (record { asked = []; noted = noted-none old.heard; reads = λ w all r. r })
+same-further old new is = subst (GoesFurther old) (sym is) (none-further old)
 
 -- something was found out, and the lexer was told
 told-reads : (w : Way) (old new : Stage) (r : HasRead w old) → new.split ≡ old.split → new.sink ≡ old.sink → IsNamed w.told w.name w.older new.lexer
@@ -190,18 +203,20 @@ told-reads w old new r split sink named comes = record {
       (subst (λ x. Amounts w.grows x w.older old.split.edits r.edits) (sym sink) r.amounts);
 }
 
--- something was asked, and nothing else done
-pub question-further : (old : Stage) (h : Heard) (v : Split) (plan : Plan Bool) (b : Bool) → Runs old.heard h plan (Ok b) → v ≡ old.split → GoesFurther old (record old { heard = h; split = v })
-question-further old h v plan b runs split = record {
-  asked = asked_by old.heard.says plan;
+-- before a character it was asked whether the older current node is HTML, and nothing else was done
+pub html-further : RightBeforeText → (old : Stage) (h : Heard) (v : Split) (b : Bool) → IsAtText (stands old.lexer old.input) → may_take_text old.split ≡ true → Runs old.heard h (current_is_plan kinds.AnyHtml old.split) (Ok b) → v ≡ old.split
+    → GoesFurther old (record old { heard = h; split = v })
+html-further law old h v b at_text may runs split = record {
+  asked = asked_by old.heard.says (current_is_plan kinds.AnyHtml old.split);
   noted = runs.noted;
   reads = λ w all r. told-reads w old (record old { heard = h; split = v }) r split refl r.named r.comes;
+  rightly = html-rightly law old h v b at_text may runs split;
 }
 
 -- the question after `<![CDATA[`
-pub section-further : SectionComes → ForeignTold → (old new : Stage) (l : Lexer) (u : Unread) (foreign : Bool) → IsReady old → ReachesCdata old.lexer old.input l u → Runs old.heard new.heard (foreign_now_plan old.split) (Ok foreign)
+pub section-further : SectionComes → ForeignTold → RightSection → SectionLeads → (old new : Stage) (l : Lexer) (u : Unread) (foreign : Bool) → IsReady old → ReachesCdata old.lexer old.input l u → Runs old.heard new.heard (foreign_now_plan old.split) (Ok foreign)
     → new.split ≡ old.split → new.sink ≡ old.sink → new.lexer ≡ record l { asked = asked.CdataAnswered foreign } → new.input ≡ u → GoesFurther old new
-section-further law found old new l u foreign ready reached runs split sink lexer input = record {
+section-further law found right lead old new l u foreign ready reached runs split sink lexer input = record {
   asked = asked_by old.heard.says (foreign_now_plan old.split);
   noted = runs.noted;
   reads = λ w all r.
@@ -210,12 +225,13 @@ section-further law found old new l u foreign ready reached runs split sink lexe
       (sym (ap (λ (x : Lexer). stands x new.input) lexer ∙ ap (λ (v : Unread). stands (record l { asked = asked.CdataAnswered foreign }) v) input))
       (law built_in w.name w.base w.older w.from (control_at w.older old) r.edits old.lexer l old.input u foreign r.comes ready.names reached
       (found w.older old.split old.heard new.heard foreign runs all r.over)));
+  rightly = section-rightly right lead old new l u foreign ready reached runs split sink lexer input;
 }
 
 -- the last start tag's name, which is asked only where it isn't known
-pub name-further : NameComes → LastTagTold → (old new : Stage) (l : Lexer) (u : Unread) (name : List ℕ) → IsReady old → Stepped old.lexer old.input l u steps.AskLastTag → Runs old.heard new.heard ask_last_tag (Ok name)
+pub name-further : NameComes → LastTagTold → RightName → SilenceLeads → (old new : Stage) (l : Lexer) (u : Unread) (name : List ℕ) → IsReady old → Stepped old.lexer old.input l u steps.AskLastTag → Runs old.heard new.heard ask_last_tag (Ok name)
     → new.split ≡ old.split → new.sink ≡ old.sink → new.lexer ≡ told name l → new.input ≡ u → GoesFurther old new
-name-further law found old new l u name ready stepped runs split sink lexer input = record {
+name-further law found right lead old new l u name ready stepped runs split sink lexer input = record {
   asked = asked_by old.heard.says ask_last_tag;
   noted = runs.noted;
   reads = λ w all r.
@@ -225,6 +241,7 @@ name-further law found old new l u name ready stepped runs split sink lexer inpu
       (subst (λ (k : Lexing). HasCome built_in w.name w.base w.older w.from k (control_at w.older old) r.edits)
       (sym (ap (λ (x : Lexer). stands x new.input) lexer ∙ (ap (λ (n : List ℕ). stands (told n l) new.input) own ∙ ap (λ (v : Unread). stands (told w.name l) v) input)))
       (law built_in w.name w.base w.older w.from (control_at w.older old) r.edits old.lexer l old.input u r.comes ready.names stepped));
+  rightly = name-rightly right lead found old new l u name ready stepped runs split sink lexer input;
 }
 
 -- the text is used up
@@ -240,6 +257,7 @@ cut-ends law old l u ready stepped = record {
     ended = law built_in w.name w.base w.older w.from (control_at w.older old) r.edits old.lexer l old.input u r.comes ready.names stepped;
     amounts = r.amounts;
   };
+  right = λ s keeps right. tt;
 }
   where
     cut-named : (w : Way) → HasRead w old → IsNamed w.told w.name w.older l

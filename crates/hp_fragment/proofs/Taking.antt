@@ -6,7 +6,7 @@ use Rattle.hp_tokens.specs.Reading.{Unread}
 use Rattle.hp_lexer.specs.declared.lexer.Lexer.{Lexer}
 use Rattle.hp_lexer.specs.declared.lexer.Step.{Step}
 use Rattle.hp_lexer.specs.Standing.{Batched, PlainStepped, TagStepped}
-use Rattle.hp_fragment.proofs.Stepping.{lexed}
+use Rattle.hp_fragment.proofs.Leading.{lexed}
 use Rattle.hp_fragment.specs.Reading.{Stage, TookText}
 
 -- the same lexer over the same text

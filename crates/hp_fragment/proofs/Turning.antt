@@ -20,11 +20,11 @@ use Rattle.hp_runs.specs.Handling.{turned}
 use Rattle.hp_fragment.specs.Reading.{IsAtEnd, IsReady, IsTurned, Stage, StepsOn, Tried, WentStraight, load_of}
 
 pub none-turned : (l : Lexer) → IsTurned l l
-none-turned l = record { names = refl; asked = refl; ahead = refl; weight = λ input told. omega arith }
+none-turned l = record { names = refl; asked = refl; ahead = refl; weight = λ input told. omega arith; rested = refl }
 
 pub turned-once : SwitchesFall → (l : Lexer) (to : Option Rest) → IsTurned l (turned to l)
 turned-once law l None = none-turned l
-turned-once law l (Some rest) = record { names = refl; asked = refl; ahead = refl; weight = λ input told. law rest l input told }
+turned-once law l (Some rest) = record { names = refl; asked = refl; ahead = refl; weight = λ input told. law rest l input told; rested = refl }
 
 chain : (a b c : ℕ) → a ≤ b → b ≤ c → a ≤ c
 chain a b c f g = omega (arith, f, g)
@@ -33,6 +33,7 @@ pub turned-then : (a b c : Lexer) → IsTurned a b → IsTurned b c → IsTurned
 turned-then a b c f g = record {
   names = g.names ∙ f.names;
   asked = g.asked ∙ f.asked;
+  rested = g.rested ∙ f.rested;
   ahead = g.ahead ∙ f.ahead;
   weight = λ input told. chain (weight (stands c input)) (weight (stands b input)) (weight (stands a input)) (g.weight input (f.asked ∙ told)) (f.weight input told);
 }

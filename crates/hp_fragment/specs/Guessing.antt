@@ -1,14 +1,18 @@
 -- What is made of a text behind a guess (13.2).
-use Rattle.std.specs.Prelude.{◌≡◌, ℕ, ◌^◌, Bool, List, [], ◌∷◌, All, Option, Some}
+use Rattle.std.specs.Prelude.{◌≡◌, ℕ, ◌<◌, ◌^◌, Bool, List, [], ◌∷◌, All, length, Option, Some}
 use Rattle.std.specs.Option.{is_some}
+use Rattle.std.specs.Str.{chars}
 use Rattle.hp_elements.specs.declared.token.Mode.{Mode}
 use Rattle.hp_elements.specs.declared.token.Rest.{Rest}
 use Rattle.hp_names.specs.BuiltIn.{built_in}
+use Rattle.hp_names.specs.References.{Reference}
 use Rattle.hp_tokens.specs.Advancing.{rest_state}
 use Rattle.hp_tokens.specs.declared.lexing.LexState.{LexState}
 use Rattle.hp_control.specs.Faithful.{Split}
 use Rattle.hp_control.specs.Guessing.{Guessing}
+use Rattle.hp_control.specs.Holds.{Holds}
 use Rattle.hp_control.specs.Plan.{Heard}
+use Rattle.hp_control.specs.States.{ControlState}
 use Rattle.hp_control.specs.declared.question.Answer.{Answer}
 use Rattle.hp_control.specs.declared.question.Answer.TheVariants as answer
 use Rattle.hp_control.specs.declared.question.Kept.{Kept}
@@ -18,7 +22,10 @@ use Rattle.hp_lexer.specs.declared.lexer.Asked.TheVariants as asked
 use Rattle.hp_lexer.specs.declared.lexer.Lexer.{Lexer}
 use Rattle.hp_views.specs.Begins.{begins, ended}
 use Rattle.hp_views.specs.declared.view.View.{View}
+use Rattle.hp_asked.specs.Right.{IsRight}
+use Rattle.hp_pieces.specs.First.{IsFirst}
 use Rattle.hp_pieces.specs.Guesses.{Guessed as GuessedOf}
+use Rattle.hp_pieces.specs.Waiting.{MayStand}
 use Rattle.hp_pieces.specs.declared.fragment.Fragment.{Fragment}
 use Rattle.hp_pieces.specs.declared.fragment.Fragment.TheVariants.{Exact, Guessed}
 use Rattle.hp_fragment.specs.declared.speculating.Tried.{Tried}
@@ -54,13 +61,33 @@ pub record IsSaid (says : Question → Answer) (f : GuessedOf) : Type 0 where
   pub said : All (λ k. k.answer ≡ says k.question) f.assumptions
 
 pub record IsGuessOf (says : Question → Answer) (text : List ℕ) (f : GuessedOf) : Type 0 where
+  pub names : f.names ≡ built_in
   pub whole : f.text ≡ text
   pub said : IsSaid says f
 
-abbrev pub IsTried : (Question → Answer) → List ℕ → Tried → Type 0
-IsTried says text (Reached f) = IsGuessOf says text f
-IsTried says text (Crossed at) = Unit {0}
+-- over each state for which the answers are right on that front of the text, what is assumed is true, and of the front all is covered that can be
+abbrev pub ReachesIn : List ℕ → (Question → Answer) → GuessedOf → Type 0
+ReachesIn front says f =
+    (s : ControlState) → MayStand f.names s → IsRight says f.names s (chars front) → Holds f.assumptions s × IsFirst f.names s (chars front) f.covered
 
-abbrev pub IsSaidBy : (Question → Answer) → Fragment → Type 0
-IsSaidBy says (Guessed f) = IsSaid says f
-IsSaidBy says (Exact known) = ⊥
+-- the same on the whole text
+abbrev pub ReachesFirst : (Question → Answer) → GuessedOf → Type 0
+ReachesFirst says f = ReachesIn f.text says f
+
+-- over each such state a token touches something older, and the first that does began at that place within the front
+abbrev pub CrossesAt : List Reference → (Question → Answer) → List ℕ → ℕ → Type 0
+CrossesAt names says front at =
+    (s : ControlState) → MayStand names s → IsRight says names s (chars front) → IsFirst names s (chars front) at × (at < length front)
+
+-- so it is made of that front of the text
+abbrev pub IsReached : (Question → Answer) → List ℕ → List ℕ → GuessedOf → Type 0
+IsReached says text front f = IsGuessOf says text f × ReachesIn front says f
+
+abbrev pub IsTried : (Question → Answer) → List ℕ → List ℕ → Tried → Type 0
+IsTried says text front (Reached f) = IsReached says text front f
+IsTried says text front (Crossed at) = CrossesAt built_in says front at
+
+-- it is a guess by these answers, and covers all that can be covered where they are right
+abbrev pub IsGuessBy : (Question → Answer) → Fragment → Type 0
+IsGuessBy says (Guessed f) = IsSaid says f × ReachesFirst says f
+IsGuessBy says (Exact known) = ⊥

@@ -1,4 +1,5 @@
 pub mod Making
 pub mod Reading
+pub mod AtText
 pub mod Known
 pub mod Guessing

@@ -1,5 +1,5 @@
 -- How far a parser has come over a text, over whatever is below it (13.2).
-use Rattle.std.specs.Prelude.{◌≡◌, ℕ, ◌-◌, ◌<◌, ◌≤◌, ◌^◌, Bool, true, false, List, [], ◌∷◌, ◌++◌, Option, None, Some, Ok, IsTrue}
+use Rattle.std.specs.Prelude.{◌≡◌, ℕ, ◌-◌, ◌<◌, ◌≤◌, ◌^◌, Bool, true, false, List, [], ◌∷◌, ◌++◌, Option, None, Some, Result, Ok, Err, IsTrue}
 use Rattle.std.specs.Option.{is_some, unwrap_or}
 use Rattle.hp_elements.specs.declared.kinds.Kinds.TheVariants as kinds
 use Rattle.hp_elements.specs.declared.token.Token.{Token}
@@ -10,6 +10,8 @@ use Rattle.hp_tokens.specs.Ranks.{weight}
 use Rattle.hp_tokens.specs.Reading.{Unread}
 use Rattle.hp_tokens.specs.Rows.{character}
 use Rattle.hp_control.specs.declared.edit.Edit.{Edit}
+use Rattle.hp_control.specs.declared.question.Answer.{Answer}
+use Rattle.hp_control.specs.declared.question.Crossing.{Crossing}
 use Rattle.hp_control.specs.declared.question.Question.{Question}
 use Rattle.hp_control.specs.Agree.{AllTrue}
 use Rattle.hp_control.specs.Faithful.{Split, state_over}
@@ -179,6 +181,7 @@ pub record IsTurned (old new : Lexer) : Type 0 where
   pub ahead : new.lex.ahead ≡ old.lex.ahead
   pub weight : (input : Unread) → old.asked ≡ asked.Nothing → weight (stands new input) ≤ weight (stands old input)
   pub asked : new.asked ≡ old.asked
+  pub rested : new.rested ≡ old.rested
 
 -- over s these tokens were handled at once, one behind the other, and the lexer was switched behind each that calls for it; nothing older was touched
 pub record IsHandled (s : ControlState) (old new : Stage) (tokens : List Token) : Type 0 where
@@ -189,22 +192,32 @@ pub record IsHandled (s : ControlState) (old new : Stage) (tokens : List Token) 
   pub own : untouched_at_once s (control_at s old) tokens ≡ true
   pub amounts : (grows : Bool) (es : List Edit) → Amounts grows old.sink s old.split.edits es → Amounts grows new.sink s new.split.edits (es ++ made_after handle_at_once (control_at s old) tokens)
 
--- These questions were asked, and over each older state of which the answers are true the tokens were handled.
+abbrev pub AsksNothing : Lexer → Type 0
+AsksNothing l = l.asked ≡ asked.Nothing
+
+-- by these answers the run asks this for the tokens, and comes to that end
+pub record Seeks (says : Question → Answer) (from : Seeker) (tokens : List Token) (asked : List Question) (end : Result Seeker Crossing) : Type 0 where
+  pub asks : asked ≡ asked_by says (seek tokens from)
+  pub ends : end_by says (seek tokens from) ≡ end
+
+-- These questions were asked, and over each older state of which the answers are true the tokens were handled. Where the edits stay in
+-- the view and the lexer asks nothing, the run asks the same, and comes to where the parser stands.
 pub record Handled (old new : Stage) (tokens : List Token) : Type 0 where
   pub input : new.input ≡ old.input
   pub turned : IsTurned old.lexer new.lexer
   pub asked : List Question
   pub noted : new.heard ≡ noting old.heard asked
   pub over : (s : ControlState) → AllTrue s old.heard.says asked → IsOver s old.split → MayAllCome s tokens → IsHandled s old new tokens
-  pub sought : old.sink ≡ Keeps → (new.sink ≡ Keeps) × (asked ≡ asked_by old.heard.says (seek tokens (seeker_of old))) × (end_by old.heard.says (seek tokens (seeker_of old)) ≡ Ok (seeker_of new))
+  pub sought : old.sink ≡ Keeps → AsksNothing old.lexer → (new.sink ≡ Keeps) × Seeks old.heard.says (seeker_of old) tokens asked (Ok (seeker_of new))
 
 -- These questions were asked for the tokens, and over each older state of which the answers are true one of them touches something older.
+-- Where the edits stay in the view and the lexer asks nothing, the run asks the same, and crosses.
 pub record Touched (old new : Stage) (tokens : List Token) : Type 0 where
   pub asked : List Question
   pub noted : new.heard ≡ noting old.heard asked
   pub rested : new.lexer.rested ≡ old.lexer.rested
   pub over : (s : ControlState) → AllTrue s old.heard.says asked → IsOver s old.split → MayAllCome s tokens → untouched_at_once s (control_at s old) tokens ≡ false
-  pub sought : old.sink ≡ Keeps → asked ≡ asked_by old.heard.says (seek tokens (seeker_of old))
+  pub sought : old.sink ≡ Keeps → AsksNothing old.lexer → (crossing : Crossing) × Seeks old.heard.says (seeker_of old) tokens asked (Err crossing)
 
 -- A text was handled as one run, and over each older state of which the answers are true it goes into the current node as it comes.
 pub record TextHandled (old new : Stage) (text : List ℕ) : Type 0 where
@@ -214,6 +227,15 @@ pub record TextHandled (old new : Stage) (text : List ℕ) : Type 0 where
 -- the same from before the question whether the current node is HTML, which it is
 abbrev pub HandledBelow : Stage → Stage → List ℕ → Type 0
 HandledBelow old new text = (first : Heard) → Runs first old.heard (current_is_plan kinds.AnyHtml old.split) (Ok true) → TextHandled (record old { heard = first }) new text
+
+-- A text was to be handled so, and it touches something older.
+pub record TextTouched (old new : Stage) (text : List ℕ) : Type 0 where
+  pub touched : Touched old new (as_run text ∷ [])
+  pub takes : (s : ControlState) → AllTrue s old.heard.says touched.asked → IsOver s old.split → TakesText (state_over old.split s)
+
+-- the same from before that question
+abbrev pub TouchedBelow : Stage → Stage → List ℕ → Type 0
+TouchedBelow old new text = (first : Heard) → Runs first old.heard (current_is_plan kinds.AnyHtml old.split) (Ok true) → TextTouched (record old { heard = first }) new text
 
 -- a character comes next
 pub record IsAtText (l : Lexing) : Type 0 where

@@ -2,6 +2,7 @@
 #![tactic(auto)]
 
 mod at_end;
+mod at_text;
 mod blanks;
 mod known;
 mod laws;

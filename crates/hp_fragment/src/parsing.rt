@@ -1,18 +1,19 @@
 //! The sequential parser within a text, whatever is below it: a page, a part of one behind a known state, or a part behind a guess.
-ghost use Rattle.std.specs.Prelude.{◌≡◌, ◌∷◌, [], ◌≤◌, true, IfOk, OnOk};
+ghost use Rattle.std.specs.Prelude.{◌≡◌, ◌∷◌, [], ◌≤◌, false, true, IfErr, IfOk, OnOk};
 ghost use Rattle.hp_tokens.specs.Advancing.{AreRuns, held};
+ghost use Rattle.hp_lexer.specs.Standing.{stands};
 ghost use Rattle.hp_acts.specs.Plain.{may_take_text, takes_text};
 ghost use Rattle.hp_model.specs.Texts.{as_run};
 ghost use Rattle.hp_views.specs.View.{split_of};
-ghost use Rattle.hp_fragment.specs.Reading.{stage, GoesFurther, GoesToEnd, Handled, HandledBelow, IsAtEnd, IsReady, StepsOn, TookText, Tried, WentOn, WentStraight};
+ghost use Rattle.hp_fragment.specs.Reading.{stage, Crosses, GoesFurther, GoesToEnd, Handled, HandledBelow, IfCrossed, IsAtEnd, IsAtText, IsReady, StepsOn, TookText, Touched, TouchedBelow, Tried, WentOn, WentStraight};
 
+use crate::at_text::{begins_text, is_of_text};
 use crate::blanks::next_blanks;
 use crate::sink::Sink;
 use hp_acts::{handle, handle_text, handle_text_below, may_take_text, takes_text};
 use hp_control::{Below, Refusal};
 use hp_elements::{CharClass, Kinds, Text, Token, Tokens};
 use hp_lexer::{Asked, Cursor, Lexer, Step};
-use hp_tokens::State;
 use hp_views::View;
 use std::alloc::Global;
 
@@ -33,6 +34,7 @@ impl<'p, B: Below + Drop> Parsing<'p, B> {
         requires ready { IsReady (stage B.heard self.old) }
         ensures at_end { OnOk result (IsAtEnd (stage B.heard self.new)) }
         ensures reads { OnOk result (GoesToEnd (stage B.heard self.old) (stage B.heard self.new)) }
+        ensures crossed { IfErr result (λ refused. IfCrossed refused (Crosses (stage B.heard self.old) (stage B.heard self.new))) }
     {
         'steps: loop {
             self.read_straight(alloc)?;
@@ -48,6 +50,7 @@ impl<'p, B: Below + Drop> Parsing<'p, B> {
         requires ready { IsReady (stage B.heard self.old) }
         ensures went { OnOk result (WentStraight (stage B.heard self.old) (stage B.heard self.new)) }
         ensures reads { OnOk result (GoesFurther (stage B.heard self.old) (stage B.heard self.new)) }
+        ensures crossed { IfErr result (λ refused. IfCrossed refused (Crosses (stage B.heard self.old) (stage B.heard self.new))) }
     {
         'steps: loop {
             if !self.step_straight(alloc)? {
@@ -57,11 +60,13 @@ impl<'p, B: Below + Drop> Parsing<'p, B> {
     }
 
     /// Takes the tag, the text or the white space that comes next straight: a text whole where it goes into the current node as it
-    /// comes, which is asked where that is an older one, else white space alone. Answers whether there was one.
+    /// comes, which is asked where that is an older one, else white space alone, where no line feed is to be skipped. Answers whether
+    /// there was one.
     fn step_straight(&mut self, alloc: Global) -> Result<bool, Refusal>
         requires ready { IsReady (stage B.heard self.old) }
         ensures tried { IfOk result (Tried (stage B.heard self.old) (stage B.heard self.new)) }
         ensures reads { OnOk result (GoesFurther (stage B.heard self.old) (stage B.heard self.new)) }
+        ensures crossed { IfErr result (λ refused. IfCrossed refused (Crosses (stage B.heard self.old) (stage B.heard self.new))) }
     {
         // `<` begins no text.
         if let Some(b'<') = self.input.front() {
@@ -73,6 +78,9 @@ impl<'p, B: Below + Drop> Parsing<'p, B> {
         if may_take_text(&self.view) && self.is_at_text() {
             return self.take_text_below(alloc);
         }
+        if self.view.change.skip_lf {
+            return Ok(false);
+        }
         self.take_blanks(alloc)
     }
 
@@ -83,11 +91,15 @@ impl<'p, B: Below + Drop> Parsing<'p, B> {
         requires takes { takes_text (split_of self.old.view) ≡ true }
         ensures tried { IfOk result (Tried (stage B.heard self.old) (stage B.heard self.new)) }
         ensures reads { OnOk result (GoesFurther (stage B.heard self.old) (stage B.heard self.new)) }
+        ensures crossed { IfErr result (λ refused. IfCrossed refused (Crosses (stage B.heard self.old) (stage B.heard self.new))) }
     {
+        hp_asked::answers_lead();
+        hp_asked::right_goes_on();
         hp_lexer::steps_fall();
         hp_older::texts_over();
         hp_older::views_over();
         hp_runs::comes_on();
+        hp_runs::comes_to_touch();
         match self.next_text() {
             Some(text) => {
                 self.put_text(alloc, text)?;
@@ -99,18 +111,15 @@ impl<'p, B: Below + Drop> Parsing<'p, B> {
 
     /// Whether a code point comes next that is emitted as it stands.
     #[inline(always)]
-    fn is_at_text(&self) -> bool {
+    fn is_at_text(&self) -> bool
+        ensures { result ≡ true → IsAtText (stands self.now.lexer self.now.input) }
+    {
         let lex = &self.lexer.lex;
         if lex.machine.after_cr || !lex.ahead.is_empty() {
             return false;
         }
         match self.lexer.asked {
-            Asked::Nothing => match lex.machine.state {
-                State::Data | State::Rcdata | State::Rawtext | State::ScriptData => {
-                    !matches!(self.input.front(), None | Some(0 | b'<' | b'&'))
-                }
-                _ => false,
-            },
+            Asked::Nothing => is_of_text(lex.machine.state) && begins_text(self.input.front()),
             _ => false,
         }
     }
@@ -121,12 +130,17 @@ impl<'p, B: Below + Drop> Parsing<'p, B> {
     fn take_text_below(&mut self, alloc: Global) -> Result<bool, Refusal>
         requires ready { IsReady (stage B.heard self.old) }
         requires may { may_take_text (split_of self.old.view) ≡ true }
+        requires at_text { IsAtText (stands self.old.lexer self.old.input) }
         ensures tried { IfOk result (Tried (stage B.heard self.old) (stage B.heard self.new)) }
         ensures reads { OnOk result (GoesFurther (stage B.heard self.old) (stage B.heard self.new)) }
+        ensures crossed { IfErr result (λ refused. IfCrossed refused (Crosses (stage B.heard self.old) (stage B.heard self.new))) }
     {
+        hp_asked::answers_lead();
+        hp_asked::right_goes_on();
         hp_lexer::steps_fall();
         hp_older::views_over();
         hp_runs::comes_on();
+        hp_runs::comes_to_touch();
         if !self.view.current_is(alloc, Kinds::AnyHtml)? {
             return Ok(false);
         }
@@ -143,12 +157,17 @@ impl<'p, B: Below + Drop> Parsing<'p, B> {
     #[inline(never)]
     fn take_blanks(&mut self, alloc: Global) -> Result<bool, Refusal>
         requires ready { IsReady (stage B.heard self.old) }
+        requires none_skipped { self.old.view.change.skip_lf ≡ false }
         ensures tried { IfOk result (Tried (stage B.heard self.old) (stage B.heard self.new)) }
         ensures reads { OnOk result (GoesFurther (stage B.heard self.old) (stage B.heard self.new)) }
+        ensures crossed { IfErr result (λ refused. IfCrossed refused (Crosses (stage B.heard self.old) (stage B.heard self.new))) }
     {
+        hp_asked::answers_lead();
+        hp_asked::right_goes_on();
         hp_lexer::steps_fall();
         hp_older::views_over();
         hp_runs::comes_on();
+        hp_runs::comes_to_touch();
         match next_blanks(&mut self.lexer, &mut self.input) {
             Some(text) => {
                 let class = CharClass::White;
@@ -175,10 +194,14 @@ impl<'p, B: Below + Drop> Parsing<'p, B> {
         requires ready { IsReady (stage B.heard self.old) }
         ensures tried { IfOk result (Tried (stage B.heard self.old) (stage B.heard self.new)) }
         ensures reads { OnOk result (GoesFurther (stage B.heard self.old) (stage B.heard self.new)) }
+        ensures crossed { IfErr result (λ refused. IfCrossed refused (Crosses (stage B.heard self.old) (stage B.heard self.new))) }
     {
+        hp_asked::answers_lead();
+        hp_asked::right_goes_on();
         hp_lexer::steps_fall();
         hp_older::views_over();
         hp_runs::comes_on();
+        hp_runs::comes_to_touch();
         match self.lexer.next_tag(alloc, &mut self.input) {
             Ok(Some(tag)) => {
                 self.handle_one(alloc, tag)?;
@@ -195,11 +218,15 @@ impl<'p, B: Below + Drop> Parsing<'p, B> {
         requires ready { IsReady (stage B.heard self.old) }
         ensures steps { IfOk result (StepsOn (stage B.heard self.old) (stage B.heard self.new)) }
         ensures reads { IfOk result (WentOn (stage B.heard self.old) (stage B.heard self.new)) }
+        ensures crossed { IfErr result (λ refused. IfCrossed refused (Crosses (stage B.heard self.old) (stage B.heard self.new))) }
     {
+        hp_asked::answers_lead();
+        hp_asked::right_goes_on();
         hp_lexer::steps_fall();
         hp_older::answers_over();
         hp_older::views_over();
         hp_runs::comes_on();
+        hp_runs::comes_to_touch();
         match self.lexer.next(alloc, &mut self.input)? {
             Step::Tokens { tokens, .. } => {
                 self.handle_all(alloc, tokens)?;
@@ -221,7 +248,8 @@ impl<'p, B: Below + Drop> Parsing<'p, B> {
 
     /// Handles the tokens of a step, one behind the other.
     fn handle_all(&mut self, alloc: Global, tokens: Tokens<'p>) -> Result<(), Refusal>
-        ensures { OnOk result (Handled (stage B.heard self.old) (stage B.heard self.new) tokens.entry) }
+        ensures handled { OnOk result (Handled (stage B.heard self.old) (stage B.heard self.new) tokens.entry) }
+        ensures crossed { IfErr result (λ refused. IfCrossed refused (Touched (stage B.heard self.old) (stage B.heard self.new) tokens.entry)) }
     {
         for token in tokens {
             self.handle_one(alloc, token)?;
@@ -232,7 +260,8 @@ impl<'p, B: Below + Drop> Parsing<'p, B> {
     /// Handles a token, and switches the lexer where it calls for that.
     #[inline(always)]
     pub fn handle_one(&mut self, alloc: Global, token: Token<'p>) -> Result<(), Refusal>
-        ensures { OnOk result (Handled (stage B.heard self.old) (stage B.heard self.new) (token.entry ∷ [])) }
+        ensures handled { OnOk result (Handled (stage B.heard self.old) (stage B.heard self.new) (token.entry ∷ [])) }
+        ensures crossed { IfErr result (λ refused. IfCrossed refused (Touched (stage B.heard self.old) (stage B.heard self.new) (token.entry ∷ []))) }
     {
         hp_lexer::steps_fall();
         hp_model::lexer_apart();
@@ -253,7 +282,8 @@ impl<'p, B: Below + Drop> Parsing<'p, B> {
     #[inline(always)]
     fn put_text(&mut self, alloc: Global, text: Text<'p>) -> Result<(), Refusal>
         requires takes { takes_text (split_of self.old.view) ≡ true }
-        ensures { OnOk result (Handled (stage B.heard self.old) (stage B.heard self.new) (as_run text.entry ∷ [])) }
+        ensures handled { OnOk result (Handled (stage B.heard self.old) (stage B.heard self.new) (as_run text.entry ∷ [])) }
+        ensures crossed { IfErr result (λ refused. IfCrossed refused (Touched (stage B.heard self.old) (stage B.heard self.new) (as_run text.entry ∷ []))) }
     {
         hp_model::lexer_apart();
         hp_older::tokens_over();
@@ -268,7 +298,8 @@ impl<'p, B: Below + Drop> Parsing<'p, B> {
     #[inline(always)]
     fn put_text_below(&mut self, alloc: Global, text: Text<'p>) -> Result<(), Refusal>
         requires may { may_take_text (split_of self.old.view) ≡ true }
-        ensures { OnOk result (HandledBelow (stage B.heard self.old) (stage B.heard self.new) text.entry) }
+        ensures handled { OnOk result (HandledBelow (stage B.heard self.old) (stage B.heard self.new) text.entry) }
+        ensures crossed { IfErr result (λ refused. IfCrossed refused (TouchedBelow (stage B.heard self.old) (stage B.heard self.new) text.entry)) }
     {
         hp_model::lexer_apart();
         hp_older::texts_over();

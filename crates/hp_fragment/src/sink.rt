@@ -3,6 +3,7 @@ ghost use Rattle.std.specs.Prelude.{◌≡◌, [], Bool, List, OnOk};
 ghost use Rattle.hp_control.specs.States.{ControlState};
 ghost use Rattle.hp_control.specs.declared.edit.Edit.{Edit as EditOf};
 ghost use Rattle.hp_fragment.specs.Making.{Amounts, HasGrown};
+ghost use Rattle.hp_fragment.specs.declared.sink.Sink.TheVariants.{Keeps};
 
 use crate::NoMemory;
 use hp_arena::Tree;
@@ -22,10 +23,11 @@ pub(crate) enum Sink<'p> {
 }
 
 impl<'p> Sink<'p> {
-    /// Takes the edits that were made, where they are many.
+    /// Takes the edits that were made, where they are many and grow a tree.
     #[inline(always)]
     pub fn take(&mut self, alloc: Global, edits: &mut Edits<'p>) -> Result<(), NoMemory>
-        ensures { OnOk result ((grows : Bool) (s : ControlState) (es : List EditOf) → Amounts grows self.old s edits.old es → Amounts grows self.new s edits.new es) }
+        ensures keeps { OnOk result (self.old ≡ Keeps → (self.new ≡ Keeps) × (edits.new ≡ edits.old)) }
+        ensures amounts { OnOk result ((grows : Bool) (s : ControlState) (es : List EditOf) → Amounts grows self.old s edits.old es → Amounts grows self.new s edits.new es) }
     {
         match self {
             Sink::Keeps => Ok(()),

@@ -1,13 +1,15 @@
 //! The run over a chunk behind a guessed state.
 ghost use Rattle.std.specs.Prelude.{◌≡◌, false, length, take, IfOk, slice_range};
+ghost use Rattle.std.specs.Str.{IsCharBoundary};
 ghost use Rattle.hp_text.specs.Page.{text_of as page_text};
 ghost use Rattle.hp_elements.specs.declared.token.Rest.TheVariants.{Data};
+ghost use Rattle.hp_names.specs.BuiltIn.{built_in};
 ghost use Rattle.hp_tokens.specs.Advancing.{rest_state};
 ghost use Rattle.hp_control.specs.Guessing.{heard_by};
 ghost use Rattle.hp_pieces.specs.Guesses.{IsSound};
 ghost use Rattle.hp_pieces.specs.Texts.{text_of};
 ghost use Rattle.hp_views.specs.View.{split_of};
-ghost use Rattle.hp_fragment.specs.Guessing.{made_of, HasBegun, IsGuessOf, IsSaidBy, IsTried};
+ghost use Rattle.hp_fragment.specs.Guessing.{made_of, CrossesAt, HasBegun, IsGuessBy, IsReached, IsTried};
 
 use crate::NoMemory;
 use crate::leaving::{leave_guess, leave_sink};
@@ -32,16 +34,16 @@ enum Tried<'p> {
     Crossed { at: u64 },
 }
 
-/// What the chunk does to the parser, whatever the state before it, where that answers as the predictor says. It covers the chunk,
-/// or, where a token touches something that stood there before, what comes before that token's group; nothing where the predictor
-/// says that the chunk begins within a token.
+/// What the chunk does to the parser, whatever the state before it, where that answers as the predictor says. Where it does so to all
+/// that the run over the chunk asks of it, all is covered that can be: the chunk, or, where a token touches something that stood there
+/// before, what comes before that token's group; nothing where the chunk begins within a token.
 pub fn speculate<'p, P: Predictor + Copy + Drop>(
     alloc: Global,
     chunk: Chunk<'p>,
     predictor: P,
 ) -> Result<Fragment<'p>, NoMemory>
     ensures text { IfOk result (λ fragment. text_of fragment ≡ slice_range (page_text chunk.entry.page) chunk.entry.from chunk.entry.to) }
-    ensures said { IfOk result (IsSaidBy (P.says predictor)) }
+    ensures guess { IfOk result (IsGuessBy (P.says predictor)) }
 {
     let text = &chunk.page.as_str()[chunk.from as usize..chunk.to as usize];
     let guessed = guess(alloc, text, predictor)?;
@@ -54,7 +56,7 @@ fn guess<'p, P: Predictor + Copy + Drop>(
     text: &'p str,
     predictor: P,
 ) -> Result<Guessed<'p>, NoMemory>
-    ensures { IfOk result (IsGuessOf (P.says predictor) text.now) }
+    ensures { IfOk result (IsReached (P.says predictor) text.now text.now) }
 {
     match try_front(alloc, text, text, predictor)? {
         Tried::Reached(guessed) => Ok(guessed),
@@ -62,15 +64,19 @@ fn guess<'p, P: Predictor + Copy + Drop>(
     }
 }
 
-/// What the text before that place does, or, where that can't be found out, nothing.
+/// What the text before that place does, where a token that touches something older began there. Where that isn't found out, it is
+/// nothing, and what the predictor says isn't right.
 fn guess_before<'p, P: Predictor + Copy + Drop>(
     alloc: Global,
     text: &'p str,
     at: u64,
     predictor: P,
 ) -> Result<Guessed<'p>, NoMemory>
-    ensures { IfOk result (IsGuessOf (P.says predictor) text.now) }
+    requires crosses { CrossesAt built_in (P.says predictor) text.now at }
+    ensures { IfOk result (IsReached (P.says predictor) text.now text.now) }
 {
+    hp_asked::answers_are_right();
+    hp_pieces::firsts();
     let front = front_of(text, at);
     match try_front(alloc, text, front, predictor)? {
         Tried::Reached(guessed) => Ok(guessed),
@@ -83,7 +89,8 @@ fn guess_before<'p, P: Predictor + Copy + Drop>(
 
 /// The text before that place; nothing where a code point doesn't begin there.
 fn front_of(text: &str, at: u64) -> &str
-    ensures { result.now ≡ take (length result.now) text.now }
+    ensures front { result.now ≡ take (length result.now) text.now }
+    ensures long { IsCharBoundary text.now at → length result.now ≡ at }
 {
     match text.get(..at as usize) {
         Some(front) => front,
@@ -99,8 +106,10 @@ fn try_front<'p, P: Predictor + Copy + Drop>(
     predictor: P,
 ) -> Result<Tried<'p>, NoMemory>
     requires front { front.now ≡ take (length front.now) text.now }
-    ensures { IfOk result (IsTried (P.says predictor) text.now) }
+    ensures { IfOk result (IsTried (P.says predictor) text.now front.now) }
 {
+    hp_asked::answers_are_right();
+    hp_control::laws::answers_tell();
     let (view, told) = View::guessed(alloc, Guess::new(predictor))?;
     match told {
         Answer::Resting { rest, after_cr, .. } => {
@@ -121,10 +130,12 @@ fn read_front<'p, P: Predictor + Drop>(
 ) -> Result<Tried<'p>, NoMemory>
     requires front { front.now ≡ take (length front.now) text.now }
     requires begun { HasBegun lexer (heard_by P.says view.below) (split_of view) }
-    ensures { IfOk result (IsTried (P.says view.entry.below.predictor) text.now) }
+    ensures { IfOk result (IsTried (P.says view.entry.below.predictor) text.now front.now) }
 {
+    hp_asked::answers_are_right();
     hp_control::laws::answers_tell();
     hp_older::view_begins();
+    hp_pieces::firsts();
     hp_runs::comes_on();
     let mut parsing = Parsing {
         lexer,

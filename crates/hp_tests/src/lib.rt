@@ -1,5 +1,5 @@
 //! Tests of the crates from outside: short texts, whole and cut at each place, against an independent lexer; guesses of open elements; the
-//! steps of tree construction on views; whole pages, and pages that are read in two parts from known states; large trees that edits make,
+//! steps of tree construction on views; whole pages, and pages that are read in two parts from known states, and how much of the second a right guess covers; large trees that edits make,
 //! printed.
 #![tactic(auto)]
 
@@ -7,6 +7,8 @@
 mod carrying;
 #[cfg(test)]
 mod cases;
+#[cfg(test)]
+mod covering;
 #[cfg(test)]
 mod growing;
 #[cfg(test)]

@@ -18,7 +18,7 @@ loop-token-preserved c = (
   tt,
   tt,
   going-on (stage_of c.args.self.now) (stage_of c.loop-token.self) (stage_of c.handle_one.new.self) c.args.tokens c.loop-token.token-iterator c.next.new.self c.in-Some.token
-      c.loop-token.invariant.2 (search rules) (subst (λ (t : Token). Handled (stage_of c.loop-token.self) (stage_of c.handle_one.new.self) (t ∷ [])) c.in_ok-own.ensures c.in_ok-handle_one.ensures),
+      c.loop-token.invariant.2 (search rules) (subst (λ (t : Token). Handled (stage_of c.loop-token.self) (stage_of c.handle_one.new.self) (t ∷ [])) c.in_ok-own.ensures c.in_ok-handle_one.ensures.handled),
 )
 
 pub returns : goal.returns

@@ -1,5 +1,6 @@
 use Rattle.std.proofs.Common.{rules}
-use Rattle.hp_fragment.proofs.Further.{further-then, none-further}
+use Rattle.hp_fragment.proofs.Further.{cross-behind, further-then, none-further}
+use Rattle.hp_fragment.proofs.Refusing.{refused-so}
 use Rattle.hp_fragment.proofs.Turning.{none-went, one-went, tried-made}
 use Rattle.hp_fragment.specs.Reading.{stage}
 use Rattle.hp_fragment.proofs.parsing.Parsing.read_straight.Goals as goal
@@ -27,3 +28,8 @@ steps-preserved g c = (
 pub steps-smaller : goal.steps-smaller
 steps-smaller g c =
     (tried-made (stage g.B.Below.heard c.steps.self) (stage g.B.Below.heard c.step_straight.new.self) c.in_ok-step_straight.field-0 (search rules) c.in_ok-step_straight.ensures.tried).1
+
+pub returns-in_err-step_straight-clause-crossed : goal.returns-in_err-step_straight-clause-crossed
+returns-in_err-step_straight-clause-crossed g c =
+    refused-so c.from_residual.result c.in_err-step_straight.field-0.0 c.from_residual.ensures.1 c.in_err-step_straight.ensures.crossed
+    (cross-behind (stage g.B.Below.heard c.args.self.now) (stage g.B.Below.heard c.steps.self) (stage g.B.Below.heard c.step_straight.new.self) c.steps.invariant.1)

@@ -1,7 +1,10 @@
 use Rattle.std.proofs.Common.{[], ◌∷◌, None, Some, ap, ◌∙◌}
 use Rattle.std.specs.Prelude.{◌-◌, ◌^◌}
 use Rattle.hp_lexer.specs.Standing.{is_answered}
-use Rattle.hp_fragment.proofs.Stepping.{lexed, silent-further, tag-further}
+use Rattle.hp_fragment.proofs.Crossing.{tag-crosses}
+use Rattle.hp_fragment.proofs.Leading.{lexed}
+use Rattle.hp_fragment.proofs.Refusing.{refused-so}
+use Rattle.hp_fragment.proofs.Stepping.{silent-further, tag-further}
 use Rattle.hp_fragment.proofs.Taking.{found-tag}
 use Rattle.hp_fragment.proofs.Turning.{step-smaller}
 use Rattle.hp_fragment.specs.Reading.{stage}
@@ -11,14 +14,14 @@ pub returns-in_ok-handle_one-in-Ok-Some-clause-tried : goal.returns-in_ok-handle
 returns-in_ok-handle_one-in-Ok-Some-clause-tried g c =
     let s = found-tag c.args.self.now.lexer c.args.self.now.input c.next_tag.new.self c.next_tag.new.input c.in-Ok-Some.field-0 (Some c.in-Ok-Some.tag) c.in-Ok-Some.field-0-is c.in-Ok-Some.ensures.tag in
     step-smaller c.steps_fall.ensures.steps (stage g.B.Below.heard c.args.self.now) (lexed (stage g.B.Below.heard c.args.self.now) c.next_tag.new.self c.next_tag.new.input) (stage g.B.Below.heard c.handle_one.new.self)
-    (c.in-Ok-Some.tag ∷ []) (c.next_tag.new.self.rested - 2 ^ 32) c.requires.ready s.0 c.in-Ok-Some.ensures.held c.in-Ok-Some.ensures.names c.in_ok-handle_one-in-Ok-Some.ensures.input c.in_ok-handle_one-in-Ok-Some.ensures.turned
+    (c.in-Ok-Some.tag ∷ []) (c.next_tag.new.self.rested - 2 ^ 32) c.requires.ready s.0 c.in-Ok-Some.ensures.held c.in-Ok-Some.ensures.names c.in_ok-handle_one-in-Ok-Some.ensures.handled.input c.in_ok-handle_one-in-Ok-Some.ensures.handled.turned
 
 pub returns-in_ok-handle_one-in-Ok-Some-clause-reads : goal.returns-in_ok-handle_one-in-Ok-Some-clause-reads
 returns-in_ok-handle_one-in-Ok-Some-clause-reads g c =
-    tag-further c.views_over.ensures.valid c.comes_on.ensures.tag c.comes_on.ensures.read (stage g.B.Below.heard c.args.self.now) (stage g.B.Below.heard c.handle_one.new.self) c.next_tag.new.self c.next_tag.new.input c.in-Ok-Some.tag
+    tag-further c.views_over.ensures.valid c.comes_on.ensures.tag c.comes_on.ensures.read c.right_goes_on.ensures.tokens c.answers_lead.ensures.tag (stage g.B.Below.heard c.args.self.now) (stage g.B.Below.heard c.handle_one.new.self) c.next_tag.new.self c.next_tag.new.input c.in-Ok-Some.tag
     c.requires.ready
     (found-tag c.args.self.now.lexer c.args.self.now.input c.next_tag.new.self c.next_tag.new.input c.in-Ok-Some.field-0 (Some c.in-Ok-Some.tag) c.in-Ok-Some.field-0-is c.in-Ok-Some.ensures.tag)
-    c.in_ok-handle_one-in-Ok-Some.ensures
+    c.in_ok-handle_one-in-Ok-Some.ensures.handled
 
 pub returns-in-Ok-None-clause-tried : goal.returns-in-Ok-None-clause-tried
 returns-in-Ok-None-clause-tried g c = record {
@@ -33,5 +36,12 @@ returns-in-Ok-None-clause-tried g c = record {
 
 pub returns-in-Ok-None-clause-reads : goal.returns-in-Ok-None-clause-reads
 returns-in-Ok-None-clause-reads g c =
-    silent-further c.comes_on.ensures.silence (stage g.B.Below.heard c.args.self.now) c.next_tag.new.self c.next_tag.new.input c.requires.ready
+    silent-further c.comes_on.ensures.silence c.right_goes_on.ensures.silence c.answers_lead.ensures.silence (stage g.B.Below.heard c.args.self.now) c.next_tag.new.self c.next_tag.new.input c.requires.ready
     (found-tag c.args.self.now.lexer c.args.self.now.input c.next_tag.new.self c.next_tag.new.input c.in-Ok-None.field-0 None c.in-Ok-None.field-0-is c.in-Ok-None.ensures.tag)
+
+pub returns-in_err-handle_one-in-Ok-Some-clause-crossed : goal.returns-in_err-handle_one-in-Ok-Some-clause-crossed
+returns-in_err-handle_one-in-Ok-Some-clause-crossed g c =
+    refused-so c.from_residual.result c.in_err-handle_one-in-Ok-Some.field-0.0 c.from_residual.ensures.1 c.in_err-handle_one-in-Ok-Some.ensures.crossed
+    (tag-crosses c.views_over.ensures.valid c.comes_to_touch.ensures.tag c.comes_on.ensures.read c.right_goes_on.ensures.tokens c.answers_lead.ensures.tag (stage g.B.Below.heard c.args.self.now) (stage g.B.Below.heard c.handle_one.new.self)
+    c.next_tag.new.self c.next_tag.new.input c.in-Ok-Some.tag c.requires.ready
+    (found-tag c.args.self.now.lexer c.args.self.now.input c.next_tag.new.self c.next_tag.new.input c.in-Ok-Some.field-0 (Some c.in-Ok-Some.tag) c.in-Ok-Some.field-0-is c.in-Ok-Some.ensures.tag))
