@@ -1,4 +1,7 @@
 //! Pages chunk by chunk: their printed trees, whatever is guessed, and what becomes of the guesses.
+ghost use Rattle.std.specs.Prelude.{◌≤◌, ◌^◌, length};
+ghost use Rattle.hp_text.specs.Page.{text_of as page_text};
+ghost use Rattle.hp_cut.specs.Places.{IsOf};
 
 use crate::guessing::guess;
 use crate::{Joined, join_chunk, parse_in_order};
@@ -6,6 +9,7 @@ use hp_control::Control;
 use hp_cut::{Cuts, cuts_at_tags, cuts_listed};
 use hp_fragment::replay;
 use hp_merge::Front;
+use hp_pieces::pages_at;
 use hp_predict::GuessKind;
 use hp_print::print_tree;
 use hp_text::{Page, check_page};
@@ -142,20 +146,30 @@ const TREE: &str =
 
 const KINDS: [GuessKind; 3] = [GuessKind::Quiet, GuessKind::Prescan, GuessKind::Contrary];
 
-fn page_of<'p>(rt: &impl Abort, text: &'p str) -> Page<'p> {
-    check_page(text.as_bytes()).expect(rt, "the page is UTF-8")
+/// The page of a short text.
+fn page_of<'p>(rt: &impl Abort, text: &'p str) -> Page<'p>
+    ensures { length (page_text result) ≤ 2 ^ 24 }
+{
+    let page = check_page(text.as_bytes()).expect(rt, "the page is UTF-8");
+    assert!(rt; page.text().len() <= 1 << 24);
+    page
 }
 
 /// The cuts of a page into two parts.
-fn in_two(rt: &impl Abort, alloc: Global, page: Page<'_>, place: u64) -> Cuts {
+fn in_two(rt: &impl Abort, alloc: Global, page: Page<'_>, place: u64) -> Cuts
+    ensures { IsOf (page_text page.entry) result }
+{
     match cuts_listed(alloc, page, &[place]) {
         Ok(cuts) => cuts,
         Err(_) => panic!(rt; "the place cuts the page"),
     }
 }
 
-/// The page of this text, so cut, has the tree that is printed so, whatever is guessed. What is owned is kept to the test's end.
-fn assert_trees(rt: &impl Abort, alloc: Global, page: Page<'_>, cuts: &Cuts, wanted: &str) {
+/// The page, so cut, has the tree that is printed so, whatever is guessed. What is owned is kept to the test's end.
+fn assert_trees(rt: &impl Abort, alloc: Global, page: Page<'_>, cuts: &Cuts, wanted: &str)
+    requires limit { length (page_text page) ≤ 2 ^ 24 }
+    requires cuts_of_page { IsOf (page_text page) cuts.now }
+{
     for kind in KINDS {
         let tree = parse_in_order(alloc, page, cuts, kind).expect(rt, "there is memory");
         let printed = print_tree(alloc, &tree).expect(rt, "there is memory");
@@ -180,15 +194,19 @@ fn trees_are_the_same_whatever_is_guessed(rt: HostRuntime) {
     mem::forget(cuts);
 }
 
-/// What becomes of the second of two parts.
+/// What becomes of what is guessed of the second of two parts.
 fn second_part(
     rt: &impl Abort,
     alloc: Global,
     page: Page<'_>,
     place: u64,
     kind: GuessKind,
-) -> Joined {
+) -> Joined
+    requires { length (page_text page) ≤ 2 ^ 24 }
+{
+    pages_at();
     let cuts = in_two(rt, alloc, page, place);
+    assert!(rt; cuts.chunks() == 2);
     let (first, second) = (cuts.chunk(page, 0), cuts.chunk(page, 1));
     let mut front = Front::start(alloc).expect(rt, "there is memory");
     let exact = replay(alloc, first, Control::start()).expect(rt, "there is memory");
