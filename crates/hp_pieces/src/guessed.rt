@@ -53,6 +53,7 @@ impl<'p> Guessed<'p> {
     /// The text, in bytes.
     pub fn text(&self) -> &'p [u8]
         ensures text { result.now ≡ self.now.text }
+        ensures names { self.now.names ≡ built_in }
         ensures sound { IsSound self.now }
     {
         self.text

@@ -1,2 +1,3 @@
+mod Between
 mod Holding
 mod Placing

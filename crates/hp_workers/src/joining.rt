@@ -105,7 +105,11 @@ fn place_behind(chunk: &Chunk<'_>, fragment: &Fragment<'_>) -> u64
 }
 
 /// Replays a chunk, or what is left of one, behind the front, and joins it.
-fn replay_rest<'p>(alloc: Global, front: &mut Front<'p>, rest: Chunk<'p>) -> Result<(), NoMemory>
+pub(crate) fn replay_rest<'p>(
+    alloc: Global,
+    front: &mut Front<'p>,
+    rest: Chunk<'p>,
+) -> Result<(), NoMemory>
     requires limit { length (page_text rest.page) ≤ 2 ^ 24 }
     requires at { StandsAt (page_text rest.page) rest.from front.old }
     ensures at { OnOk result (StandsAt (page_text rest.entry.page) rest.entry.to front.new) }

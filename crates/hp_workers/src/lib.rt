@@ -1,13 +1,15 @@
-//! A page chunk by chunk: each chunk behind a guess, joined to what stands before it.
+//! A page chunk by chunk: each chunk behind a guess, on one thread or on several, joined to what stands before it.
 #![tactic(auto)]
 
 mod guessing;
 mod joining;
 mod leaving;
 mod order;
+mod page;
 #[cfg(test)]
 mod tests;
 
 pub use hp_text::NoMemory;
 pub use joining::{Joined, join_chunk};
 pub use order::parse_in_order;
+pub use page::parse_page;

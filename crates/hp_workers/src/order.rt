@@ -83,7 +83,11 @@ fn join_next<'p>(
 }
 
 /// A fragment of a chunk: the first one begins where the page does, and the others are guessed.
-fn first_try<'p>(alloc: Global, chunk: Chunk<'p>, kind: GuessKind) -> Result<Fragment<'p>, NoMemory>
+pub(crate) fn first_try<'p>(
+    alloc: Global,
+    chunk: Chunk<'p>,
+    kind: GuessKind,
+) -> Result<Fragment<'p>, NoMemory>
     ensures { IfOk result (λ fragment. text_of fragment ≡ slice_range (page_text chunk.entry.page) chunk.entry.from chunk.entry.to) }
 {
     if chunk.number == 0 {
@@ -94,7 +98,11 @@ fn first_try<'p>(alloc: Global, chunk: Chunk<'p>, kind: GuessKind) -> Result<Fra
 }
 
 /// The tree of a page, of which the front stands behind the whole text.
-fn end_page<'p>(alloc: Global, front: Front<'p>, page: Page<'p>) -> Result<Tree<'p>, NoMemory>
+pub(crate) fn end_page<'p>(
+    alloc: Global,
+    front: Front<'p>,
+    page: Page<'p>,
+) -> Result<Tree<'p>, NoMemory>
     requires { StandsAt (page_text page) (length (page_text page)) front }
     ensures { IfOk result (λ tree. IsTreeOf built_in (chars (page_text page.entry)) tree.branches) }
 {
