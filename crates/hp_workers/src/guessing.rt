@@ -5,7 +5,7 @@ ghost use Rattle.hp_control.specs.Truth.{answer_of};
 ghost use Rattle.hp_pieces.specs.Texts.{text_of};
 ghost use Rattle.hp_predict.specs.Kinds.{says_of};
 ghost use Rattle.hp_predict.specs.declared.quiet.GuessKind.TheVariants as kinds;
-ghost use Rattle.hp_fragment.specs.Guessing.{IsSaidBy};
+ghost use Rattle.hp_fragment.specs.Guessing.{IsGuessBy};
 
 use crate::NoMemory;
 use crate::leaving::leave_prescan;
@@ -23,7 +23,7 @@ pub(crate) fn guess<'p>(
     kind: GuessKind,
 ) -> Result<Fragment<'p>, NoMemory>
     ensures text { IfOk result (λ fragment. text_of fragment ≡ slice_range (page_text chunk.entry.page) chunk.entry.from chunk.entry.to) }
-    ensures said { IfOk result (IsSaidBy (says_of kind (take chunk.entry.from (page_text chunk.entry.page)) (slice_range (page_text chunk.entry.page) chunk.entry.from chunk.entry.to))) }
+    ensures guess { IfOk result (IsGuessBy (says_of kind (take chunk.entry.from (page_text chunk.entry.page)) (slice_range (page_text chunk.entry.page) chunk.entry.from chunk.entry.to))) }
 {
     match kind {
         GuessKind::Quiet => speculate(alloc, chunk, Quiet),
@@ -49,7 +49,7 @@ impl<'a> Predictor for Lent<'a> {
 /// The chunk behind the state that its tags and those before it tell.
 fn guess_by_prescan<'p>(alloc: Global, chunk: Chunk<'p>) -> Result<Fragment<'p>, NoMemory>
     ensures text { IfOk result (λ fragment. text_of fragment ≡ slice_range (page_text chunk.entry.page) chunk.entry.from chunk.entry.to) }
-    ensures said { IfOk result (IsSaidBy (says_of kinds.Prescan (take chunk.entry.from (page_text chunk.entry.page)) (slice_range (page_text chunk.entry.page) chunk.entry.from chunk.entry.to))) }
+    ensures guess { IfOk result (IsGuessBy (says_of kinds.Prescan (take chunk.entry.from (page_text chunk.entry.page)) (slice_range (page_text chunk.entry.page) chunk.entry.from chunk.entry.to))) }
 {
     let prescan = Prescan::new(alloc, &chunk)?;
     let fragment = speculate(alloc, chunk, Lent { prescan: &prescan });
