@@ -58,12 +58,17 @@ const COVERED: &[Covered] = &[
 fn right_guesses_cover_what_can_be_covered(rt: HostRuntime) {
     let alloc = rt.alloc();
     for (page, cut, covered) in COVERED {
-        assert!(rt; covered_behind(&rt, alloc, page, *cut) == *covered, "over {page}");
+        assert!(rt;
+            covered_behind(&rt, alloc, page, *cut) == *covered,
+            "over {page}"
+        );
     }
 }
 
 const DEPTH: usize = 40;
+
 const OPENS: &str = "<table><tr><td>";
+
 const CLOSES: &str = "</td></tr></table>";
 
 /// Tables within tables, which the second part closes one by one.

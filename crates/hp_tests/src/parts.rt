@@ -35,7 +35,12 @@ fn made(edits: &Edits<'_>) -> u32 {
 }
 
 /// The state behind the part, and how many elements it makes. What is owned is kept to the end of the test.
-pub(crate) fn run_part(rt: &impl Abort, alloc: Global, chunk: Chunk<'_>, from: Control) -> (Control, u32) {
+pub(crate) fn run_part(
+    rt: &impl Abort,
+    alloc: Global,
+    chunk: Chunk<'_>,
+    from: Control,
+) -> (Control, u32) {
     let Fragment::Exact(exact) = replay(alloc, chunk, from).expect(rt, "there is memory") else {
         panic!(rt; "a replay is exact");
     };
