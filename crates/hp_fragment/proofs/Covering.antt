@@ -47,7 +47,8 @@ use Rattle.hp_runs.specs.Touching.{RunsOwn, TouchesFrom}
 use Rattle.hp_views.specs.BeginLaws.{IsResting}
 use Rattle.hp_views.specs.Begins.{Begins, begins}
 use Rattle.hp_fragment.proofs.Guesses.{begins-over, heard-first, ok-same, pairs, some-same, way_over}
-use Rattle.hp_fragment.specs.Guessing.{CrossesAt, HasBegun, IsReached, ReachesIn}
+use Rattle.hp_pieces.specs.Reaching.{ReachesIn}
+use Rattle.hp_fragment.specs.Guessing.{CrossesAt, HasBegun, IsReached}
 use Rattle.hp_fragment.specs.Reading.{AreRight, Crosses, GoesToEnd, HasRead, HasReadAll, IfCrossed, Stage, control_at}
 use Rattle.hp_fragment.specs.declared.sink.Sink.TheVariants.{Keeps}
 

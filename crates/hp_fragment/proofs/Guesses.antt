@@ -48,7 +48,8 @@ use Rattle.hp_runs.specs.Filled.{filled}
 use Rattle.hp_views.specs.Begins.{Begins, begins, ended}
 use Rattle.hp_fragment.proofs.Asking.{noted-then}
 use Rattle.hp_fragment.proofs.Ended.{some-is}
-use Rattle.hp_fragment.specs.Guessing.{HasBegun, IsGuessOf, IsSaid}
+use Rattle.hp_pieces.specs.Reaching.{IsSaid}
+use Rattle.hp_fragment.specs.Guessing.{HasBegun, IsGuessOf}
 use Rattle.hp_fragment.specs.Making.{Amounts}
 use Rattle.hp_fragment.specs.Reading.{GoesToEnd, HasRead, HasReadAll, IsReady, Stage, Way, control_at}
 use Rattle.hp_fragment.specs.declared.sink.Sink.{Sink}
@@ -216,7 +217,7 @@ front-within text front is = omega (arith, ap length is, length-take (length fro
 
 -- what is kept of these questions is what is said
 pairs-are-said : (says : Question → Answer) (text : List ℕ) (covered : ℕ) (qs : List Question) (kept : List Kept) (change : Change) (edits : List Edit) → kept ≡ added_each [] (kept_pairs says (ask.Entry ∷ qs))
-    → IsSaid says (record { names = built_in; text = text; covered = covered; assumptions = kept; change = change; edits = edits })
+    → IsSaid says (record { names = built_in; text = text; covered = covered; assumptions = kept; change = change; edits = edits; by = None })
 pairs-are-said says text covered qs kept change edits is =
     let entry : Kept = record { question = ask.Entry; answer = says ask.Entry } in
     let first = first-stays entry [] (kept_pairs says qs) in record {
@@ -235,7 +236,7 @@ module _ {P : Type 0} (says : P → Question → Answer) (predictor : P) (guess 
   says-stay = ap (λ (h : Heard). h.says) heard-first
 
   -- where nothing is read
-  pub nothing-guessed : (text : List ℕ) (change : Change) (edits : List Edit) → IsGuessOf (says predictor) text (record { names = built_in; text = text; covered = 0; assumptions = below.kept; change = change; edits = edits })
+  pub nothing-guessed : (text : List ℕ) (change : Change) (edits : List Edit) → IsGuessOf (says predictor) text (record { names = built_in; text = text; covered = 0; assumptions = below.kept; change = change; edits = edits; by = None })
   nothing-guessed text change edits = record {
     names = refl;
     whole = refl;
@@ -262,7 +263,7 @@ begun-front {P} says predictor guess below v rest after_cr m original skip_lf l 
     first : heard_by says below ≡ first_asked (says predictor)
     first = heard-first says predictor guess below v (answer.Resting rest after_cr m original skip_lf) new b
 
-pub nothing-sound : (text : List ℕ) (kept : List Kept) (change : Change) (edits : List Edit) → IsUtf8 text → IsSound (record { names = built_in; text = text; covered = 0; assumptions = kept; change = change; edits = edits })
+pub nothing-sound : (text : List ℕ) (kept : List Kept) (change : Change) (edits : List Edit) → IsUtf8 text → IsSound (record { names = built_in; text = text; covered = 0; assumptions = kept; change = change; edits = edits; by = None })
 nothing-sound text kept change edits utf8 = record {
   utf8 = utf8;
   within = omega arith;
@@ -289,7 +290,7 @@ module _ (old new : Stage) (b : HasBegun old.lexer old.heard old.split) (g : Goe
       all : new.heard ≡ noting (none_heard old.heard.says) (ask.Entry ∷ g.asked)
       all = noted-then (none_heard old.heard.says) old.heard new.heard (ask.Entry ∷ []) g.asked first g.noted
 
-  pub covered-said : (text : List ℕ) (covered : ℕ) (change : Change) (edits : List Edit) → IsGuessOf old.heard.says text (record { names = built_in; text = text; covered = covered; assumptions = kept; change = change; edits = edits })
+  pub covered-said : (text : List ℕ) (covered : ℕ) (change : Change) (edits : List Edit) → IsGuessOf old.heard.says text (record { names = built_in; text = text; covered = covered; assumptions = kept; change = change; edits = edits; by = None })
   covered-said text covered change edits = record { names = refl; whole = refl; said = pairs-are-said old.heard.says text covered g.asked kept change edits pairs }
 
   leads-over : TextBegins → ViewsBegin → KeptOnceWhereTrue → (s : ControlState) (text : List ℕ) → IsValid s → Fits s → old.input ≡ text_at (2 ^ 32) text → old.sink ≡ Keeps → Holds kept s
@@ -305,7 +306,7 @@ module _ (old new : Stage) (b : HasBegun old.lexer old.heard old.split) (g : Goe
 
   -- so what is made is sound
   pub covered-sound : TextBegins → ViewsBegin → KeptOnceWhereTrue → (text front : List ℕ) → IsUtf8 text → IsUtf8 front → front ≡ take (length front) text → old.input ≡ text_at (2 ^ 32) (chars front) → old.sink ≡ Keeps
-      → IsSound (record { names = built_in; text = text; covered = length front; assumptions = kept; change = ended new.lexer.lex (is_some new.lexer.lex.machine.last_tag) new.split.change; edits = new.split.edits })
+      → IsSound (record { names = built_in; text = text; covered = length front; assumptions = kept; change = ended new.lexer.lex (is_some new.lexer.lex.machine.last_tag) new.split.change; edits = new.split.edits; by = None })
   covered-sound law views once text front utf8 own is_front input sink = record {
     utf8 = utf8;
     within = front-within text front is_front;

@@ -1,5 +1,5 @@
 -- What is made of a text behind a guess (13.2).
-use Rattle.std.specs.Prelude.{◌≡◌, ℕ, ◌<◌, ◌^◌, Bool, List, [], ◌∷◌, All, length, Option, Some}
+use Rattle.std.specs.Prelude.{◌≡◌, ℕ, ◌<◌, ◌^◌, Bool, List, [], ◌∷◌, length, Option, None, Some}
 use Rattle.std.specs.Option.{is_some}
 use Rattle.std.specs.Str.{chars}
 use Rattle.hp_elements.specs.declared.token.Mode.{Mode}
@@ -10,7 +10,6 @@ use Rattle.hp_tokens.specs.Advancing.{rest_state}
 use Rattle.hp_tokens.specs.declared.lexing.LexState.{LexState}
 use Rattle.hp_control.specs.Faithful.{Split}
 use Rattle.hp_control.specs.Guessing.{Guessing}
-use Rattle.hp_control.specs.Holds.{Holds}
 use Rattle.hp_control.specs.Plan.{Heard}
 use Rattle.hp_control.specs.States.{ControlState}
 use Rattle.hp_control.specs.declared.question.Answer.{Answer}
@@ -25,7 +24,9 @@ use Rattle.hp_views.specs.declared.view.View.{View}
 use Rattle.hp_asked.specs.Right.{IsRight}
 use Rattle.hp_pieces.specs.First.{IsFirst}
 use Rattle.hp_pieces.specs.Guesses.{Guessed as GuessedOf}
+use Rattle.hp_pieces.specs.Reaching.{IsSaid, ReachesFirst, ReachesIn}
 use Rattle.hp_pieces.specs.Waiting.{MayStand}
+use Rattle.hp_pieces.specs.declared.by.By.{By}
 use Rattle.hp_pieces.specs.declared.fragment.Fragment.{Fragment}
 use Rattle.hp_pieces.specs.declared.fragment.Fragment.TheVariants.{Exact, Guessed}
 use Rattle.hp_fragment.specs.declared.speculating.Tried.{Tried}
@@ -52,27 +53,13 @@ made_of text covered lex view = record {
   assumptions = view.below.kept;
   change = ended lex (is_some lex.machine.last_tag) view.change;
   edits = view.edits;
+  by = None;
 }
-
--- what is assumed is what is said, and first what is said of where the text begins
-pub record IsSaid (says : Question → Answer) (f : GuessedOf) : Type 0 where
-  pub more : List Kept
-  pub first : f.assumptions ≡ record { question = ask.Entry; answer = says ask.Entry } ∷ more
-  pub said : All (λ k. k.answer ≡ says k.question) f.assumptions
 
 pub record IsGuessOf (says : Question → Answer) (text : List ℕ) (f : GuessedOf) : Type 0 where
   pub names : f.names ≡ built_in
   pub whole : f.text ≡ text
   pub said : IsSaid says f
-
--- over each state for which the answers are right on that front of the text, what is assumed is true, and of the front all is covered that can be
-abbrev pub ReachesIn : List ℕ → (Question → Answer) → GuessedOf → Type 0
-ReachesIn front says f =
-    (s : ControlState) → MayStand f.names s → IsRight says f.names s (chars front) → Holds f.assumptions s × IsFirst f.names s (chars front) f.covered
-
--- the same on the whole text
-abbrev pub ReachesFirst : (Question → Answer) → GuessedOf → Type 0
-ReachesFirst says f = ReachesIn f.text says f
 
 -- over each such state a token touches something older, and the first that does began at that place within the front
 abbrev pub CrossesAt : List Reference → (Question → Answer) → List ℕ → ℕ → Type 0
@@ -91,3 +78,8 @@ IsTried says text front (Crossed at) = CrossesAt built_in says front at
 abbrev pub IsGuessBy : (Question → Answer) → Fragment → Type 0
 IsGuessBy says (Guessed f) = IsSaid says f × ReachesFirst says f
 IsGuessBy says (Exact known) = ⊥
+
+-- it is a guess by such a predictor before this chunk
+abbrev pub IsGuessedBy : By → Fragment → Type 0
+IsGuessedBy by (Guessed f) = f.by ≡ Some by
+IsGuessedBy by (Exact known) = ⊥

@@ -5,6 +5,7 @@ use crate::parsing::Parsing;
 use crate::sink::Sink;
 use hp_control::{Change, Control, Edits, Guess, Nothing, Predictor};
 use hp_lexer::Lexer;
+use hp_predict::Prescan;
 use hp_tokens::LexState;
 use hp_views::View;
 
@@ -61,4 +62,9 @@ pub(crate) fn into_edits<'p>(view: View<'p, Nothing>) -> Edits<'p>
     let Change { lex, .. } = change;
     leave_lex(lex);
     edits
+}
+
+/// Gives back a guessed state.
+pub(crate) fn leave_prescan(prescan: Prescan) {
+    let _ = prescan;
 }

@@ -4,6 +4,7 @@
 mod at_end;
 mod at_text;
 mod blanks;
+mod by_kind;
 mod known;
 mod laws;
 mod leaving;
@@ -16,6 +17,7 @@ mod told;
 mod whole;
 
 pub use at_end::ending;
+pub use by_kind::speculate_by;
 pub use hp_elements::NoMemory;
 pub use replaying::replay;
 pub use speculating::speculate;

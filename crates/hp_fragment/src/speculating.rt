@@ -45,13 +45,19 @@ pub fn speculate<'p, P: Predictor + Copy + Drop>(
     ensures text { IfOk result (λ fragment. text_of fragment ≡ slice_range (page_text chunk.entry.page) chunk.entry.from chunk.entry.to) }
     ensures guess { IfOk result (IsGuessBy (P.says predictor)) }
 {
-    let text = &chunk.page.as_str()[chunk.from as usize..chunk.to as usize];
-    let guessed = guess(alloc, text, predictor)?;
+    let guessed = guess(alloc, text_in(chunk), predictor)?;
     Ok(Fragment::Guessed(guessed))
 }
 
+/// The text of a chunk.
+pub(crate) fn text_in<'p>(chunk: Chunk<'p>) -> &'p str
+    ensures { result.now ≡ slice_range (page_text chunk.entry.page) chunk.entry.from chunk.entry.to }
+{
+    &chunk.page.as_str()[chunk.from as usize..chunk.to as usize]
+}
+
 /// The same of a text.
-fn guess<'p, P: Predictor + Copy + Drop>(
+pub(crate) fn guess<'p, P: Predictor + Copy + Drop>(
     alloc: Global,
     text: &'p str,
     predictor: P,

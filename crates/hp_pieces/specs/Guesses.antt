@@ -1,5 +1,5 @@
 -- What callers see of a fragment over an older state that isn't known, and what the type keeps.
-use Rattle.std.specs.Prelude.{ℕ, ◌<◌, ◌≤◌, ◌==◌, if◌then◌else◌, List, [], length, map, take, IsUtf8}
+use Rattle.std.specs.Prelude.{ℕ, ◌<◌, ◌≤◌, ◌==◌, if◌then◌else◌, List, [], Option, length, map, take, IsUtf8}
 use Rattle.std.specs.Str.{chars, IsCharBoundary}
 use Rattle.hp_names.specs.References.{Reference}
 use Rattle.hp_control.specs.declared.change.Change.{Change}
@@ -9,9 +9,10 @@ use Rattle.hp_control.specs.Apply.{applied, named_edit}
 use Rattle.hp_control.specs.Holds.{Holds}
 use Rattle.hp_control.specs.States.{ControlState, Fits, IsValid}
 use Rattle.hp_pieces.specs.Running.{Leads}
+use Rattle.hp_pieces.specs.declared.by.By.{By}
 
 -- A text in bytes and how many of them are covered, the answers that are assumed of the older state, what is changed over it,
--- and the edits, which name its nodes by where they stand. Read by this table of reference names.
+-- and the edits, which name its nodes by where they stand. Read by this table of reference names. Who guessed it may be known.
 pub record Guessed : Type 0 where
   pub names : List Reference
   pub text : List ℕ
@@ -19,6 +20,7 @@ pub record Guessed : Type 0 where
   pub assumptions : List Kept
   pub change : Change
   pub edits : List Edit
+  pub by : Option By
 
 abbrev pub covered_text : Guessed → List ℕ
 covered_text f = chars (take f.covered f.text)

@@ -4,6 +4,8 @@ pub mod Fragments
 pub mod Guesses
 pub mod Texts
 pub mod First
+pub mod Reaching
+pub mod By
 pub mod Laws
 pub mod FirstLaws
 pub mod At

@@ -1,6 +1,7 @@
 //! What a part of a page does to the parser: its fragment, and the end of input.
 #![tactic(auto)]
 
+mod by;
 mod ending;
 mod exact;
 mod fragment;
@@ -8,6 +9,7 @@ mod guessed;
 mod laws;
 mod tokens;
 
+pub use by::By;
 pub use ending::Ending;
 pub use exact::Exact;
 pub use fragment::Fragment;

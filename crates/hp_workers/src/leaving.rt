@@ -2,7 +2,6 @@
 
 use hp_merge::{Front, JoinRefusal};
 use hp_pieces::Fragment;
-use hp_predict::Prescan;
 
 /// Gives back a fragment.
 pub(crate) fn leave_fragment(fragment: Fragment<'_>) {
@@ -17,9 +16,4 @@ pub(crate) fn leave_front(front: Front<'_>) {
 /// Gives back a fragment that there was no memory to join.
 pub(crate) fn leave_refusal(refusal: JoinRefusal<'_>) {
     let _ = refusal;
-}
-
-/// Gives back a guessed state.
-pub(crate) fn leave_prescan(prescan: Prescan) {
-    let _ = prescan;
 }

@@ -1,7 +1,6 @@
 //! A page chunk by chunk: each chunk behind a guess, on one thread or on several, joined to what stands before it.
 #![tactic(auto)]
 
-mod guessing;
 mod joining;
 mod leaving;
 mod order;

@@ -9,13 +9,12 @@ ghost use Rattle.hp_pieces.specs.Texts.{text_of};
 ghost use Rattle.hp_workers.specs.Joining.{StandsAt};
 
 use crate::NoMemory;
-use crate::guessing::guess;
 use crate::joining::join_chunk;
 use crate::leaving::leave_front;
 use hp_arena::Tree;
 use hp_control::Control;
 use hp_cut::Cuts;
-use hp_fragment::{ending, replay};
+use hp_fragment::{ending, replay, speculate_by};
 use hp_merge::Front;
 use hp_pieces::{Fragment, pages_at};
 use hp_predict::GuessKind;
@@ -93,7 +92,7 @@ pub(crate) fn first_try<'p>(
     if chunk.number == 0 {
         replay(alloc, chunk, Control::start())
     } else {
-        guess(alloc, chunk, kind)
+        speculate_by(alloc, chunk, kind)
     }
 }
 

@@ -3,11 +3,10 @@ ghost use Rattle.std.specs.Prelude.{◌≤◌, ◌^◌, length};
 ghost use Rattle.hp_text.specs.Page.{text_of as page_text};
 ghost use Rattle.hp_cut.specs.Places.{IsOf};
 
-use crate::guessing::guess;
 use crate::{Joined, join_chunk, parse_in_order};
 use hp_control::Control;
 use hp_cut::{Cuts, cuts_at_tags, cuts_listed};
-use hp_fragment::replay;
+use hp_fragment::{replay, speculate_by};
 use hp_merge::Front;
 use hp_pieces::pages_at;
 use hp_predict::GuessKind;
@@ -212,7 +211,7 @@ fn second_part(
     let exact = replay(alloc, first, Control::start()).expect(rt, "there is memory");
     let kept = join_chunk(alloc, &mut front, first, exact).expect(rt, "there is memory");
     assert_eq!(rt; kept, Joined::Kept);
-    let fragment = guess(alloc, second, kind).expect(rt, "there is memory");
+    let fragment = speculate_by(alloc, second, kind).expect(rt, "there is memory");
     let joined = join_chunk(alloc, &mut front, second, fragment).expect(rt, "there is memory");
     mem::forget(front);
     mem::forget(cuts);

@@ -2,7 +2,7 @@ use Rattle.std.proofs.Common.{refl}
 use Rattle.hp_pieces.proofs.guessed.Guessed.of_guess.Goals as goal
 
 pub invariant_of-result : goal.invariant_of-result
-invariant_of-result c = c.requires.sound
+invariant_of-result c = (c.requires.sound, tt)
 
 pub returns : goal.returns
 returns c = refl
