@@ -1,0 +1,17 @@
+pub mod Items
+pub mod Branches
+pub mod Sides
+pub mod Tags
+pub mod Avoiding
+pub mod Lengths
+pub mod Fitting
+pub mod Commuting
+pub mod Grafting
+pub mod Among
+pub mod Groves
+pub mod Splitting
+pub mod Texts
+pub mod Joined
+pub mod Renumbering
+pub mod Shifting
+pub mod Fragments
