@@ -3,3 +3,16 @@ pub mod Silent
 pub mod Along
 pub mod Fronts
 pub mod Calls
+pub mod Bare
+pub mod BareViews
+pub mod BareLists
+pub mod BareActs
+pub mod Reopened
+pub mod TextRows
+pub mod TextTurns
+pub mod TextRuns
+pub mod WholeTexts
+pub mod Following
+pub mod MoveByMove
+pub mod Readings
+pub mod OneByOne

@@ -13,7 +13,7 @@ use Rattle.hp_control.specs.declared.question.Question.{Question}
 use Rattle.hp_control.specs.declared.question.Question.TheVariants as ask
 use Rattle.hp_control.specs.Agree.{AllTrue}
 use Rattle.hp_control.specs.Plan.{asked_by, end_by}
-use Rattle.hp_control.specs.States.{ControlState}
+use Rattle.hp_control.specs.States.{ControlState, Fits, IsValid}
 use Rattle.hp_control.specs.Truth.{answer_of}
 use Rattle.hp_lexer.specs.declared.lexer.Lexer.{Lexer}
 use Rattle.hp_lexer.specs.declared.lexer.Step.TheVariants as steps
@@ -26,6 +26,7 @@ use Rattle.hp_acts.specs.Plain.{may_take_text}
 use Rattle.hp_runs.specs.Closing.{LeadsOn}
 use Rattle.hp_asked.specs.Seeking.{AreFilled, Seeker, Spells, at, named_last, name_before, seek}
 use Rattle.hp_asked.specs.Right.{IsRight, RightFrom, seeker_at}
+use Rattle.hp_asked.specs.Singly.{IsRightSingly}
 
 -- what s itself answers is right for each text behind it
 abbrev pub RightByTruth : Type 0
@@ -34,6 +35,15 @@ RightByTruth = (names : List Reference) (s : ControlState) (text : List ℕ) →
 -- what is right for a text is right for its front
 abbrev pub RightBefore : Type 0
 RightBefore = (says : Question → Answer) (names : List Reference) (s : ControlState) (a b : List ℕ) → IsRight says names s (a ++ b) → IsRight says names s a
+
+-- What is right for all that the run asks of a valid state that fits, a move and a code point at a time, is right in whatever way the text
+-- is read: no way of reading asks what that one doesn't.
+abbrev pub ReadingsAlike : Type 0
+ReadingsAlike = (says : Question → Answer) (names : List Reference) (s : ControlState) (text : List ℕ) → IsValid s → Fits s → IsRightSingly says names s text → IsRight says names s text
+
+-- and it is one of its readings
+abbrev pub RightSingly : Type 0
+RightSingly = (says : Question → Answer) (names : List Reference) (s : ControlState) (text : List ℕ) → IsRight says names s text → IsRightSingly says names s text
 
 -- the first question is where the text begins; then all that is asked from there on
 abbrev pub RightAtStart : Type 0

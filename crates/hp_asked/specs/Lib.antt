@@ -1,3 +1,4 @@
 pub mod Seeking
 pub mod Right
+pub mod Singly
 pub mod Laws

@@ -2,7 +2,7 @@
 //! do nothing.
 #![tactic(auto)]
 
-ghost use Rattle.hp_asked.specs.Laws.{RightAtStart, RightBefore, RightBeforeText, RightByTruth, RightName, RightSection, RightSilence, RightTokens, SectionLeads, SilenceLeads, TagLeads, TextLeads, TokensLead};
+ghost use Rattle.hp_asked.specs.Laws.{ReadingsAlike, RightAtStart, RightBefore, RightBeforeText, RightByTruth, RightName, RightSection, RightSilence, RightSingly, RightTokens, SectionLeads, SilenceLeads, TagLeads, TextLeads, TokensLead};
 
 /// What a state answers itself is right for each text behind it; what is right for a text is right for its front; and it is so first of
 /// where the text begins, and then from there on.
@@ -29,4 +29,11 @@ pub fn answers_lead()
     ensures tag { TagLeads }
     ensures silence { SilenceLeads }
     ensures section { SectionLeads }
+{}
+
+/// The text may be read in any way: what is right for all that the run asks of a valid state that fits, a move and a code point at a time,
+/// is right for all that it asks in runs of characters as well; and the other way round, of any state.
+pub fn readings_alike()
+    ensures alike { ReadingsAlike }
+    ensures singly { RightSingly }
 {}

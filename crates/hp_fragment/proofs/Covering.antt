@@ -34,8 +34,9 @@ use Rattle.hp_lexer.specs.Places.{text_at}
 use Rattle.hp_lexer.specs.Standing.{stands}
 use Rattle.hp_lexer.specs.Table.{table}
 use Rattle.hp_model.specs.Runs.{Parser, followed_by, goes, rests, step_by}
-use Rattle.hp_asked.specs.Laws.{RightAtStart, RightBefore}
+use Rattle.hp_asked.specs.Laws.{ReadingsAlike, RightAtStart, RightBefore, RightSingly}
 use Rattle.hp_asked.specs.Right.{IsRight, RightFrom, seeker_at}
+use Rattle.hp_asked.specs.Singly.{IsRightSingly}
 use Rattle.hp_older.specs.Laws.{ViewsBegin}
 use Rattle.hp_pieces.specs.First.{IsFirst, restless, touched, whole}
 use Rattle.hp_pieces.specs.FirstLaws.{FirstInBytes, FirstOnce, TouchesInside}
@@ -129,12 +130,13 @@ module _ (start : RightAtStart) (law : TextBegins) (views : ViewsBegin) (old : S
 
 -- over each state for which the answers are right, this is true of what was kept, and so much can be covered
 abbrev pub Reaches : List Kept → ℕ → List ℕ → (Question → Answer) → Type 0
-Reaches kept covered front says = (s : ControlState) → MayStand built_in s → IsRight says built_in s (chars front) → Holds kept s × IsFirst built_in s (chars front) covered
+Reaches kept covered front says = (s : ControlState) → MayStand built_in s → IsRightSingly says built_in s (chars front) → Holds kept s × IsFirst built_in s (chars front) covered
 
 -- so a front that was read to its end is covered whole,
-pub whole-reaches : RightAtStart → TextBegins → ViewsBegin → KeptOnceWhereTrue → (old new : Stage) (b : HasBegun old.lexer old.heard old.split) (g : GoesToEnd old new) (front : List ℕ) (kept : List Kept)
+pub whole-reaches : ReadingsAlike → RightAtStart → TextBegins → ViewsBegin → KeptOnceWhereTrue → (old new : Stage) (b : HasBegun old.lexer old.heard old.split) (g : GoesToEnd old new) (front : List ℕ) (kept : List Kept)
     → new.heard.kept ≡ Some kept → IsUtf8 front → old.input ≡ text_at (2 ^ 32) (chars front) → old.sink ≡ Keeps → Reaches kept (length front) front old.heard.says
-whole-reaches start law views once old new b g front kept is utf8 input keeps = λ s may right.
+whole-reaches alike start law views once old new b g front kept is utf8 input keeps = λ s may singly.
+    let right : IsRight old.heard.says built_in s (chars front) = alike old.heard.says built_in s (chars front) may.valid may.fits singly in
     (kept-hold start law views old b front input keeps s may right once new g kept is, first-whole start law views old b front input keeps s may right utf8 new g)
 
 -- a refusal that isn't want of memory
@@ -142,15 +144,17 @@ pub refused-crossed : (refused : Refusal) (crossing : Crossing) (fact : Type 0) 
 refused-crossed refused crossing fact is h = subst (λ (r : Refusal). IfCrossed r fact) is h
 
 -- and one that was crossed is so at that place.
-pub crossed-at : RightAtStart → TextBegins → ViewsBegin → TouchesInside → (old new : Stage) (b : HasBegun old.lexer old.heard old.split) → Crosses old new → (front : List ℕ) (at : ℕ)
+pub crossed-at : ReadingsAlike → RightAtStart → TextBegins → ViewsBegin → TouchesInside → (old new : Stage) (b : HasBegun old.lexer old.heard old.split) → Crosses old new → (front : List ℕ) (at : ℕ)
     → at ≡ new.lexer.rested - 2 ^ 32 → IsUtf8 front → old.input ≡ text_at (2 ^ 32) (chars front) → old.sink ≡ Keeps → CrossesAt built_in old.heard.says front at
-crossed-at start law views inside old new b c front at is utf8 input keeps =
-    subst (CrossesAt built_in old.heard.says front) (sym is) (λ s may right. first-crossed start law views old b front input keeps s may right inside utf8 new c)
+crossed-at alike start law views inside old new b c front at is utf8 input keeps =
+    subst (CrossesAt built_in old.heard.says front) (sym is)
+    (λ s may singly. first-crossed start law views old b front input keeps s may (alike old.heard.says built_in s (chars front) may.valid may.fits singly) inside utf8 new c)
 
 -- Where the chunk doesn't begin at rest, nothing can be covered.
 pub nothing-reaches : {P : Type 0} (says : P → Question → Answer) (predictor : P) (guess below : Guessing P) (v : Split) (a : Answer) → guess ≡ record { predictor = predictor; kept = [] } → Begins says guess below v a → NotResting a
-    → RightAtStart → KeptOnceWhereTrue → (front : List ℕ) → Reaches below.kept 0 front (says predictor)
-nothing-reaches {P} says predictor guess below v a new b not_resting start once front = λ s may right.
+    → ReadingsAlike → RightAtStart → KeptOnceWhereTrue → (front : List ℕ) → Reaches below.kept 0 front (says predictor)
+nothing-reaches {P} says predictor guess below v a new b not_resting alike start once front = λ s may singly.
+    let right : IsRight (says predictor) built_in s (chars front) = alike (says predictor) built_in s (chars front) may.valid may.fits singly in
     let entry : answer_of s ask.Entry ≡ says predictor ask.Entry = (start (says predictor) built_in s (chars front) right).0 in
     let kept : below.kept ≡ added_each [] (kept_pairs (says predictor) (ask.Entry ∷ [])) = some-same below.kept (added_each [] (kept_pairs (says predictor) (ask.Entry ∷ []))) (ap (λ (h : Heard). h.kept) (heard-first says predictor guess below v a new b)) in
     let is : says predictor ask.Entry ≡ a = ap (λ (g : Guessing P). says g.predictor ask.Entry) (sym new) ∙ ok-same (says guess.predictor ask.Entry) a b.told.ends in (
@@ -159,7 +163,7 @@ nothing-reaches {P} says predictor guess below v a new b not_resting start once 
     )
 
 -- A text was crossed, and the front before that place is read.
-module _ (once : FirstOnce) (in_bytes : FirstInBytes) (before : RightBefore) (says : Question → Answer) (text front : List ℕ) (at : ℕ) (utf8 : IsUtf8 text) (crosses : CrossesAt built_in says text at) (is_front : front ≡ take (length front) text) (long : IsCharBoundary text at → length front ≡ at) (s : ControlState) (may : MayStand built_in s) (right : IsRight says built_in s (chars text)) where
+module _ (once : FirstOnce) (in_bytes : FirstInBytes) (alike : ReadingsAlike) (singly : RightSingly) (before : RightBefore) (says : Question → Answer) (text front : List ℕ) (at : ℕ) (utf8 : IsUtf8 text) (crosses : CrossesAt built_in says text at) (is_front : front ≡ take (length front) text) (long : IsCharBoundary text at → length front ≡ at) (s : ControlState) (may : MayStand built_in s) (right : IsRightSingly says built_in s (chars text)) where
   boundary : IsCharBoundary text at
   boundary = (in_bytes built_in s text at utf8 may.valid (crosses s may right).0).0
 
@@ -173,15 +177,15 @@ module _ (once : FirstOnce) (in_bytes : FirstInBytes) (before : RightBefore) (sa
   parts : chars text ≡ chars front ++ chars (drop at text)
   parts = ap chars (sym (take-append-drop at text)) ∙ (chars-append (take at text) (drop at text) (IsUtf8-take text at utf8 boundary) ∙ ap (λ (bytes : List ℕ). chars bytes ++ chars (drop at text)) is_taken)
 
-  right-front : IsRight says built_in s (chars front)
-  right-front = before says built_in s (chars front) (chars (drop at text)) (subst (IsRight says built_in s) parts right)
+  right-front : IsRightSingly says built_in s (chars front)
+  right-front = singly says built_in s (chars front) (before says built_in s (chars front) (chars (drop at text)) (subst (IsRight says built_in s) parts (alike says built_in s (chars text) may.valid may.fits right)))
 
   -- where it is covered, that is all that can be covered of the text
   front-reached : (f : Guessed) → f.names ≡ built_in → ReachesIn front says f → Holds f.assumptions s × IsFirst built_in s (chars text) f.covered
   front-reached f names reaches = (r.0, subst (IsFirst built_in s (chars text)) (once built_in s (chars front) at f.covered first-front r.1) (crosses s may right).0)
     where
       r : Holds f.assumptions s × IsFirst built_in s (chars front) f.covered
-      r = subst (λ (ns : List Reference). MayStand ns s → IsRight says ns s (chars front) → Holds f.assumptions s × IsFirst ns s (chars front) f.covered) names (reaches s) may right-front
+      r = subst (λ (ns : List Reference). MayStand ns s → IsRightSingly says ns s (chars front) → Holds f.assumptions s × IsFirst ns s (chars front) f.covered) names (reaches s) may right-front
 
   -- it isn't crossed again
   front-uncrossed : (again : ℕ) → CrossesAt built_in says front again → ⊥
@@ -189,15 +193,15 @@ module _ (once : FirstOnce) (in_bytes : FirstInBytes) (before : RightBefore) (sa
       let second : IsFirst built_in s (chars front) again × (again < length front) = crosses_front s may right-front in
       omega (arith, once built_in s (chars front) at again first-front second.0, second.1, long boundary)
 
-pub reached-before : FirstOnce → FirstInBytes → RightBefore → (says : Question → Answer) (text front : List ℕ) (at : ℕ) → IsUtf8 text → CrossesAt built_in says text at → front ≡ take (length front) text → (IsCharBoundary text at → length front ≡ at)
+pub reached-before : FirstOnce → FirstInBytes → ReadingsAlike → RightSingly → RightBefore → (says : Question → Answer) (text front : List ℕ) (at : ℕ) → IsUtf8 text → CrossesAt built_in says text at → front ≡ take (length front) text → (IsCharBoundary text at → length front ≡ at)
     → (f : Guessed) → IsReached says text front f → IsReached says text text f
-reached-before once in_bytes before says text front at utf8 crosses is_front long f is = (
+reached-before once in_bytes alike singly before says text front at utf8 crosses is_front long f is = (
   is.0,
-  subst (λ (ns : List Reference). (s : ControlState) → MayStand ns s → IsRight says ns s (chars text) → Holds f.assumptions s × IsFirst ns s (chars text) f.covered) (sym is.0.names)
-      (λ s may right. front-reached once in_bytes before says text front at utf8 crosses is_front long s may right f is.0.names is.1),
+  subst (λ (ns : List Reference). (s : ControlState) → MayStand ns s → IsRightSingly says ns s (chars text) → Holds f.assumptions s × IsFirst ns s (chars text) f.covered) (sym is.0.names)
+      (λ s may right. front-reached once in_bytes alike singly before says text front at utf8 crosses is_front long s may right f is.0.names is.1),
 )
 
-pub nothing-before : FirstOnce → FirstInBytes → RightBefore → (says : Question → Answer) (text front : List ℕ) (at again : ℕ) → IsUtf8 text → CrossesAt built_in says text at → front ≡ take (length front) text → (IsCharBoundary text at → length front ≡ at)
+pub nothing-before : FirstOnce → FirstInBytes → ReadingsAlike → RightSingly → RightBefore → (says : Question → Answer) (text front : List ℕ) (at again : ℕ) → IsUtf8 text → CrossesAt built_in says text at → front ≡ take (length front) text → (IsCharBoundary text at → length front ≡ at)
     → CrossesAt built_in says front again → (kept : List Kept) → Reaches kept 0 text says
-nothing-before once in_bytes before says text front at again utf8 crosses is_front long crosses_front kept = λ s may right.
-    absurd (front-uncrossed once in_bytes before says text front at utf8 crosses is_front long s may right again crosses_front)
+nothing-before once in_bytes alike singly before says text front at again utf8 crosses is_front long crosses_front kept = λ s may right.
+    absurd (front-uncrossed once in_bytes alike singly before says text front at utf8 crosses is_front long s may right again crosses_front)

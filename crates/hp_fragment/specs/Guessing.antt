@@ -21,7 +21,7 @@ use Rattle.hp_lexer.specs.declared.lexer.Asked.TheVariants as asked
 use Rattle.hp_lexer.specs.declared.lexer.Lexer.{Lexer}
 use Rattle.hp_views.specs.Begins.{begins, ended}
 use Rattle.hp_views.specs.declared.view.View.{View}
-use Rattle.hp_asked.specs.Right.{IsRight}
+use Rattle.hp_asked.specs.Singly.{IsRightSingly}
 use Rattle.hp_pieces.specs.First.{IsFirst}
 use Rattle.hp_pieces.specs.Guesses.{Guessed as GuessedOf}
 use Rattle.hp_pieces.specs.Reaching.{IsSaid, ReachesFirst, ReachesIn}
@@ -64,7 +64,7 @@ pub record IsGuessOf (says : Question → Answer) (text : List ℕ) (f : Guessed
 -- over each such state a token touches something older, and the first that does began at that place within the front
 abbrev pub CrossesAt : List Reference → (Question → Answer) → List ℕ → ℕ → Type 0
 CrossesAt names says front at =
-    (s : ControlState) → MayStand names s → IsRight says names s (chars front) → IsFirst names s (chars front) at × (at < length front)
+    (s : ControlState) → MayStand names s → IsRightSingly says names s (chars front) → IsFirst names s (chars front) at × (at < length front)
 
 -- so it is made of that front of the text
 abbrev pub IsReached : (Question → Answer) → List ℕ → List ℕ → GuessedOf → Type 0

@@ -82,6 +82,7 @@ fn guess_before<'p, P: Predictor + Copy + Drop>(
     ensures { IfOk result (IsReached (P.says predictor) text.now text.now) }
 {
     hp_asked::answers_are_right();
+    hp_asked::readings_alike();
     hp_pieces::firsts();
     let front = front_of(text, at);
     match try_front(alloc, text, front, predictor)? {
@@ -115,6 +116,7 @@ fn try_front<'p, P: Predictor + Copy + Drop>(
     ensures { IfOk result (IsTried (P.says predictor) text.now front.now) }
 {
     hp_asked::answers_are_right();
+    hp_asked::readings_alike();
     hp_control::laws::answers_tell();
     let (view, told) = View::guessed(alloc, Guess::new(predictor))?;
     match told {
@@ -139,6 +141,7 @@ fn read_front<'p, P: Predictor + Drop>(
     ensures { IfOk result (IsTried (P.says view.entry.below.predictor) text.now front.now) }
 {
     hp_asked::answers_are_right();
+    hp_asked::readings_alike();
     hp_control::laws::answers_tell();
     hp_older::view_begins();
     hp_pieces::firsts();

@@ -13,10 +13,10 @@ pub returns-in-Ok : goal.returns-in-Ok
 returns-in-Ok g c =
     subst (IsReached (g.P.Predictor.says c.args.view.below.predictor) c.args.text.now c.args.front.now) (sym c.cover.ensures) (
       covered-said _ _ c.requires.begun c.in-Ok.ensures.reads _ refl c.args.text.now _ _ _,
-      whole-reaches c.answers_are_right.ensures.start c.comes_on.ensures.text_begins c.view_begins.ensures.guessed c.answers_tell.ensures.once _ _ c.requires.begun c.in-Ok.ensures.reads c.args.front.now _ refl c.utf8.front c.of_str.ensures refl,
+      whole-reaches c.readings_alike.ensures.alike c.answers_are_right.ensures.start c.comes_on.ensures.text_begins c.view_begins.ensures.guessed c.answers_tell.ensures.once _ _ c.requires.begun c.in-Ok.ensures.reads c.args.front.now _ refl c.utf8.front c.of_str.ensures refl,
     )
 
 pub returns-in-Err-Crossed : goal.returns-in-Err-Crossed
 returns-in-Err-Crossed g c =
-    crossed-at c.answers_are_right.ensures.start c.comes_on.ensures.text_begins c.view_begins.ensures.guessed c.firsts.ensures.inside _ _ c.requires.begun
+    crossed-at c.readings_alike.ensures.alike c.answers_are_right.ensures.start c.comes_on.ensures.text_begins c.view_begins.ensures.guessed c.firsts.ensures.inside _ _ c.requires.begun
     (refused-crossed c.in-Err-Crossed.field-0 c.in-Err-Crossed.field-0-0 _ c.in-Err-Crossed.field-0-is c.in-Err-Crossed.ensures.crossed) c.args.front.now _ c.saturating_sub-at.ensures c.utf8.front c.of_str.ensures refl

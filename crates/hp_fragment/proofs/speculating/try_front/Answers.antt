@@ -20,6 +20,6 @@ returns g c =
           subst (λ r. IfOk r (IsTried (g.P.Predictor.says c.args.predictor) c.args.text.now c.args.front.now)) (sym w.result-is)
           (subst (IsReached (g.P.Predictor.says c.args.predictor) c.args.text.now c.args.front.now) (sym w.cover_nothing.ensures) (
             nothing-guessed g.P.Predictor.says c.args.predictor c.new.result c.in_ok-view.view.below (split_of c.in_ok-view.view) c.in_ok-view.told c.new.ensures c.in_ok-view.ensures c.args.text.now _ _,
-            nothing-reaches g.P.Predictor.says c.args.predictor c.new.result c.in_ok-view.view.below (split_of c.in_ok-view.view) c.in_ok-view.told c.new.ensures c.in_ok-view.ensures w.in_default.not-Resting c.answers_are_right.ensures.start c.answers_tell.ensures.once c.args.front.now,
+            nothing-reaches g.P.Predictor.says c.args.predictor c.new.result c.in_ok-view.view.below (split_of c.in_ok-view.view) c.in_ok-view.told c.new.ensures c.in_ok-view.ensures w.in_default.not-Resting c.readings_alike.ensures.alike c.answers_are_right.ensures.start c.answers_tell.ensures.once c.args.front.now,
           ))
     ]
