@@ -1,0 +1,14 @@
+pub mod Entries
+pub mod Origins
+pub mod Cutting
+pub mod Nexts
+pub mod None
+pub mod Fairness
+pub mod Puts
+pub mod Rests
+pub mod Posting
+pub mod Claiming
+pub mod Commits
+pub mod FirstFalse
+pub mod Recalls
+pub mod Ending
