@@ -1,0 +1,41 @@
+//! That the edits of the sequential parser name only elements that are there before them, and that its next id counts the elements that
+//! they make. Laws on contracts whose bodies do nothing.
+#![tactic(auto)]
+
+ghost use Rattle.hp_growing.specs.Laws.{
+  AtOnceNamesThere,
+  EndsHaveThere,
+  EndsNameThere,
+  HandledNamesThere,
+  PlacesCount,
+  RunsCount,
+  RunsNameThere,
+  RunsSplit,
+  TokensNameThere,
+  TreesHaveThere,
+};
+
+/// From a valid state the edits of a token name only elements that are there before them, and the next id counts what they make; so it
+/// is where tokens are handled at once.
+pub fn tokens_name_there()
+    ensures token { HandledNamesThere }
+    ensures at_once { AtOnceNamesThere }
+    ensures in_order { TokensNameThere }
+{}
+
+/// So do those of a run over a text from a valid state, and those of the end of input; and the inner edits of a run may be made first, by
+/// themselves.
+pub fn runs_name_there()
+    ensures runs { RunsNameThere }
+    ensures ends { EndsNameThere }
+    ensures split { RunsSplit }
+{}
+
+/// Where a tree has the elements below the next id, and only they stand in lists of children, so it is behind a run, at each place of a
+/// page, and as far as the lists go behind the end of input.
+pub fn trees_are_counted()
+    ensures runs { RunsCount }
+    ensures ends { EndsHaveThere }
+    ensures places { PlacesCount }
+    ensures pages { TreesHaveThere }
+{}
