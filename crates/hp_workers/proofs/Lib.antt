@@ -1,3 +1,9 @@
-mod Between
+mod Counting
+mod Going
 mod Holding
+mod Opening
+mod Pages
 mod Placing
+mod Recalls
+mod Takes
+mod Weights

@@ -1,3 +1,5 @@
--- What becomes of the fragment of a chunk.
+-- What becomes of the fragment of a chunk, and of a page in chunks.
 pub mod Joining
-pub mod Jobs
+pub mod Making
+pub mod Turns
+pub mod Parsed

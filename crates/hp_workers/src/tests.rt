@@ -137,16 +137,16 @@ const GUESSED: &[Guessed] = &[
 ];
 
 /// A page of some six chunks, and its printed tree.
-const PAGE: &str =
+pub(crate) const PAGE: &str =
     "<!DOCTYPE html>\n<html lang=\"en\">\n<head>\n<meta charset=\"utf-8\">\n<title>Price &amp; stock</title>\n<style>td > a { color: red }</style>\n</head>\n<body>\n<h1>Stock</h1>\n<ul>\n<li>Caf&eacute;\n<li><a href=\"?a=1&b=2\">Link</a>\n</ul>\n<table>\n<tr><td>1<td>2\n</table>\n<form action=\"/s\"><input name=q></form>\n<script>if (a < b && c) d();</script>\n</body>\n</html>\n";
 
-const TREE: &str =
+pub(crate) const TREE: &str =
     "| <!DOCTYPE html>\n| <html>\n|   lang=\"en\"\n|   <head>\n|     \"\n\"\n|     <meta>\n|       charset=\"utf-8\"\n|     \"\n\"\n|     <title>\n|       \"Price & stock\"\n|     \"\n\"\n|     <style>\n|       \"td > a { color: red }\"\n|     \"\n\"\n|   \"\n\"\n|   <body>\n|     \"\n\"\n|     <h1>\n|       \"Stock\"\n|     \"\n\"\n|     <ul>\n|       \"\n\"\n|       <li>\n|         \"Café\n\"\n|       <li>\n|         <a>\n|           href=\"?a=1&b=2\"\n|           \"Link\"\n|         \"\n\"\n|     \"\n\"\n|     <table>\n|       \"\n\"\n|       <tbody>\n|         <tr>\n|           <td>\n|             \"1\"\n|           <td>\n|             \"2\n\"\n|     \"\n\"\n|     <form>\n|       action=\"/s\"\n|       <input>\n|         name=\"q\"\n|     \"\n\"\n|     <script>\n|       \"if (a < b && c) d();\"\n|     \"\n\n\n\"\n";
 
 const KINDS: [GuessKind; 3] = [GuessKind::Quiet, GuessKind::Prescan, GuessKind::Contrary];
 
 /// The page of a short text.
-fn page_of<'p>(rt: &impl Abort, text: &'p str) -> Page<'p>
+pub(crate) fn page_of<'p>(rt: &impl Abort, text: &'p str) -> Page<'p>
     ensures { length (page_text result) ≤ 2 ^ 24 }
 {
     let page = check_page(text.as_bytes()).expect(rt, "the page is UTF-8");

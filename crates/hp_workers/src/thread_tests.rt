@@ -1,0 +1,219 @@
+//! Pages on several threads: that two guess at the same time, the printed trees, and what their journals say became of the guesses.
+ghost use Rattle.std.specs.Prelude.{◌≡◌, ◌≤◌, ◌^◌, length};
+ghost use Rattle.hp_text.specs.Page.{text_of as page_text};
+ghost use Rattle.hp_cut.specs.Places.{IsOf};
+
+use crate::tests::{PAGE, TREE, page_of};
+use crate::{Gate, OpenGate, parse_page};
+use hp_board::{BoardStep, Entry, Journal, QuestionKind};
+use hp_cut::{Cuts, cuts_at_tags, cuts_listed};
+use hp_predict::GuessKind;
+use hp_print::print_tree;
+use hp_text::Page;
+use std::alloc::Global;
+use std::mem;
+use std::process::Abort;
+use std::sync::Wait;
+use std::sync::atomic::{AtomicU64, Ordering};
+use std::thread::Threads;
+
+/// How often the first of two workers looks for the second.
+const LOOKS: u64 = 1_000_000_000;
+
+/// Holds the first guess until a second one began.
+#[derive(Drop)]
+struct Pair {
+    begun: AtomicU64,
+    given_up: AtomicU64,
+}
+
+impl Gate for Pair {
+    fn before_guess(&self, _worker: u32, _chunk: u32) {
+        self.begun.fetch_add(1, Ordering::SeqCst);
+        for _look in 0..LOOKS {
+            if self.begun.load(Ordering::SeqCst) >= 2 {
+                return;
+            }
+        }
+        self.given_up.store(1, Ordering::SeqCst);
+    }
+}
+
+/// How a page is parsed.
+struct By<'a, G> {
+    kind: GuessKind,
+    workers: u32,
+    gate: &'a G,
+}
+
+/// The journal of a page so cut, of which the tree is printed so.
+fn journal_of<R: Threads + Wait + Sync + Abort, G: Gate + Sync>(
+    rt: &R,
+    alloc: Global,
+    page: Page<'_>,
+    cuts: &Cuts,
+    by: By<'_, G>,
+    wanted: &str,
+) -> Journal
+    requires limit { length (page_text page) ≤ 2 ^ 24 }
+    requires cuts_of_page { IsOf (page_text page) cuts.now }
+    requires some { 1 ≤ by.workers }
+    requires most { by.workers ≤ 64 }
+{
+    let By {
+        kind,
+        workers,
+        gate,
+    } = by;
+    let parsed = parse_page(rt, alloc, page, cuts, kind, workers, gate);
+    let (tree, journal) = parsed.expect(rt, "there is memory");
+    let printed = print_tree(alloc, &tree).expect(rt, "there is memory");
+    let same = printed.as_slice() == wanted.as_bytes();
+    mem::forget(printed);
+    mem::forget(tree);
+    assert!(rt; same, "by {kind:?} and {workers} workers over {page:?}");
+    journal
+}
+
+/// Who claimed the chunk first.
+fn claimer(journal: &[Entry], chunk: u32) -> Option<u32> {
+    for entry in journal {
+        if let BoardStep::Claimed { chunk: claimed, .. } = entry.step {
+            if claimed == chunk {
+                return Some(entry.worker);
+            }
+        }
+    }
+    None
+}
+
+/// Who posted a fragment of the chunk first.
+fn poster(journal: &[Entry], chunk: u32) -> Option<u32> {
+    for entry in journal {
+        if let BoardStep::Posted { chunk: posted, .. } = entry.step {
+            if posted == chunk {
+                return Some(entry.worker);
+            }
+        }
+    }
+    None
+}
+
+/// Worker 0 runs the first of three chunks, and then the two others are guessed, each held until both began.
+fn assert_two_at_once<R: Threads + Wait + Sync + Abort>(rt: &R, alloc: Global) {
+    let page = page_of(rt, "onetwothr");
+    let cuts = match cuts_listed(alloc, page, &[3, 6]) {
+        Ok(cuts) => cuts,
+        Err(_) => panic!(rt; "the places cut the page"),
+    };
+    let gate = Pair {
+        begun: AtomicU64::new(0),
+        given_up: AtomicU64::new(0),
+    };
+    let wanted = "| <html>\n|   <head>\n|   <body>\n|     \"onetwothr\"\n";
+    let by = By {
+        kind: GuessKind::Quiet,
+        workers: 2,
+        gate: &gate,
+    };
+    let journal = journal_of(rt, alloc, page, &cuts, by, wanted);
+    assert_eq!(rt; gate.given_up.load(Ordering::SeqCst), 0);
+    let entries = journal.as_slice();
+    let one = poster(entries, 1).expect(rt, "chunk 1 was posted");
+    let two = poster(entries, 2).expect(rt, "chunk 2 was posted");
+    assert!(rt; one < 64 && two < 64 && one != two);
+    assert_eq!(rt; claimer(entries, 1), Some(one));
+    assert_eq!(rt; claimer(entries, 2), Some(two));
+    mem::forget(journal);
+    mem::forget(cuts);
+}
+
+#[test]
+fn two_guesses_at_once(rt: HostRuntime) {
+    assert_two_at_once(&rt, rt.alloc());
+}
+
+/// The chunk that a step judges.
+fn judged(step: BoardStep) -> Option<u32> {
+    match step {
+        BoardStep::Kept { chunk } => Some(chunk),
+        BoardStep::Repaired { chunk, .. } => Some(chunk),
+        BoardStep::RolledBack { chunk, .. } => Some(chunk),
+        _ => None,
+    }
+}
+
+/// What the journal says of the chunk's first fragment.
+fn first_judgement(journal: &[Entry], chunk: u32) -> Option<BoardStep> {
+    for entry in journal {
+        if judged(entry.step) == Some(chunk) {
+            return Some(entry.step);
+        }
+    }
+    None
+}
+
+/// What becomes of the guesses of the page's chunks behind the first, by each predictor: each is kept, or else rolled back on a question
+/// of that kind.
+const JUDGED: &[(GuessKind, [Option<QuestionKind>; 5])] = &[
+    (
+        GuessKind::Quiet,
+        [
+            Some(QuestionKind::Entry),
+            Some(QuestionKind::Entry),
+            None,
+            Some(QuestionKind::Pointer),
+            Some(QuestionKind::Entry),
+        ],
+    ),
+    (
+        GuessKind::Prescan,
+        [
+            Some(QuestionKind::Entry),
+            Some(QuestionKind::Entry),
+            None,
+            None,
+            None,
+        ],
+    ),
+    (GuessKind::Contrary, [Some(QuestionKind::Entry); 5]),
+];
+
+/// The judgement of a chunk that is kept, or else rolled back on a question of that kind.
+fn judgement_of(chunk: u32, failed: Option<QuestionKind>) -> BoardStep {
+    match failed {
+        None => BoardStep::Kept { chunk },
+        Some(kind) => BoardStep::RolledBack { chunk, kind },
+    }
+}
+
+/// The page has its tree, and its guesses become what they are, with so many workers.
+fn assert_page<R: Threads + Wait + Sync + Abort>(rt: &R, alloc: Global, workers: u32)
+    requires some { 1 ≤ workers }
+    requires most { workers ≤ 64 }
+{
+    let page = page_of(rt, PAGE);
+    let cuts = cuts_at_tags(alloc, page, 64).expect(rt, "there is memory");
+    for (kind, wanted) in JUDGED {
+        let by = By {
+            kind: *kind,
+            workers,
+            gate: &OpenGate,
+        };
+        let journal = journal_of(rt, alloc, page, &cuts, by, TREE);
+        for chunk in 1..6 {
+            let judgement = first_judgement(journal.as_slice(), chunk);
+            let wanted = judgement_of(chunk, wanted[chunk as usize - 1]);
+            assert_eq!(rt; judgement, Some(wanted), "by {kind:?} and {workers} workers");
+        }
+        mem::forget(journal);
+    }
+    mem::forget(cuts);
+}
+
+#[test]
+fn a_page_has_one_tree_whoever_works(rt: HostRuntime) {
+    for workers in [1, 2, 8] {
+        assert_page(&rt, rt.alloc(), workers);
+    }
+}
