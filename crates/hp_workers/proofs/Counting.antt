@@ -85,13 +85,14 @@ others_stay journal e (t ∷ ts) by none all =
     let mine = first_true (is_counted journal t) (list_all (is_counted journal) ts) all in
     let other : (e.worker == t.worker) ≡ false = differ e.worker t.worker by apart.0 in
     let same : count_by (λ (x : Entry). x.worker == t.worker) (journal ++ e ∷ []) ≡ count_by (λ (x : Entry). x.worker == t.worker) journal =
-      count_push (λ (x : Entry). x.worker == t.worker) journal e ∙ ap (λ b. count_by (λ (x : Entry). x.worker == t.worker) journal + cond b 1 0) other ∙ plus_none (count_by (λ (x : Entry). x.worker == t.worker) journal) in
+    count_push (λ (x : Entry). x.worker == t.worker) journal e ∙ ap (λ b. count_by (λ (x : Entry). x.worker == t.worker) journal + cond b 1 0) other ∙ plus_none (count_by (λ (x : Entry). x.worker == t.worker) journal) in
     both_true (is_counted (journal ++ e ∷ []) t) (list_all (is_counted (journal ++ e ∷ [])) ts) (ap (λ n. t.entries == n) same ∙ mine) (others_stay journal e ts by apart.1 (second_true (is_counted journal t) (list_all (is_counted journal) ts) all))
- where
-  differ : (a b : ℕ) → a ≡ 64 → (b == 64) ≡ false → (a == b) ≡ false
-  differ a b x y = grind (arith, x, y)
-  plus_none : (n : ℕ) → n + 0 ≡ n
-  plus_none n = omega arith
+  where
+    differ : (a b : ℕ) → a ≡ 64 → (b == 64) ≡ false → (a == b) ≡ false
+    differ a b x y = grind (arith, x, y)
+
+    plus_none : (n : ℕ) → n + 0 ≡ n
+    plus_none n = omega arith
 
 -- the raised tally is counted
 main_stays : (journal : List Entry) (e : Entry) (tally later : Tally) → e.worker ≡ tally.worker → IsRaised tally later → length journal < 2 ^ 64 - 1 → is_counted journal tally ≡ true → is_counted (journal ++ e ∷ []) later ≡ true
@@ -100,13 +101,13 @@ main_stays journal e tally later by raised short mine =
     let few = count_by-le-length (λ (x : Entry). x.worker == tally.worker) journal in
     let test : (e.worker == tally.worker) ≡ true = grind (arith, by) in
     let now : count_by (λ (x : Entry). x.worker == tally.worker) (journal ++ e ∷ []) ≡ count_by (λ (x : Entry). x.worker == tally.worker) journal + 1 =
-      count_push (λ (x : Entry). x.worker == tally.worker) journal e ∙ ap (λ b. count_by (λ (x : Entry). x.worker == tally.worker) journal + cond b 1 0) test in
+    count_push (λ (x : Entry). x.worker == tally.worker) journal e ∙ ap (λ b. count_by (λ (x : Entry). x.worker == tally.worker) journal + cond b 1 0) test in
     let is : later.entries ≡ count_by (λ (x : Entry). x.worker == tally.worker) (journal ++ e ∷ []) = omega (arith, raised.entries, was, few, now, short) in
     let moved : later.entries ≡ count_by (λ (x : Entry). x.worker == later.worker) (journal ++ e ∷ []) = subst (λ w. later.entries ≡ count_by (λ (x : Entry). x.worker == w) (journal ++ e ∷ [])) (sym raised.worker) is in
     equal_is later.entries _ moved
- where
-  equal_is : (a b : ℕ) → a ≡ b → (a == b) ≡ true
-  equal_is a b e = grind (arith, e)
+  where
+    equal_is : (a b : ℕ) → a ≡ b → (a == b) ≡ true
+    equal_is a b e = grind (arith, e)
 
 length_same : (xs : List Tally) (a b : Tally) → length (xs ++ b ∷ []) ≡ length (xs ++ a ∷ [])
 length_same [] a b = refl
@@ -121,7 +122,7 @@ pub stays_push : (desk new : Desk) (tally later : Tally) (e : Entry) → SamePag
     → StaysOf desk tally new later
 stays_push desk new tally later e page journal by raised main short others text cuts o =
     let same : (w : ℕ) → count_by (λ (t : Tally). t.worker == w) (others ++ later ∷ []) ≡ count_by (λ (t : Tally). t.worker == w) (others ++ tally ∷ []) = λ w.
-      count_push (λ (t : Tally). t.worker == w) others later ∙ (ap (λ v. count_by (λ (t : Tally). t.worker == w) others + cond (v == w) 1 0) raised.worker ∙ sym (count_push (λ (t : Tally). t.worker == w) others tally)) in
+    count_push (λ (t : Tally). t.worker == w) others later ∙ (ap (λ v. count_by (λ (t : Tally). t.worker == w) others + cond (v == w) 1 0) raised.worker ∙ sym (count_push (λ (t : Tally). t.worker == w) others tally)) in
     let is64 : (tally.worker == 64) ≡ true = grind (arith, main) in
     let none : count_by (λ (t : Tally). t.worker == 64) others ≡ 0 = omega (arith, o.numbered.main, count_push (λ (t : Tally). t.worker == 64) others tally, ap one_if is64) in
     let parts = all_split (is_counted desk.journal) others tally o.counted in
@@ -151,4 +152,3 @@ borne_by_more few more (e ∷ es) small all =
     or_more true b c up is = ap (λ x. x || c) (up refl)
     or_more false b true up is = or_true b
     or_more false b false up is = absurd cc
-

@@ -135,8 +135,7 @@ claimed_whole desk new w claim kept c unknown =
     let within = next_within desk k (is_some claim.from) c.next in
     let next = next_unclaimed (statuses desk) k (subst (λ (b : Bool). is_next (statuses desk) k b ≡ true) unknown c.next) in
     let fresh = fresh_slot desk k (slot_at desk k) (kept.slots k within) (ap is_unclaimed (sym (at_slots desk.slots k)) ∙ next) in
-    let from : claim.chunk.from ≡ start_of desk.cuts k = c.from ∙ largest desk.place (start_of desk.cuts k) fresh.behind in
-    (
+    let from : claim.chunk.from ≡ start_of desk.cuts k = c.from ∙ largest desk.place (start_of desk.cuts k) fresh.behind in (
       ap (λ t. take claim.chunk.from t) c.page ∙ ap (λ n. take n desk.text) from,
       ap (λ t. slice_range t claim.chunk.from claim.chunk.to) c.page ∙ (ap (λ n. slice_range desk.text n claim.chunk.to) from ∙ ap (λ n. slice_range desk.text (start_of desk.cuts k) n) c.to),
     )
@@ -163,7 +162,7 @@ taken_on desk mid new tally between later kind claim made kept free main short f
       free = less.1;
       stays = λ others text cuts o. stays_push mid new between later two second journal2 refl up2 main2 short2 others text cuts (stays_push desk mid tally between one first journal1 refl up main (omega (arith, short)) others text cuts o);
       by = λ before. subst (λ (es : List Entry). AreByKind kind es) (sym journal2)
-        (push_by kind mid.journal two (subst (λ (es : List Entry). AreByKind kind es) (sym journal1) (push_by kind desk.journal one before tt)) origin);
+          (push_by kind mid.journal two (subst (λ (es : List Entry). AreByKind kind es) (sym journal1) (push_by kind desk.journal one before tt)) origin);
     }
 
 -- nothing was done yet

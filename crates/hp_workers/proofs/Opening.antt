@@ -34,9 +34,9 @@ count_below : (w n : ℕ) → w < n → count_by (bears w) (worker_tallies n) �
 unfolding worker_tallies
 count_below w zero below = absurd (omega (arith, below))
 count_below w (suc n) below = ⊎_elim
-  (λ (same : n ≡ w). count_one w n 0 (count_above w n (omega (arith, same))) (eq-eqb n w same))
-  (λ (other : n ≢ w). count_none w n 1 (count_below w n (omega (arith, below, other))) (ne_eqb n w other))
-  (cases_eq n w)
+    (λ (same : n ≡ w). count_one w n 0 (count_above w n (omega (arith, same))) (eq-eqb n w same))
+    (λ (other : n ≢ w). count_none w n 1 (count_below w n (omega (arith, below, other))) (ne_eqb n w other))
+    (cases_eq n w)
 
 length_workers : (n : ℕ) → length (worker_tallies n) ≡ n
 unfolding worker_tallies

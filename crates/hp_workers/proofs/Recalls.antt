@@ -28,9 +28,9 @@ released_free w desk n s is within before = one s is
     put_free : (new : Slot) → is_claimed new ≡ false → FreeBefore (n + 1) (set desk.slots n new)
     put_free new own k small =
         ⊎_elim
-          (λ same. subst (λ i. is_claimed (get_or (set desk.slots n new) i slot.Done) ≡ false) (sym same) (rw (get_or-set_same desk.slots n new slot.Done within) own))
-          (λ other. rw (get_or-set_other desk.slots n k new slot.Done other) (before k (omega (arith, other))))
-          (cases_eq k n)
+        (λ same. subst (λ i. is_claimed (get_or (set desk.slots n new) i slot.Done) ≡ false) (sym same) (rw (get_or-set_same desk.slots n new slot.Done within) own))
+        (λ other. rw (get_or-set_other desk.slots n k new slot.Done other) (before k (omega (arith, other))))
+        (cases_eq k n)
 
     one : (s : Slot) → slot_at desk n ≡ s → FreeBefore (n + 1) (released_by w desk n (released_slot s)).slots
     one slot.Unclaimed is = kept_free slot.Unclaimed is refl

@@ -60,11 +60,11 @@ nothing_left desk slot.Done fits idle free again fresh = omega (arith, fits)
 pub all_done : (desk : Desk) → IsKept desk → IsFree desk → IsAllClaimed desk → is_posted (at (statuses desk) desk.done) ≡ false → IsDone desk
 all_done desk kept free all idle =
     let more : desk.done < length desk.slots → ⊥ = λ left.
-      let here : desk.done < length (statuses desk) = omega (arith, length-map desk.slots status_of, left) in
-      let is = at_slots desk.slots desk.done in
-      nothing_left desk (slot_at desk desk.done) (kept.slots desk.done left) (ap is_posted (sym is) ∙ idle) (free desk.done)
-        (ap is_again (sym is) ∙ none_at is_again (statuses desk) desk.done all.again here)
-        (ap is_unclaimed (sym is) ∙ none_at is_unclaimed (statuses desk) desk.done all.unclaimed here) in
+    let here : desk.done < length (statuses desk) = omega (arith, length-map desk.slots status_of, left) in
+    let is = at_slots desk.slots desk.done in
+    nothing_left desk (slot_at desk desk.done) (kept.slots desk.done left) (ap is_posted (sym is) ∙ idle) (free desk.done)
+    (ap is_again (sym is) ∙ none_at is_again (statuses desk) desk.done all.again here)
+    (ap is_unclaimed (sym is) ∙ none_at is_unclaimed (statuses desk) desk.done all.unclaimed here) in
     omega (arith, kept.bound, more)
 
 -- what is made is of the kind of the claim, and where that is from a known state, from this one

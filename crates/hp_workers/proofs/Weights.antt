@@ -43,9 +43,9 @@ IsLighter desk new = (weight new < weight desk) × IsFree new
 
 pub lighter_by : (desk new : Desk) (k : ℕ) (s : Slot) → new.slots ≡ set desk.slots k s → k < length desk.slots → weight_of s < weight_of (slot_at desk k) → is_claimed s ≡ false → IsFree desk → IsLighter desk new
 lighter_by desk new k s slots within less own free = (
-    rw slots (lighter desk.slots k s (slot_at desk k) within refl less),
-    subst AreFree (sym slots) (free_set desk.slots k s own free),
-  )
+  rw slots (lighter desk.slots k s (slot_at desk k) within refl less),
+  subst AreFree (sym slots) (free_set desk.slots k s own free),
+)
 
 -- the fragment is a guess where a pair is false, or where less than its text is covered
 false_weight : (s : ControlState) (f : Fragment) (q : Question) (a : Answer) → IsFalseOf s f q a → weight_posted f ≡ 3

@@ -154,9 +154,12 @@ fn run_threads<'p, R: Threads + Wait + Sync, G: Gate + Sync>(
     let threads = tallies.len().max(1);
     let desk = Mutex::new(board);
     let shared = &desk;
-    thread::for_each_mut(rt, tallies, threads, &|_, tally| {
-        work(rt, alloc, shared, tally, kind, gate, turns)
-    });
+    thread::for_each_mut(
+        rt,
+        tallies,
+        threads,
+        &|_, tally| { work(rt, alloc, shared, tally, kind, gate, turns) },
+    );
     desk.into_inner()
 }
 

@@ -204,7 +204,11 @@ fn assert_page<R: Threads + Wait + Sync + Abort>(rt: &R, alloc: Global, workers:
         for chunk in 1..6 {
             let judgement = first_judgement(journal.as_slice(), chunk);
             let wanted = judgement_of(chunk, wanted[chunk as usize - 1]);
-            assert_eq!(rt; judgement, Some(wanted), "by {kind:?} and {workers} workers");
+            assert_eq!(rt;
+                judgement,
+                Some(wanted),
+                "by {kind:?} and {workers} workers"
+            );
         }
         mem::forget(journal);
     }
