@@ -1,12 +1,15 @@
 -- What was written of a page.
-use Rattle.std.proofs.Common.{◌≡◌, ℕ, List, [], ap, ◌∙◌, subst}
-use Rattle.std.specs.Prelude.{Option, None, Some, IfSome, Result, Ok, Err}
+use Rattle.std.proofs.Common.{◌≡◌, ◌≤◌, ℕ, Bool, true, false, List, [], length, drop, ap, arith, ◌∙◌, subst, sym}
+use Rattle.std.specs.Prelude.{Option, None, Some, IfSome, Result, Ok, Err, if◌then◌else◌, nat_eq}
+use Rattle.std.specs.List.{starts_with}
+use Rattle.std.proofs.lemmas.List.{length-drop}
 use Rattle.std.specs.Result.{IsOk, OnOk}
 use Rattle.std.specs.Str.{chars}
 use Rattle.hp_print.specs.Faults.{IsFault, OnFault}
 use Rattle.hp_print.specs.declared.walk.Refusal.{Refusal}
 use Rattle.hp_print.specs.declared.walk.Refusal.TheVariants.{NoMemory, Fault}
-use Rattle.hp_text.specs.Text.{without_mark}
+use Rattle.hp_text.specs.Text.{byte_order_mark, without_mark}
+use Rattle.hp_text.specs.declared.reading.TheConstants.{PAGE_LIMIT}
 use Rattle.hp_program.specs.Answers.{ComesExactly, IsText, TakesPage, TakesPagePart, TakesSomePage, TakesSomePagePart, TakesTreeOf, TakesTreePartOf}
 use Rattle.hp_program.specs.declared.status.Status.{Status}
 
@@ -16,6 +19,17 @@ takes_page bytes page old new is taken = subst (λ (p : List ℕ). TakesTreeOf (
 
 pub takes_page_part : (bytes page : List ℕ) (old new : Option (List ℕ)) → page ≡ without_mark bytes → TakesTreePartOf (chars page) old new → TakesPagePart bytes old new
 takes_page_part bytes page old new is taken = subst (λ (p : List ℕ). TakesTreePartOf (chars p) old new) is taken
+
+drop-shorter : (n : ℕ) (xs : List ℕ) → length (drop n xs) ≤ length xs
+drop-shorter n xs = omega (arith, length-drop n xs)
+
+-- the page's text is no longer than the bytes
+pub text-within : (bytes page : List ℕ) → page ≡ without_mark bytes → length bytes ≤ PAGE_LIMIT → length page ≤ PAGE_LIMIT
+text-within bytes page is within = subst (λ (p : List ℕ). length p ≤ PAGE_LIMIT) (sym is) (by_cases (starts_with nat_eq bytes byte_order_mark))
+  where
+    by_cases : (b : Bool) → length (if b then drop 3 bytes else bytes) ≤ PAGE_LIMIT
+    by_cases true = let shorter : length (drop 3 bytes) ≤ length bytes = drop-shorter 3 bytes in omega (arith, shorter, within)
+    by_cases false = within
 
 -- what a write that was done ensures
 pub of_ok : (outcome : Result (Unit {0}) Refusal) (P : Type 0) → IsOk outcome → OnOk outcome P → P

@@ -3,11 +3,11 @@ ghost use Rattle.std.specs.Prelude.{◌≡◌, ◌≢◌, ◌⊎◌, ◌↔◌, 
 ghost use Rattle.hp_text.specs.Device.{Rose, Gives};
 ghost use Rattle.hp_program.specs.Answers.{IsTooLarge, IsNotText, IsText, ComesExactly, TakesPage, TakesPagePart, TakesSomePage, TakesSomePagePart};
 
-use crate::gate::Gate;
 use crate::status::Status;
 use crate::top::hpar;
 use crate::words::Words;
 use hp_text::{PAGE_LIMIT, Sink, Source};
+use hp_workers::Gate;
 use std::alloc::Global;
 use std::sync::Wait;
 use std::thread::Threads;

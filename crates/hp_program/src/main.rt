@@ -2,7 +2,7 @@
 #![tactic(auto)]
 
 mod answering;
-mod gate;
+mod parsing;
 mod status;
 #[cfg(test)]
 mod tests;
@@ -10,8 +10,8 @@ mod top;
 mod words;
 
 pub use answering::answer;
-pub use gate::{Gate, OpenGate};
 use hp_text::{StreamSink, StreamSource};
+pub use hp_workers::{Gate, OpenGate};
 pub use status::Status;
 use std::process::ExitCode;
 pub use top::{answer_page, hpar};

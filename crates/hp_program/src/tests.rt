@@ -230,6 +230,61 @@ fn markup_is_parsed(rt: HostRuntime) {
     assert_cases(&rt, MARKUP);
 }
 
+/// A page of two chunks: what it begins with, and what comes behind it so many times; and how these are printed.
+type Long = (&'static str, &'static str, &'static str, &'static str);
+
+/// In the first one the guess that the second chunk begins within the body is right. In the other one the table was opened too far
+/// before to be seen.
+const LONG: &[Long] = &[
+    (
+        "",
+        "<p>one two",
+        "| <html>\n|   <head>\n|   <body>\n",
+        "|     <p>\n|       \"one two\"\n",
+    ),
+    (
+        "<table>",
+        "<tr><td>one",
+        "| <html>\n|   <head>\n|   <body>\n|     <table>\n|       <tbody>\n",
+        "|         <tr>\n|           <td>\n|             \"one\"\n",
+    ),
+];
+
+/// A text, and another one behind it so many times. It stays to the test's end.
+fn repeated<R: AllocGlobal + Abort>(rt: &R, first: &str, again: &str, times: usize) -> Vec<u8> {
+    let mut text = String::from_str(rt.alloc(), first).expect(rt, "there is memory");
+    let rest = again
+        .repeat(rt.alloc(), times)
+        .expect(rt, "there is memory");
+    text.push_str(rest.as_str()).expect(rt, "there is memory");
+    mem::forget(rest);
+    text.into_bytes()
+}
+
+/// A run over a page of some 66,000 bytes answers `Done` and writes this.
+fn assert_long<R: Threads + Wait + Sync + AllocGlobal + Abort>(
+    rt: &R,
+    (first, again, printed_first, printed_again): Long,
+) {
+    let times = 66_000 / again.len().max(1);
+    let bytes = repeated(rt, first, again, times);
+    let wanted = repeated(rt, printed_first, printed_again, times);
+    let mut out = room_for(rt, wanted.len());
+    let status = run_over(rt, &[], &mut SteadySource::new(&bytes), &mut out);
+    let same = out.taken() == wanted.as_slice();
+    mem::forget(out);
+    mem::forget(wanted);
+    mem::forget(bytes);
+    assert_eq!(rt; (status, same), (Status::Done, true), "over {again:?}");
+}
+
+#[test]
+fn pages_of_two_chunks_are_parsed(rt: HostRuntime) {
+    for long in LONG {
+        assert_long(&rt, *long);
+    }
+}
+
 #[test]
 fn a_word_is_none_that_is_known(rt: HostRuntime) {
     let mut page = MemorySource::new(rt.alloc(), b"hello", 5, &[0]).expect(&rt, "there is memory");

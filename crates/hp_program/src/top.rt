@@ -11,13 +11,13 @@ ghost use Rattle.hp_print.specs.Print.{print};
 ghost use Rattle.std.specs.Io.KnownBytes.{append_known};
 ghost use Rattle.std.specs.Str.{chars};
 
-use crate::gate::Gate;
+use crate::parsing::parse;
 use crate::status::Status;
 use crate::words::Words;
 use hp_arena::Tree;
-use hp_fragment::parse_whole;
 use hp_print::{Refusal, write_tree};
 use hp_text::{PAGE_LIMIT, Page, ReadRefusal, Sink, Source, check_page, read_page};
+use hp_workers::Gate;
 use std::alloc::Global;
 use std::mem;
 use std::sync::Wait;
@@ -50,13 +50,20 @@ fn write_parsed<K: Sink>(alloc: Global, tree: Tree<'_>, out: &mut K) -> Result<(
 }
 
 /// Writes the printed tree of a page to `out`.
-fn write_page<K: Sink>(alloc: Global, page: Page<'_>, out: &mut K) -> Result<(), Refusal>
+fn write_page<R: Threads + Wait + Sync, K: Sink, G: Gate + Sync>(
+    rt: &R,
+    alloc: Global,
+    page: Page<'_>,
+    out: &mut K,
+    gate: &G,
+) -> Result<(), Refusal>
+    requires limit { length (text_of page) ≤ PAGE_LIMIT }
     ensures whole { OnOk result (TakesTreeOf (chars (text_of page.entry)) (K.taken out.old) (K.taken out.new)) }
     ensures part { OnFault result (λ _. TakesTreePartOf (chars (text_of page.entry)) (K.taken out.old) (K.taken out.new)) }
     ensures failed { OnFault result (λ _. Rose (K.faults out.old) (K.faults out.new)) }
     ensures nothing { result ≡ Err Refusal.NoMemory → out.new ≡ out.old }
 {
-    match parse_whole(alloc, page) {
+    match parse(rt, alloc, page, gate) {
         Ok(tree) => write_parsed(alloc, tree, out),
         Err(_) => Err(Refusal::NoMemory),
     }
@@ -77,20 +84,28 @@ fn status_of(outcome: Result<(), Refusal>) -> Status
 }
 
 /// Writes the printed tree of a page to `out`, and answers the status.
-fn put_page<K: Sink>(alloc: Global, page: Page<'_>, out: &mut K) -> Status
+fn put_page<R: Threads + Wait + Sync, K: Sink, G: Gate + Sync>(
+    rt: &R,
+    alloc: Global,
+    page: Page<'_>,
+    out: &mut K,
+    gate: &G,
+) -> Status
+    requires limit { length (text_of page) ≤ PAGE_LIMIT }
     ensures answers { (result ≡ Status.Done) ⊎ (result ≡ Status.WriteFault) ⊎ (result ≡ Status.NoMemory) }
     ensures done { result ≡ Status.Done → TakesTreeOf (chars (text_of page.entry)) (K.taken out.old) (K.taken out.new) }
     ensures write_fault { result ≡ Status.WriteFault → Rose (K.faults out.old) (K.faults out.new) }
     ensures part { result ≡ Status.WriteFault → TakesTreePartOf (chars (text_of page.entry)) (K.taken out.old) (K.taken out.new) }
     ensures nothing { result ≡ Status.NoMemory → out.new ≡ out.old }
 {
-    status_of(write_page(alloc, page, out))
+    status_of(write_page(rt, alloc, page, out, gate))
 }
 
 /// The page of these bytes; `None` where they are no text.
 fn page_of(bytes: &[u8]) -> Option<Page<'_>>
     requires { length bytes.now ≤ PAGE_LIMIT }
     ensures text { IfSome result (λ page. text_of page ≡ without_mark bytes.now) }
+    ensures within { IfSome result (λ page. length (text_of page) ≤ PAGE_LIMIT) }
     ensures is_text { IfSome result (λ _. IsText bytes.now) }
     ensures no_text { IfNone result (IsNotText bytes.now) }
 {
@@ -102,7 +117,13 @@ fn page_of(bytes: &[u8]) -> Option<Page<'_>>
 
 /// Writes the printed tree of the page of these bytes to `out`.
 #[tactic(auto, using(crate::proofs::Written::takes_page, crate::proofs::Written::takes_page_part))]
-fn put_tree<K: Sink>(alloc: Global, bytes: &[u8], out: &mut K) -> Status
+fn put_tree<R: Threads + Wait + Sync, K: Sink, G: Gate + Sync>(
+    rt: &R,
+    alloc: Global,
+    bytes: &[u8],
+    out: &mut K,
+    gate: &G,
+) -> Status
     requires { length bytes.now ≤ PAGE_LIMIT }
     ensures answers { (result ≡ Status.Done) ⊎ (result ≡ Status.WriteFault) ⊎ (result ≡ Status.NotUtf8) ⊎ (result ≡ Status.NoMemory) }
     ensures not_utf8 { result ≡ Status.NotUtf8 → IsNotText bytes.now }
@@ -114,16 +135,22 @@ fn put_tree<K: Sink>(alloc: Global, bytes: &[u8], out: &mut K) -> Status
     ensures nothing { result ≢ Status.Done → result ≢ Status.WriteFault → out.new ≡ out.old }
 {
     match page_of(bytes) {
-        Some(page) => put_page(alloc, page, out),
+        Some(page) => put_page(rt, alloc, page, out, gate),
         None => Status::NotUtf8,
     }
 }
 
 /// Reads the page, and writes its printed tree to `out`. The first refusal decides, in the order reading, UTF-8, writing;
-/// want of memory may come at any of them. This is all that [`hpar`] does where there is no word. It has no bound `Wait`,
-/// under which a function owes no return: it is proved to end.
+/// want of memory may come at any of them. This is all that [`hpar`] does where there is no word. It promises this where it returns:
+/// by its bound `Wait` it owes no return.
 #[tactic(auto, using(crate::proofs::Written::takes_some, crate::proofs::Written::takes_some_part, crate::proofs::Written::of_page))]
-pub fn answer_page<S: Source, K: Sink>(alloc: Global, page: &mut S, out: &mut K) -> Status
+pub fn answer_page<R: Threads + Wait + Sync, S: Source, K: Sink, G: Gate + Sync>(
+    rt: &R,
+    alloc: Global,
+    page: &mut S,
+    out: &mut K,
+    gate: &G,
+) -> Status
     ensures no_usage { result ≢ Status.Usage }
     ensures too_large { IfSome (S.left page.old) (λ bytes. ComesExactly Status.TooLarge
         (IsTooLarge bytes) result (Rose (S.faults page.old) (S.faults page.new))) }
@@ -150,13 +177,13 @@ pub fn answer_page<S: Source, K: Sink>(alloc: Global, page: &mut S, out: &mut K)
         Ok(bytes) => bytes,
         Err(refusal) => return refused(refusal),
     };
-    put_tree(alloc, &bytes, out)
+    put_tree(rt, alloc, &bytes, out, gate)
 }
 
 /// Reads the page, and writes its printed tree to `out`. The first refusal decides, in the order words, reading,
 /// UTF-8, writing; want of memory may come at any of them. `left` and `taken` tell what was read and
-/// written, where the page and the output tell it. Where there is no word, this is [`answer_page`], which is proved to end.
-/// `rt` and `gate` aren't used yet, and nothing is written to `notes`.
+/// written, where the page and the output tell it. Where there is no word, this is [`answer_page`]. A worker
+/// passes the gate before it guesses a chunk. Nothing is written to `notes`.
 pub fn hpar<R: Threads + Wait + Sync, S: Source, K: Sink, N: Sink, G: Gate + Sync>(
     rt: &R,
     alloc: Global,
@@ -205,5 +232,5 @@ pub fn hpar<R: Threads + Wait + Sync, S: Source, K: Sink, N: Sink, G: Gate + Syn
     if !words.is_empty() {
         return Status::Usage;
     }
-    answer_page(alloc, page, out)
+    answer_page(rt, alloc, page, out, gate)
 }
