@@ -143,47 +143,115 @@ fn judged(step: BoardStep) -> Option<u32> {
     }
 }
 
-/// What the journal says of the chunk's first fragment.
-fn first_judgement(journal: &[Entry], chunk: u32) -> Option<BoardStep> {
+/// What the journal says first of the chunk that this step judges.
+fn judgement_like(journal: &[Entry], step: BoardStep) -> Option<BoardStep> {
+    let chunk = judged(step);
     for entry in journal {
-        if judged(entry.step) == Some(chunk) {
+        if judged(entry.step) == chunk {
             return Some(entry.step);
         }
     }
     None
 }
 
-/// What becomes of the guesses of the page's chunks behind the first, by each predictor: each is kept, or else rolled back on a question
-/// of that kind.
-const JUDGED: &[(GuessKind, [Option<QuestionKind>; 5])] = &[
+/// What becomes first of the guesses of the page's chunks behind the first, by each predictor.
+const JUDGED: &[(GuessKind, BoardStep)] = &[
     (
         GuessKind::Quiet,
-        [
-            Some(QuestionKind::Entry),
-            Some(QuestionKind::Entry),
-            None,
-            Some(QuestionKind::Pointer),
-            Some(QuestionKind::Entry),
-        ],
+        BoardStep::RolledBack {
+            chunk: 1,
+            kind: QuestionKind::Entry,
+        },
+    ),
+    (
+        GuessKind::Quiet,
+        BoardStep::RolledBack {
+            chunk: 2,
+            kind: QuestionKind::Entry,
+        },
+    ),
+    (GuessKind::Quiet, BoardStep::Kept { chunk: 3 }),
+    (
+        GuessKind::Quiet,
+        BoardStep::RolledBack {
+            chunk: 4,
+            kind: QuestionKind::Pointer,
+        },
+    ),
+    (
+        GuessKind::Quiet,
+        BoardStep::RolledBack {
+            chunk: 5,
+            kind: QuestionKind::Entry,
+        },
     ),
     (
         GuessKind::Prescan,
-        [
-            Some(QuestionKind::Entry),
-            Some(QuestionKind::Entry),
-            None,
-            None,
-            None,
-        ],
+        BoardStep::RolledBack {
+            chunk: 1,
+            kind: QuestionKind::Entry,
+        },
     ),
-    (GuessKind::Contrary, [Some(QuestionKind::Entry); 5]),
+    (
+        GuessKind::Prescan,
+        BoardStep::RolledBack {
+            chunk: 2,
+            kind: QuestionKind::Entry,
+        },
+    ),
+    (GuessKind::Prescan, BoardStep::Kept { chunk: 3 }),
+    (GuessKind::Prescan, BoardStep::Kept { chunk: 4 }),
+    (GuessKind::Prescan, BoardStep::Kept { chunk: 5 }),
+    (
+        GuessKind::Contrary,
+        BoardStep::RolledBack {
+            chunk: 1,
+            kind: QuestionKind::Entry,
+        },
+    ),
+    (
+        GuessKind::Contrary,
+        BoardStep::RolledBack {
+            chunk: 2,
+            kind: QuestionKind::Entry,
+        },
+    ),
+    (
+        GuessKind::Contrary,
+        BoardStep::RolledBack {
+            chunk: 3,
+            kind: QuestionKind::Entry,
+        },
+    ),
+    (
+        GuessKind::Contrary,
+        BoardStep::RolledBack {
+            chunk: 4,
+            kind: QuestionKind::Entry,
+        },
+    ),
+    (
+        GuessKind::Contrary,
+        BoardStep::RolledBack {
+            chunk: 5,
+            kind: QuestionKind::Entry,
+        },
+    ),
 ];
 
-/// The judgement of a chunk that is kept, or else rolled back on a question of that kind.
-fn judgement_of(chunk: u32, failed: Option<QuestionKind>) -> BoardStep {
-    match failed {
-        None => BoardStep::Kept { chunk },
-        Some(kind) => BoardStep::RolledBack { chunk, kind },
+const KINDS: [GuessKind; 3] = [GuessKind::Quiet, GuessKind::Prescan, GuessKind::Contrary];
+
+/// The journal says of the page's guesses by this predictor what they become.
+fn assert_judged(rt: &impl Abort, journal: &[Entry], kind: GuessKind, workers: u32) {
+    for (by, wanted) in JUDGED {
+        if *by == kind {
+            let judgement = judgement_like(journal, *wanted);
+            assert_eq!(rt;
+                judgement,
+                Some(*wanted),
+                "by {kind:?} and {workers} workers"
+            );
+        }
     }
 }
 
@@ -194,22 +262,14 @@ fn assert_page<R: Threads + Wait + Sync + Abort>(rt: &R, alloc: Global, workers:
 {
     let page = page_of(rt, PAGE);
     let cuts = cuts_at_tags(alloc, page, 64).expect(rt, "there is memory");
-    for (kind, wanted) in JUDGED {
+    for kind in KINDS {
         let by = By {
-            kind: *kind,
+            kind,
             workers,
             gate: &OpenGate,
         };
         let journal = journal_of(rt, alloc, page, &cuts, by, TREE);
-        for chunk in 1..6 {
-            let judgement = first_judgement(journal.as_slice(), chunk);
-            let wanted = judgement_of(chunk, wanted[chunk as usize - 1]);
-            assert_eq!(rt;
-                judgement,
-                Some(wanted),
-                "by {kind:?} and {workers} workers"
-            );
-        }
+        assert_judged(rt, journal.as_slice(), kind, workers);
         mem::forget(journal);
     }
     mem::forget(cuts);
