@@ -13,8 +13,6 @@ mod posts;
 mod slot;
 mod steps;
 mod tally;
-#[cfg(test)]
-mod tests;
 
 pub use board::Board;
 pub use hp_elements::NoMemory;
