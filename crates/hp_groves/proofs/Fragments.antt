@@ -521,11 +521,11 @@ outer-named f next (e ∷ es) h =
 one-below : 0 < 1
 one-below = omega arith
 
-alone : (s : ControlState) (es : List Edit) (b : IsBelow s es) → Splits s b.document 1 one-below (empty_hand s.next) (empty_hand 1) es
-alone s es b = splits s b.document 1 one-below es (empty_hand s.next) (empty_hand 1) (twins-first s b.document 1 one-below) b.older
+alone : (s : ControlState) (es : List Edit) (b : IsBelow s es) → let first : 0 < s.next = b.document in Splits s first 1 one-below (empty_hand s.next) (empty_hand 1) es
+alone s es b = let first : 0 < s.next = b.document in splits s first 1 one-below es (empty_hand s.next) (empty_hand 1) (twins-first s first 1 one-below) b.older
 
 pub grove-is_own : GroveIsOwn
-grove-is_own s es b = ap (grove_of s.next) (all-named s es) ∙ groves-numbered s b.document 1 one-below _ _ (alone s es b).grove
+grove-is_own s es b = let first : 0 < s.next = b.document in ap (grove_of s.next) (all-named s es) ∙ groves-numbered s first 1 one-below _ _ (alone s es b).grove
 
 pub outer-is_own : OuterIsOwn
 outer-is_own s es b =

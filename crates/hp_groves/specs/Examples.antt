@@ -1,5 +1,5 @@
--- Small lists of edits, with what is inner and outer in each by the words above. The page is `<div>`: document 0, html 1, head 2, body 3 and
--- div 4 are older, own elements count from 5.
+-- Small lists of edits, with what is inner and outer in each by the words above. The page is `<div>`: the ids of
+-- html, head, body and div are 1 to 4, the document's is 0, and own elements count from 5.
 use Rattle.std.specs.Prelude.{◌≡◌, ℕ, List, [], ◌∷◌, ◌++◌, map}
 use Rattle.hp_elements.specs.KnownNames as known
 use Rattle.hp_elements.specs.declared.known.Known.{Known}
