@@ -1,0 +1,51 @@
+//! The values of the options.
+ghost use Rattle.std.specs.Prelude.{◌≡◌, option_map};
+ghost use Rattle.clap.specs.Words.{first_of, found_of, rows_of};
+ghost use Rattle.clap.specs.Takes.{is_given};
+ghost use Rattle.hp_words.specs.Options.{options_in, texts_of};
+
+use clap::ArgMatches;
+use clap::parser::ValueSource;
+
+/// The values of the options as they stand in the words, and whether a report is asked for.
+#[derive(Clone, Copy)]
+pub struct Options<'a> {
+    pub workers: Option<&'a str>,
+    pub chunk: Option<&'a str>,
+    pub cuts: Option<&'a str>,
+    pub guess: Option<&'a str>,
+    pub report: bool,
+    pub make: Option<&'a str>,
+    pub drill: Option<&'a str>,
+    pub bytes: Option<&'a str>,
+}
+
+/// The value of an option.
+fn value<'a>(matches: &ArgMatches<'a>, name: &str) -> Option<&'a str>
+    ensures { option_map (λ text. text.now) result ≡ first_of name.now (rows_of (found_of matches.now)) }
+{
+    matches.get_str(name)
+}
+
+/// Whether an option stands in the words.
+fn is_given(matches: &ArgMatches<'_>, name: &str) -> bool
+    ensures { result ≡ is_given name.now (rows_of (found_of matches.now)) }
+{
+    matches!(matches.value_source(name), Some(ValueSource::CommandLine))
+}
+
+/// The options of what clap found.
+pub fn options_found<'a>(matches: &ArgMatches<'a>) -> Options<'a>
+    ensures { texts_of result ≡ options_in (rows_of (found_of matches.now)) }
+{
+    Options {
+        workers: value(matches, "workers"),
+        chunk: value(matches, "chunk"),
+        cuts: value(matches, "cuts"),
+        guess: value(matches, "guess"),
+        report: is_given(matches, "report"),
+        make: value(matches, "make"),
+        drill: value(matches, "drill"),
+        bytes: value(matches, "bytes"),
+    }
+}

@@ -1,0 +1,74 @@
+//! What the words ask for, as types.
+ghost use Rattle.std.specs.Prelude.{◌≡◌};
+
+use hp_predict::GuessKind;
+use std::marker::Model;
+
+/// What the words ask for.
+#[derive(Drop)]
+pub enum Setting {
+    /// The page on the standard input is parsed (no mode).
+    Page(PageSetting),
+    /// The page of a seed is written.
+    Make {
+        seed: u64,
+        bytes: u32,
+    },
+    /// The page of a seed is parsed with both cutters and the three predictors, and counts are written.
+    Drill {
+        seed: u64,
+        bytes: u32,
+        workers: u32,
+        chunk: u32,
+    },
+}
+
+/// How the page on the standard input is parsed.
+#[derive(Drop)]
+pub struct PageSetting {
+    /// How many workers parse it: 1 to 64.
+    pub workers: u32,
+    pub cutting: CutSetting,
+    pub guess: GuessKind,
+    /// A line for each chunk, and one of their sum, is written to the notes.
+    pub report: bool,
+}
+
+/// Where the page is cut.
+#[derive(Drop)]
+pub enum CutSetting {
+    /// At tags, into chunks of about `size` bytes: 64 to 16,777,216.
+    AtTags { size: u32 },
+    /// At places that the words list.
+    Listed { places: Places },
+}
+
+/// The places that the words list, in bytes of the text, each below 2^32 and in the order of the words. A contract sees the list.
+#[derive(Drop)]
+pub struct Places {
+    items: Vec<u64>,
+}
+
+impl Model for Places {
+    ghost use Rattle.std.specs.Prelude.{List, ℕ};
+
+    ghost Value = { List ℕ };
+
+    ghost view = { λ p. p.items.items };
+}
+
+impl Places {
+    /// The places as a list that was read.
+    pub(crate) fn new(items: Vec<u64>) -> Places
+        ensures { result ≡ items.items }
+    {
+        Places { items }
+    }
+
+    /// The places in the order of the words.
+    pub fn as_slice(&self) -> &[u64]
+        ensures { result.now ≡ self.now }
+    {
+        self.items.as_slice()
+    }
+}
