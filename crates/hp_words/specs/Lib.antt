@@ -5,3 +5,4 @@ pub mod Options
 pub mod Numbers
 pub mod Settings
 pub mod Within
+pub mod Examples

@@ -1,8 +1,8 @@
 -- Numbers in words.
 use Rattle.std.specs.Prelude.{ℕ, ◌&&◌, ◌==◌, Bool, List, [], ◌∷◌, map, length, Option, Some, None, if◌then◌else◌, option_map, option_and_then}
 use Rattle.std.specs.Int.{is_in_range}
-use Rattle.std.specs.List.{slice_split}
-use Rattle.std.specs.Str.{all_ascii_digits}
+use Rattle.std.specs.List.{list_all, slice_split}
+use Rattle.std.specs.Char.{is_ascii_digit}
 use Rattle.std.specs.Str.Parse.{digits_value}
 
 -- what `next` makes of a value, where there is one
@@ -11,7 +11,7 @@ from value next = option_and_then next value
 
 -- 1 to 20 ASCII digits
 abbrev pub is_numeral : List ℕ → Bool
-is_numeral text = is_in_range 1 20 (length text) && all_ascii_digits text
+is_numeral text = is_in_range 1 20 (length text) && list_all is_ascii_digit text
 
 -- the number that a text writes, where it lies within two bounds
 abbrev pub number : ℕ → ℕ → List ℕ → Option ℕ

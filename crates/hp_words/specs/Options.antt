@@ -1,9 +1,11 @@
 -- The options that stand in the words.
-use Rattle.std.specs.Prelude.{Bool, List, [], ◌∷◌, Option, Some, None, codes, option_map}
+use Rattle.std.specs.Prelude.{Bool, true, false, List, [], ◌∷◌, Option, Some, None, codes, find, option_and_then, option_map}
+use Rattle.std.specs.Str.{bytes_eq}
 use Rattle.clap.specs.Words.{Row, Text, fault_of, first_of, matches_of}
 use Rattle.clap.specs.Kinds.{Kinds}
-use Rattle.clap.specs.Takes.{is_given}
 use Rattle.hp_words.specs.Command.{app}
+use Rattle.clap.specs.declared.parser.matches.ValueSource.{ValueSource}
+use Rattle.clap.specs.declared.parser.matches.ValueSource.TheVariants.{CommandLine}
 use Rattle.hp_words.specs.declared.options.Options.{Options}
 
 -- the values of the options as texts, and whether a report is asked for
@@ -16,6 +18,15 @@ pub record Values : Type 0 where
   pub make : Option Text
   pub drill : Option Text
   pub bytes : Option Text
+
+-- the value comes from a word, and is no default
+abbrev pub is_from_word : Option ValueSource → Bool
+is_from_word (Some CommandLine) = true
+is_from_word _ = false
+
+-- the option stands in a word
+abbrev pub is_given : Text → List Row → Bool
+is_given name rows = is_from_word (option_and_then (λ row. row.source) (find (λ row. bytes_eq row.id name) rows))
 
 -- the values in what clap found
 abbrev pub options_in : List Row → Values
@@ -49,5 +60,5 @@ where_faultless [] rows = Some (options_in rows)
 where_faultless (_ ∷ _) rows = None
 
 -- the values of the options of one simple command; none where clap's published reading refuses the words
-abbrev pub found : List Text → Option Values
+unfoldable pub found : List Text → Option Values
 found words = where_faultless (fault_of app words) (matches_of app words)

@@ -1,6 +1,7 @@
 -- The ranges that a setting keeps.
 use Rattle.std.specs.Prelude.{ℕ, ◌≤◌, ◌<◌, List}
 use Rattle.std.specs.List.{All}
+use Rattle.hp_words.specs.declared.setting.PageSetting.{PageSetting}
 use Rattle.hp_words.specs.declared.setting.Setting.{Setting}
 use Rattle.hp_words.specs.declared.setting.Setting.TheVariants.{Page, Make, Drill}
 use Rattle.hp_words.specs.declared.setting.CutSetting.{CutSetting}
@@ -16,19 +17,19 @@ abbrev pub IsCuttingWithin : CutSetting → Type 0
 IsCuttingWithin (AtTags size) = IsBetween 64 16777216 size
 IsCuttingWithin (Listed places) = All (λ place. place < 4294967296) places
 
--- the ranges of a page that is parsed: 1 to 64 workers
-pub record IsPageWithin (workers : ℕ) (cutting : CutSetting) : Type 0 where
-  pub workers : IsBetween 1 64 workers
-  pub cutting : IsCuttingWithin cutting
+-- a page is parsed by 1 to 64 workers
+pub record IsPageWithin (page : PageSetting) : Type 0 where
+  pub workers : IsBetween 1 64 page.workers
+  pub cutting : IsCuttingWithin page.cutting
 
--- the ranges of a drill
-pub record IsDrillWithin (bytes workers chunk : ℕ) : Type 0 where
-  pub bytes : IsBetween 1 16777216 bytes
-  pub workers : IsBetween 1 64 workers
-  pub chunk : IsBetween 64 16777216 chunk
+-- a drill makes a page of 1 to 16,777,216 bytes, and parses it by 1 to 64 workers in chunks of a size that it may have
+pub record IsDrillWithin (made asked size : ℕ) : Type 0 where
+  pub bytes : IsBetween 1 16777216 made
+  pub workers : IsBetween 1 64 asked
+  pub chunk : IsBetween 64 16777216 size
 
 -- each number of the setting lies in its range
 abbrev pub IsWithin : Setting → Type 0
-IsWithin (Page page) = IsPageWithin page.workers page.cutting
+IsWithin (Page page) = IsPageWithin page
 IsWithin (Make seed bytes) = IsBetween 1 16777216 bytes
 IsWithin (Drill seed bytes workers chunk) = IsDrillWithin bytes workers chunk

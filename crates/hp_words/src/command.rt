@@ -58,7 +58,9 @@ pub fn find_options<'a>(alloc: Global, words: &'a [String]) -> Result<Option<Opt
     let command = command(alloc)?;
     match command.try_get_matches_from(words) {
         Ok(matches) => Ok(Some(options_found(&matches))),
-        Err(error) if error.kind() == ErrorKind::OutOfMemory => Err(NoMemory),
-        Err(_) => Ok(None),
+        Err(error) => match error.kind() {
+            ErrorKind::OutOfMemory => Err(NoMemory),
+            _ => Ok(None),
+        },
     }
 }

@@ -1,6 +1,8 @@
 //! What the program's words ask for: a page is parsed, one is made, or the parser is drilled.
 #![tactic(auto)]
 
+ghost use Rattle.hp_words.specs.Examples.{Examples};
+
 mod command;
 mod numbers;
 mod options;
@@ -15,3 +17,8 @@ pub use hp_text::NoMemory;
 pub use reading::read_setting;
 pub use setting::{CutSetting, PageSetting, Places, Setting};
 pub use words::{Words, words_after_name};
+
+/// Lines of words ask for what they are meant to.
+pub fn settings_by_example()
+    ensures { Examples }
+{}

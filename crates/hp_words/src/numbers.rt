@@ -1,6 +1,7 @@
 //! Numbers in words.
 ghost use Rattle.std.specs.Prelude.{◌≡◌, IfOk, option_map};
-ghost use Rattle.std.specs.Str.{all_ascii_digits};
+ghost use Rattle.std.specs.Char.{is_ascii_digit};
+ghost use Rattle.std.specs.List.{list_all};
 ghost use Rattle.hp_words.specs.Numbers.{number, number_or, places_in};
 
 use crate::setting::Places;
@@ -15,9 +16,9 @@ const MAX_PLACE: u32 = 4_294_967_295;
 
 /// Whether each byte is an ASCII digit.
 fn is_digits(text: &str) -> bool
-    ensures { result ≡ all_ascii_digits text.now }
+    ensures { result ≡ list_all is_ascii_digit text.now }
 {
-    text.bytes().all(|byte| byte.is_ascii_digit())
+    text.as_bytes().iter().all(|byte| byte.is_ascii_digit())
 }
 
 /// The number that 1 to 20 ASCII digits write, where it lies within `low` and `high`.
@@ -27,9 +28,13 @@ pub fn number(text: &str, low: u64, high: u64) -> Option<u64>
     if text.len() > MAX_DIGITS || !is_digits(text) {
         return None;
     }
-    match text.parse::<u64>() {
-        Ok(number) if low <= number && number <= high => Some(number),
-        _ => None,
+    let Ok(number) = text.parse::<u64>() else {
+        return None;
+    };
+    if low <= number && number <= high {
+        Some(number)
+    } else {
+        None
     }
 }
 
@@ -45,7 +50,7 @@ pub fn small_number(text: &str, low: u32, high: u32) -> Option<u32>
 
 /// The number that an option's value writes, and the usual one where the option isn't there.
 pub fn number_or(usual: u32, value: Option<&str>, low: u32, high: u32) -> Option<u32>
-    ensures { result ≡ number_or usual low high (option_map (λ text. text.now) value) }
+    ensures { result ≡ number_or usual low high (option_map (λ text. text.now) value.entry) }
 {
     match value {
         Some(text) => small_number(text, low, high),

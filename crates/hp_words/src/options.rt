@@ -1,8 +1,7 @@
 //! The values of the options.
 ghost use Rattle.std.specs.Prelude.{◌≡◌, option_map};
 ghost use Rattle.clap.specs.Words.{first_of, found_of, rows_of};
-ghost use Rattle.clap.specs.Takes.{is_given};
-ghost use Rattle.hp_words.specs.Options.{options_in, texts_of};
+ghost use Rattle.hp_words.specs.Options.{is_from_word, is_given, options_in, texts_of};
 
 use clap::ArgMatches;
 use clap::parser::ValueSource;
@@ -27,11 +26,18 @@ fn value<'a>(matches: &ArgMatches<'a>, name: &str) -> Option<&'a str>
     matches.get_str(name)
 }
 
-/// Whether an option stands in the words.
+/// Whether a value comes from a word, and is no default.
+fn is_from_word(source: Option<ValueSource>) -> bool
+    ensures { result ≡ is_from_word source }
+{
+    matches!(source, Some(ValueSource::CommandLine))
+}
+
+/// Whether an option stands in a word.
 fn is_given(matches: &ArgMatches<'_>, name: &str) -> bool
     ensures { result ≡ is_given name.now (rows_of (found_of matches.now)) }
 {
-    matches!(matches.value_source(name), Some(ValueSource::CommandLine))
+    is_from_word(matches.value_source(name))
 }
 
 /// The options of what clap found.

@@ -34,7 +34,13 @@ pub fn read_setting(alloc: Global, words: &Words) -> Result<Option<Setting>, NoM
     ensures setting { IfOk result (λ setting. setting ≡ settings words.now) }
     ensures within { IfOk result (λ setting. IfSome setting IsWithin) }
 {
-    let words = words.as_slice();
+    setting_in(alloc, words.as_slice())
+}
+
+/// What a list of words asks for.
+fn setting_in(alloc: Global, words: &[String]) -> Result<Option<Setting>, NoMemory>
+    ensures { IfOk result (λ setting. setting ≡ settings (map string_bytes words.now)) }
+{
     if has_separator(words) {
         return Ok(None);
     }
@@ -68,13 +74,13 @@ fn page_of(alloc: Global, options: &Options<'_>) -> Result<Option<Setting>, NoMe
     ensures { IfOk result (λ setting. setting ≡ page_of (texts_of options.now)) }
 {
     let Some(workers) = number_or(USUAL_WORKERS, options.workers, 1, MAX_WORKERS) else {
-        return Ok(None)
+        return Ok(None);
     };
     let Some(guess) = guess_of(options.guess) else {
-        return Ok(None)
+        return Ok(None);
     };
     let Some(cutting) = cutting_of(alloc, options.cuts, options.chunk)? else {
-        return Ok(None)
+        return Ok(None);
     };
     Ok(Some(Setting::Page(PageSetting {
         workers,
@@ -90,7 +96,7 @@ fn cutting_of(
     cuts: Option<&str>,
     chunk: Option<&str>,
 ) -> Result<Option<CutSetting>, NoMemory>
-    ensures { IfOk result (λ cutting. cutting ≡ cutting_of (option_map (λ text. text.now) cuts) (option_map (λ text. text.now) chunk)) }
+    ensures { IfOk result (λ cutting. cutting ≡ cutting_of (option_map (λ text. text.now) cuts.entry) (option_map (λ text. text.now) chunk.entry)) }
 {
     match (cuts, chunk) {
         (None, chunk) => Ok(number_or(USUAL_CHUNK, chunk, MIN_CHUNK, MAX_BYTES).map(
@@ -103,7 +109,7 @@ fn cutting_of(
 
 /// The predictor of this name.
 fn guess_of(name: Option<&str>) -> Option<GuessKind>
-    ensures { result ≡ guess_of (option_map (λ text. text.now) name) }
+    ensures { result ≡ guess_of (option_map (λ text. text.now) name.entry) }
 {
     match name {
         None | Some("prescan") => Some(GuessKind::Prescan),
