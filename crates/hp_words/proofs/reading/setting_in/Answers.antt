@@ -10,7 +10,7 @@ returns-then-has_separator c = settings_separator (map string_bytes c.args.words
 pub returns-in-Some : goal.returns-in-Some
 returns-in-Some c =
     let found = settings_found (map string_bytes c.args.words.now) (Some (texts_of c.in-Some.options)) (sym c.has_separator.ensures ∙ c.if-has_separator.false)
-        (ap (option_map texts_of) (sym c.in-Some.is) ∙ c.in_ok-options.ensures) in
+    (ap (option_map texts_of) (sym c.in-Some.is) ∙ c.in_ok-options.ensures) in
     IfOk-weaker c.setting_of.result _ _ (λ setting is. is ∙ found) c.setting_of.ensures
 
 pub returns-in-None : goal.returns-in-None
