@@ -1,5 +1,5 @@
 -- Numbers in words: what `parse` tells, and the ranges that are kept.
-use Rattle.std.proofs.Common.{◌≡◌, ◌≢◌, ◌∙◌, subst, zero, suc, slice_index_or, ap, sym, refl, ℕ, ◌<◌, ◌≤◌, ◌^◌, ◌+◌, ◌&&◌, Bool, true, false, cond, List, [], ◌∷◌, ◌++◌, map, length, Option, None, Some, Result, Ok, Err, rules, arith, tests}
+use Rattle.std.proofs.Common.{◌≡◌, ◌∙◌, subst, zero, suc, slice_index_or, ap, sym, refl, ℕ, ◌<◌, ◌≤◌, ◌^◌, ◌&&◌, Bool, true, false, cond, List, [], ◌∷◌, ◌++◌, map, length, Option, None, Some, Result, Err, rules, arith}
 use Rattle.std.specs.Char.{is_ascii_digit}
 use Rattle.std.specs.Int.{is_in_range}
 use Rattle.std.specs.List.{All, list_all}

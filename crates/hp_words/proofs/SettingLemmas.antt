@@ -1,13 +1,11 @@
 -- Each setting keeps its ranges.
-use Rattle.std.proofs.Common.{◌≡◌, refl, ℕ, ◌<◌, Bool, true, false, cond, List, map, Option, None, Some, arith}
+use Rattle.std.proofs.Common.{◌≡◌, refl, ℕ, ◌<◌, Bool, true, false, cond, List, Option, None, Some, arith}
 use Rattle.std.specs.List.{All, slice_split}
 use Rattle.std.specs.Option.{IfSome}
 use Rattle.hp_words.specs.Numbers.{from, number, number_or, places_in}
 use Rattle.hp_words.specs.Options.{Values, found}
 use Rattle.hp_words.specs.Settings.{asks_for_page_alone, bytes_of, chunk_of, cutting_of, drill_of, guess_of, has_separator, make_of, page_of, seed_of, setting_of, settings, workers_of}
-use Rattle.hp_words.specs.Within.{IsBetween, IsCuttingWithin, IsDrillWithin, IsPageWithin, IsWithin}
-use Rattle.hp_words.specs.declared.setting.CutSetting.{CutSetting}
-use Rattle.hp_words.specs.declared.setting.Setting.{Setting}
+use Rattle.hp_words.specs.Within.{IsBetween, IsCuttingWithin, IsWithin}
 use Rattle.hp_words.proofs.NumberLemmas.{all_present-all, number_within}
 use Rattle.std.specs.Prelude.{is_some, ◌||◌, ◌==◌}
 use Rattle.std.specs.Option.{option_map}

@@ -1,5 +1,5 @@
 -- The ranges that a setting keeps.
-use Rattle.std.specs.Prelude.{ℕ, ◌≤◌, ◌<◌, List}
+use Rattle.std.specs.Prelude.{ℕ, ◌≤◌, ◌<◌}
 use Rattle.std.specs.List.{All}
 use Rattle.hp_words.specs.declared.setting.PageSetting.{PageSetting}
 use Rattle.hp_words.specs.declared.setting.Setting.{Setting}

@@ -1,12 +1,12 @@
-use Rattle.std.proofs.Common.{◌≡◌, ◌≢◌, ◌⊎◌, ◌∙◌, ap, sym, subst, refl, List, [], ◌∷◌, Option, None, Some, Result, Ok, Err, true, IfOk, inl, inr}
-use Rattle.clap.specs.Words.{App, FailsBy, HasMatchesOf, Row, Text, fault_of, found_of, is_simple, is_simple_and_free, matches_of, rows_of, kind_of}
+use Rattle.std.proofs.Common.{◌≡◌, ◌≢◌, ◌∙◌, ap, sym, subst, refl, List, [], ◌∷◌, None, Some, true, inl, inr}
+use Rattle.clap.specs.Words.{App, HasMatchesOf, Row, Text, fault_of, found_of, is_simple, is_simple_and_free, matches_of, rows_of, kind_of}
 use Rattle.clap.specs.Kinds.{IsAmong, Kinds, HasKind}
 use Rattle.clap.specs.declared.error.Error.{Error}
 use Rattle.clap.specs.declared.error.kind.ErrorKind.{ErrorKind}
 use Rattle.clap.specs.declared.error.kind.ErrorKind.TheVariants.{OutOfMemory}
 use Rattle.clap.specs.declared.parser.matches.ArgMatches.{ArgMatches}
 use Rattle.hp_words.specs.Command.{app}
-use Rattle.hp_words.specs.Options.{Values, found, options_in, where_faultless}
+use Rattle.hp_words.specs.Options.{found, options_in, where_faultless}
 use Rattle.hp_words.proofs.command.find_options.Goals as goal
 
 app_is_simple : is_simple_and_free app ≡ true
