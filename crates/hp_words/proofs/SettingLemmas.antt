@@ -26,9 +26,9 @@ unless : {B : Type 0} (Q : B → Type 0) (refused : Bool) (value : Option B) →
 unless Q true value known = tt
 unless Q false value known = known
 
-number_or_within : (usual low high : ℕ) (value : Option (List ℕ)) → IsBetween low high usual → IfSome (number_or usual low high value) (IsBetween low high)
-number_or_within usual low high None known = known
-number_or_within usual low high (Some text) known = number_within low high text
+number_or_within : (default low high : ℕ) (value : Option (List ℕ)) → IsBetween low high default → IfSome (number_or default low high value) (IsBetween low high)
+number_or_within default low high None known = known
+number_or_within default low high (Some text) known = number_within low high text
 
 workers_within : (value : Option (List ℕ)) → IfSome (workers_of value) (IsBetween 1 64)
 workers_within value = number_or_within 4 1 64 value (record { least = omega arith; most = omega arith })

@@ -18,10 +18,10 @@ abbrev pub number : ℕ → ℕ → List ℕ → Option ℕ
 number low high text =
     if is_numeral text && is_in_range low high (digits_value 10 text) then Some (digits_value 10 text) else None
 
--- the number of an option's value, and the usual one where the option isn't there
+-- the number of an option's value, or the default where the option isn't there
 abbrev pub number_or : ℕ → ℕ → ℕ → Option (List ℕ) → Option ℕ
-number_or usual low high None = Some usual
-number_or usual low high (Some text) = number low high text
+number_or default low high None = Some default
+number_or default low high (Some text) = number low high text
 
 -- the items, where each is there
 abbrev pub all_present : {A : Type 0} → List (Option A) → Option (List A)

@@ -15,11 +15,11 @@ use Rattle.hp_predict.specs.declared.quiet.GuessKind.TheVariants.{Quiet, Prescan
 abbrev pub has_separator : List (List ℕ) → Bool
 has_separator words = list_any (λ word. bytes_eq word (codes "--")) words
 
--- 1 to 64, usually 4
+-- how many workers: 1 to 64, by default 4
 abbrev pub workers_of : Option (List ℕ) → Option ℕ
 workers_of value = number_or 4 1 64 value
 
--- in bytes, 64 to 16,777,216, usually 65,536
+-- a chunk's size in bytes: 64 to 16,777,216, by default 65,536
 abbrev pub chunk_of : Option (List ℕ) → Option ℕ
 chunk_of value = number_or 65536 64 16777216 value
 
@@ -29,7 +29,7 @@ cutting_of None chunk = option_map AtTags (chunk_of chunk)
 cutting_of (Some cuts) None = option_map Listed (places_in cuts)
 cutting_of (Some cuts) (Some chunk) = None
 
--- the predictor of this name, usually prescan
+-- the predictor of this name, by default prescan
 abbrev pub guess_of : Option (List ℕ) → Option GuessKind
 guess_of None = Some Prescan
 guess_of (Some name) =
@@ -45,25 +45,25 @@ page_of values =
     from (cutting_of values.cuts values.chunk) (λ cutting.
     Some (Page (record { workers = workers; cutting = cutting; guess = guess; report = values.report })))))
 
--- an option is there that no mode allows
+-- an option is given that no mode allows
 abbrev pub asks_for_page_alone : Values → Bool
 asks_for_page_alone values = is_some values.cuts || is_some values.guess || values.report
 
--- 0 to 2^64 - 1
+-- a seed: 0 to 2^64 - 1
 abbrev pub seed_of : List ℕ → Option ℕ
 seed_of = number 0 18446744073709551615
 
--- 1 to 16,777,216
+-- how many bytes a made page has: 1 to 16,777,216
 abbrev pub bytes_of : List ℕ → Option ℕ
 bytes_of = number 1 16777216
 
--- the page of a seed is written
+-- the page of a seed is written, with no other option
 abbrev pub make_of : List ℕ → List ℕ → Values → Option Setting
 make_of seed bytes values =
     if asks_for_page_alone values || is_some values.workers || is_some values.chunk then None
     else from (seed_of seed) (λ seed. from (bytes_of bytes) (λ bytes. Some (Make seed bytes)))
 
--- the page of a seed is parsed in each way
+-- the page of a seed is parsed in each way, with no option but workers and chunk
 abbrev pub drill_of : List ℕ → List ℕ → Values → Option Setting
 drill_of seed bytes values =
     if asks_for_page_alone values then None

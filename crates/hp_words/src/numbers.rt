@@ -48,13 +48,13 @@ pub fn small_number(text: &str, low: u32, high: u32) -> Option<u32>
     }
 }
 
-/// The number that an option's value writes, and the usual one where the option isn't there.
-pub fn number_or(usual: u32, value: Option<&str>, low: u32, high: u32) -> Option<u32>
-    ensures { result ≡ number_or usual low high (option_map (λ text. text.now) value.entry) }
+/// The number that an option's value writes, or the default where the option isn't there.
+pub fn number_or(default: u32, value: Option<&str>, low: u32, high: u32) -> Option<u32>
+    ensures { result ≡ number_or default low high (option_map (λ text. text.now) value.entry) }
 {
     match value {
         Some(text) => small_number(text, low, high),
-        None => Some(usual),
+        None => Some(default),
     }
 }
 

@@ -1,7 +1,6 @@
 //! What the words ask for, from the values of their options.
 ghost use Rattle.std.specs.Prelude.{◌≡◌, IfOk, IfSome, map, string_bytes, option_map};
-ghost use Rattle.hp_words.specs.Settings.{cutting_of, drill_of, guess_of, has_separator, make_of, page_of, setting_of, settings};
-ghost use Rattle.hp_words.specs.Settings.{asks_for_page_alone};
+ghost use Rattle.hp_words.specs.Settings.{asks_for_page_alone, cutting_of, drill_of, guess_of, has_separator, make_of, page_of, setting_of, settings};
 ghost use Rattle.hp_words.specs.Options.{texts_of};
 ghost use Rattle.hp_words.specs.Within.{IsWithin};
 
@@ -17,19 +16,19 @@ use std::alloc::Global;
 /// The most workers.
 const MAX_WORKERS: u32 = 64;
 
-/// The workers where the words name no number.
-const USUAL_WORKERS: u32 = 4;
+/// How many workers there are where the words don't say.
+const DEFAULT_WORKERS: u32 = 4;
 
 /// The least size of a chunk, in bytes.
 const MIN_CHUNK: u32 = 64;
 
-/// The size of a chunk where the words name none, in bytes.
-const USUAL_CHUNK: u32 = 65_536;
+/// The size of a chunk where the words don't say, in bytes.
+const DEFAULT_CHUNK: u32 = 65_536;
 
 /// The most bytes of a page, and of a chunk.
 const MAX_BYTES: u32 = 16_777_216;
 
-/// What the words ask for. `None` exactly where they are none that the program takes.
+/// What the words ask for. `None` exactly where they are wrong usage. It fails only for want of memory.
 pub fn read_setting(alloc: Global, words: &Words) -> Result<Option<Setting>, NoMemory>
     ensures setting { IfOk result (λ setting. setting ≡ settings words.now) }
     ensures within { IfOk result (λ setting. IfSome setting IsWithin) }
@@ -73,7 +72,7 @@ fn setting_of(alloc: Global, options: &Options<'_>) -> Result<Option<Setting>, N
 fn page_of(alloc: Global, options: &Options<'_>) -> Result<Option<Setting>, NoMemory>
     ensures { IfOk result (λ setting. setting ≡ page_of (texts_of options.now)) }
 {
-    let Some(workers) = number_or(USUAL_WORKERS, options.workers, 1, MAX_WORKERS) else {
+    let Some(workers) = number_or(DEFAULT_WORKERS, options.workers, 1, MAX_WORKERS) else {
         return Ok(None);
     };
     let Some(guess) = guess_of(options.guess) else {
@@ -99,7 +98,7 @@ fn cutting_of(
     ensures { IfOk result (λ cutting. cutting ≡ cutting_of (option_map (λ text. text.now) cuts.entry) (option_map (λ text. text.now) chunk.entry)) }
 {
     match (cuts, chunk) {
-        (None, chunk) => Ok(number_or(USUAL_CHUNK, chunk, MIN_CHUNK, MAX_BYTES).map(
+        (None, chunk) => Ok(number_or(DEFAULT_CHUNK, chunk, MIN_CHUNK, MAX_BYTES).map(
             |size| CutSetting::AtTags { size },
         )),
         (Some(cuts), None) => Ok(places(alloc, cuts)?.map(|places| CutSetting::Listed { places })),
@@ -119,14 +118,14 @@ fn guess_of(name: Option<&str>) -> Option<GuessKind>
     }
 }
 
-/// Whether an option stands there that is of use where the page on the standard input is parsed alone.
+/// Whether an option is given that no mode allows.
 fn asks_for_page_alone(options: &Options<'_>) -> bool
     ensures { result ≡ asks_for_page_alone (texts_of options.now) }
 {
     options.cuts.is_some() || options.guess.is_some() || options.report
 }
 
-/// The page of a seed is written.
+/// The page of a seed is written, with no other option.
 fn make_of(seed: &str, bytes: &str, options: &Options<'_>) -> Option<Setting>
     ensures { result ≡ make_of seed.now bytes.now (texts_of options.now) }
 {
@@ -138,7 +137,7 @@ fn make_of(seed: &str, bytes: &str, options: &Options<'_>) -> Option<Setting>
     Some(Setting::Make { seed, bytes })
 }
 
-/// The page of a seed is parsed in each way.
+/// The page of a seed is parsed in each way, with no option but workers and chunk.
 fn drill_of(seed: &str, bytes: &str, options: &Options<'_>) -> Option<Setting>
     ensures { result ≡ drill_of seed.now bytes.now (texts_of options.now) }
 {
@@ -147,8 +146,8 @@ fn drill_of(seed: &str, bytes: &str, options: &Options<'_>) -> Option<Setting>
     }
     let seed = number(seed, 0, u64::MAX)?;
     let bytes = small_number(bytes, 1, MAX_BYTES)?;
-    let workers = number_or(USUAL_WORKERS, options.workers, 1, MAX_WORKERS)?;
-    let chunk = number_or(USUAL_CHUNK, options.chunk, MIN_CHUNK, MAX_BYTES)?;
+    let workers = number_or(DEFAULT_WORKERS, options.workers, 1, MAX_WORKERS)?;
+    let chunk = number_or(DEFAULT_CHUNK, options.chunk, MIN_CHUNK, MAX_BYTES)?;
     Some(Setting::Drill {
         seed,
         bytes,

@@ -28,7 +28,9 @@ pub enum Setting {
 pub struct PageSetting {
     /// How many workers parse it: 1 to 64.
     pub workers: u32,
+    /// Where it is cut.
     pub cutting: CutSetting,
+    /// What guesses the state before a chunk.
     pub guess: GuessKind,
     /// A line for each chunk, and one of their sum, is written to the notes.
     pub report: bool,
