@@ -1,3 +1,4 @@
--- The report of a journal, and reports by example.
+-- The report of a journal, what one step adds to it, and reports by example.
 pub mod Report
+pub mod Noting
 pub mod Examples

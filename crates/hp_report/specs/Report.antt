@@ -1,8 +1,8 @@
 -- The report of a journal: a line for each chunk, by the first judgement of it, and a line of counts.
 use Rattle.std.specs.Prelude.{ℕ, zero, suc, ◌+◌, ◌-◌, List, [], ◌∷◌, ◌++◌, Bool, true, false, Option, Some, None, if◌then◌else◌, codes, count_by, decimal, length, map}
-use Rattle.std.specs.List.{flat_map}
+use Rattle.std.specs.List.{concat, enumerate_from, flat_map, range_with_len}
 use Rattle.hp_cut.specs.Places.{Cutting}
-use Rattle.hp_board.specs.Machine.{end_of, first_chunks, start_of}
+use Rattle.hp_board.specs.Machine.{end_of, start_of}
 use Rattle.hp_board.specs.Origins.{judges}
 use Rattle.hp_board.specs.declared.journal.BoardStep.{BoardStep}
 use Rattle.hp_board.specs.declared.journal.BoardStep.TheVariants as step
@@ -54,16 +54,20 @@ verdict_text (verdict.RolledBack kind) = codes "rolled back on " ++ kind_name ki
 verdict_text verdict.NotJudged = codes "not judged"
 
 -- the line of a chunk of so many bytes
-abbrev pub chunk_line : ℕ → ℕ → Verdict → List ℕ
-chunk_line chunk size became = codes "chunk " ++ decimal chunk ++ codes ": " ++ decimal size ++ codes " bytes, " ++ verdict_text became ++ codes "\n"
+unfoldable pub chunk_line : ℕ → ℕ → Verdict → List ℕ
+chunk_line chunk size became = concat (codes "chunk " ∷ decimal chunk ∷ codes ": " ∷ decimal size ∷ codes " bytes, " ∷ verdict_text became ∷ codes "\n" ∷ [])
 
 -- how many bytes a chunk has
 abbrev pub size_of : Cutting → ℕ → ℕ
 size_of cuts chunk = end_of cuts chunk - start_of cuts chunk
 
--- the line of a chunk, after a journal
-abbrev pub verdict_line : Cutting → List Entry → ℕ → List ℕ
-verdict_line cuts journal chunk = chunk_line chunk (size_of cuts chunk) (verdict_of journal chunk)
+-- the line of a chunk, by its number and what became of it
+abbrev pub verdict_line : Cutting → ℕ × Verdict → List ℕ
+verdict_line cuts (chunk, became) = chunk_line chunk (size_of cuts chunk) became
+
+-- the lines of chunks of which this became
+abbrev pub verdict_lines : Cutting → List Verdict → List ℕ
+verdict_lines cuts became = flat_map (verdict_line cuts) (enumerate_from 0 became)
 
 abbrev pub is_kept : Verdict → Bool
 is_kept verdict.Kept = true
@@ -77,18 +81,26 @@ abbrev pub is_rolled_back : Verdict → Bool
 is_rolled_back (verdict.RolledBack _) = true
 is_rolled_back _ = false
 
+-- the numbers of so many chunks: 0, 1, 2 and so on
+abbrev pub numbers : ℕ → List ℕ
+numbers count = range_with_len 0 count
+
 -- what became of so many chunks, in order
 abbrev pub verdicts_of : ℕ → List Entry → List Verdict
-verdicts_of count journal = map (verdict_of journal) (first_chunks count)
+verdicts_of count journal = map (verdict_of journal) (numbers count)
 
--- how many chunks there are, and what became of how many of them
-abbrev pub counts_text : List Verdict → List ℕ
-counts_text became = decimal (length became) ++ codes " chunks, 1 exact, " ++ decimal (count_by is_kept became) ++ codes " kept, "
-    ++ decimal (count_by is_repaired became) ++ codes " repaired, " ++ decimal (count_by is_rolled_back became) ++ codes " rolled back\n"
+-- how many chunks there are, and of how many the guess was kept, repaired and rolled back
+unfoldable pub counts_text : ℕ → ℕ → ℕ → ℕ → List ℕ
+counts_text chunks kept repaired rolled_back =
+    concat (decimal chunks ∷ codes " chunks, 1 exact, " ∷ decimal kept ∷ codes " kept, " ∷ decimal repaired ∷ codes " repaired, " ∷ decimal rolled_back ∷ codes " rolled back\n" ∷ [])
+
+-- the counts of chunks of which this became
+abbrev pub counts_of : List Verdict → List ℕ
+counts_of became = counts_text (length became) (count_by is_kept became) (count_by is_repaired became) (count_by is_rolled_back became)
 
 -- the line of counts of so many chunks, behind a label
 abbrev pub counts_line : List ℕ → ℕ → List Entry → List ℕ
-counts_line label count journal = label ++ counts_text (verdicts_of count journal)
+counts_line label count journal = label ++ counts_of (verdicts_of count journal)
 
 -- how many chunks there are
 abbrev pub chunk_count : Cutting → ℕ
@@ -96,4 +108,4 @@ chunk_count cuts = length cuts.places + 1
 
 -- the report: the line of each chunk, and the line of counts
 abbrev pub report_of : Cutting → List Entry → List ℕ
-report_of cuts journal = flat_map (verdict_line cuts journal) (first_chunks (chunk_count cuts)) ++ counts_line (codes "total: ") (chunk_count cuts) journal
+report_of cuts journal = verdict_lines cuts (verdicts_of (chunk_count cuts) journal) ++ counts_line (codes "total: ") (chunk_count cuts) journal

@@ -13,7 +13,7 @@ mod verdict;
 use hp_board::Entry;
 use hp_cut::Cuts;
 pub use hp_text::NoMemory;
-use lines::{append_chunk_lines, append_counts_line};
+use lines::{append_counts_line, append_lines};
 use std::alloc::Global;
 use verdict::verdicts;
 
@@ -24,7 +24,7 @@ pub fn report(alloc: Global, cuts: &Cuts, journal: &[Entry]) -> Result<Vec<u8>, 
 {
     let verdicts = verdicts(alloc, cuts.chunks(), journal)?;
     let mut text = Vec::new(alloc);
-    append_chunk_lines(alloc, &mut text, cuts, verdicts.as_slice())?;
+    append_lines(alloc, &mut text, cuts, verdicts.as_slice())?;
     append_counts_line(alloc, &mut text, "total: ", verdicts.as_slice())?;
     Ok(text)
 }

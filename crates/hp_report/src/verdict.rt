@@ -1,5 +1,6 @@
 //! What became of the chunks of a page.
-ghost use Rattle.std.specs.Prelude.{◌≡◌, ◌<◌, Some, IfOk};
+ghost use Rattle.std.specs.Prelude.{◌≡◌, ◌<◌, Some, IfOk, length, replicate, slice_set};
+ghost use Rattle.hp_report.specs.Noting.{first_said, noted};
 ghost use Rattle.hp_report.specs.Report.{kind_name as spec_kind_name, verdict_text, verdicts_of};
 
 use crate::NoMemory;
@@ -63,23 +64,49 @@ pub fn verdicts(alloc: Global, count: u32, journal: &[Entry]) -> Result<Vec<Verd
     ensures { IfOk result (λ verdicts. verdicts.items ≡ verdicts_of count journal.now) }
 {
     let mut verdicts = Vec::from_elem(alloc, Verdict::NotJudged, count as usize)?;
-    // From the last entry on, so that the first judgement of a chunk is noted last, and stays.
-    for entry in journal.iter().rev() {
-        note(verdicts.as_mut_slice(), entry.step);
-    }
-    verdicts[0] = Verdict::Exact;
+    note_all(verdicts.as_mut_slice(), journal);
     Ok(verdicts)
 }
 
-/// Notes what a step says of the chunk that it judges, if it judges one of these.
-fn note(verdicts: &mut [Verdict], step: BoardStep) {
-    let (chunk, verdict) = match step {
-        BoardStep::Kept { chunk } => (chunk, Verdict::Kept),
-        BoardStep::Repaired { chunk, at } => (chunk, Verdict::Repaired { at }),
-        BoardStep::RolledBack { chunk, kind } => (chunk, Verdict::RolledBack { kind }),
-        BoardStep::Claimed { .. } | BoardStep::Posted { .. } | BoardStep::Released { .. } => return,
-    };
-    if let Some(slot) = verdicts.get_mut(chunk as usize) {
-        *slot = verdict;
+/// Puts down what became of each chunk.
+fn note_all(verdicts: &mut [Verdict], journal: &[Entry])
+    requires some { 0 < length verdicts.old }
+    requires blank { verdicts.old ≡ replicate (length verdicts.old) Verdict.NotJudged }
+    ensures { verdicts.new ≡ verdicts_of (length verdicts.old) journal.now }
+{
+    note_judgements(verdicts, journal);
+    verdicts[0] = Verdict::Exact;
+}
+
+/// Puts down what the first judgement of each chunk says. The entries are read from the last one on, so that it is put down last, and
+/// stays.
+fn note_judgements(verdicts: &mut [Verdict], journal: &[Entry])
+    requires { verdicts.old ≡ replicate (length verdicts.old) Verdict.NotJudged }
+    ensures { verdicts.new ≡ first_said (length verdicts.old) journal.now }
+{
+    for entry in journal.iter().rev() {
+        note(verdicts, entry.step);
+    }
+}
+
+/// Puts down what a step says of the chunk that it judges, if it judges one.
+fn note(verdicts: &mut [Verdict], step: BoardStep)
+    ensures { verdicts.new ≡ noted verdicts.old step }
+{
+    match step {
+        BoardStep::Kept { chunk } => put(verdicts, chunk, Verdict::Kept),
+        BoardStep::Repaired { chunk, at } => put(verdicts, chunk, Verdict::Repaired { at }),
+        BoardStep::RolledBack { chunk, kind } => put(verdicts, chunk, Verdict::RolledBack { kind }),
+        BoardStep::Claimed { .. } | BoardStep::Posted { .. } | BoardStep::Released { .. } => {}
+    }
+}
+
+/// Puts down what became of a chunk, if it is one of these.
+fn put(verdicts: &mut [Verdict], chunk: u32, verdict: Verdict)
+    ensures { verdicts.new ≡ slice_set verdicts.old chunk verdict }
+{
+    let index = chunk as usize;
+    if index < verdicts.len() {
+        verdicts[index] = verdict;
     }
 }

@@ -1,0 +1,4 @@
+mod Verdicts
+mod Places
+mod Enumerated
+mod Written
