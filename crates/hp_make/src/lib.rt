@@ -1,7 +1,7 @@
 //! Pages for tests and measurements: the page of a seed, of any length.
 #![tactic(auto)]
 
-ghost use Rattle.std.specs.Prelude.{◌≡◌, ◌<◌, ◌≤◌, IfOk, length};
+ghost use Rattle.std.specs.Prelude.{◌≡◌, ◌<◌, ◌≤◌, IfOk, IsAscii, length};
 ghost use Rattle.hp_make.specs.Pages as pages;
 ghost use Rattle.hp_make.specs.Pages.{IsPage};
 
@@ -14,6 +14,8 @@ use std::alloc::Global;
 pub fn make_page(alloc: Global, seed: u64, bytes: u32) -> Result<Vec<u8>, NoMemory>
     ensures exact { IfOk result (λ page. page.items ≡ pages.page_of seed bytes) }
     ensures law { IfOk result (λ page. 15 ≤ bytes → IsPage seed bytes page.items) }
+    ensures length { IfOk result (λ page. length page.items ≡ bytes) }
+    ensures ascii { IfOk result (λ page. IsAscii page.items) }
 {
     let size = bytes as usize;
     let mut page = Vec::with_capacity(alloc, size)?;

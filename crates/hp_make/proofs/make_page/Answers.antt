@@ -1,4 +1,6 @@
 use Rattle.std.proofs.Common.{List, ℕ, arith, sym, subst, vec_len}
+use Rattle.std.specs.Prelude.{IsAscii}
+use Rattle.hp_make.proofs.AsciiLemmas.{page-ascii}
 use Rattle.hp_make.specs.Pages.{IsPage}
 use Rattle.hp_make.proofs.PageLemmas.{turn, finish, page_of-IsPage}
 use Rattle.hp_make.proofs.make_page.Goals as goal
@@ -20,3 +22,7 @@ loop-piece-preserved c = record {
       c.next-number.ensures c.piece-piece.ensures.exact (omega arith) c.loop-piece.invariant.fits c.in_ok-extend_from_slice-2.ensures.len
       c.loop-piece.invariant.so_far c.in_ok-extend_from_slice-2.ensures.items;
 }
+
+pub returns-then-piece-size-clause-ascii : goal.returns-then-piece-size-clause-ascii
+returns-then-piece-size-clause-ascii c =
+    subst IsAscii (sym (returns-then-piece-size-clause-exact c)) (page-ascii c.args.seed c.args.bytes)
