@@ -7,10 +7,6 @@ mod leaving;
 mod mains;
 mod order;
 mod page;
-#[cfg(test)]
-mod tests;
-#[cfg(test)]
-mod thread_tests;
 mod turns;
 
 pub use gate::{Gate, OpenGate};

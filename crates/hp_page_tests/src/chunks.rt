@@ -3,7 +3,6 @@ ghost use Rattle.std.specs.Prelude.{◌≤◌, ◌^◌, length};
 ghost use Rattle.hp_text.specs.Page.{text_of as page_text};
 ghost use Rattle.hp_cut.specs.Places.{IsOf};
 
-use crate::{Joined, join_chunk, parse_in_order};
 use hp_control::Control;
 use hp_cut::{Cuts, cuts_at_tags, cuts_listed};
 use hp_fragment::{replay, speculate_by};
@@ -12,6 +11,7 @@ use hp_pieces::pages_at;
 use hp_predict::GuessKind;
 use hp_print::print_tree;
 use hp_text::{Page, check_page};
+use hp_workers::{Joined, join_chunk, parse_in_order};
 use std::alloc::Global;
 use std::mem;
 use std::process::Abort;

@@ -3,13 +3,13 @@ ghost use Rattle.std.specs.Prelude.{◌≡◌, ◌≤◌, ◌^◌, length};
 ghost use Rattle.hp_text.specs.Page.{text_of as page_text};
 ghost use Rattle.hp_cut.specs.Places.{IsOf};
 
-use crate::tests::{PAGE, TREE, page_of};
-use crate::{Gate, OpenGate, parse_page};
+use crate::chunks::{PAGE, TREE, page_of};
 use hp_board::{BoardStep, Entry, Journal, QuestionKind};
 use hp_cut::{Cuts, cuts_at_tags, cuts_listed};
 use hp_predict::GuessKind;
 use hp_print::print_tree;
 use hp_text::Page;
+use hp_workers::{Gate, OpenGate, parse_page};
 use std::alloc::Global;
 use std::mem;
 use std::process::Abort;
