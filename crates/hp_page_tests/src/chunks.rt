@@ -155,7 +155,7 @@ pub(crate) fn page_of<'p>(rt: &impl Abort, text: &'p str) -> Page<'p>
 }
 
 /// The cuts of a page into two parts.
-fn in_two(rt: &impl Abort, alloc: Global, page: Page<'_>, place: u64) -> Cuts
+pub(crate) fn in_two(rt: &impl Abort, alloc: Global, page: Page<'_>, place: u64) -> Cuts
     ensures { IsOf (page_text page.entry) result }
 {
     match cuts_listed(alloc, page, &[place]) {

@@ -4,4 +4,6 @@
 #[cfg(test)]
 mod chunks;
 #[cfg(test)]
+mod script;
+#[cfg(test)]
 mod threads;
