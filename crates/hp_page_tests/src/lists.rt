@@ -247,29 +247,36 @@ fn run_list<'p>(
     let mut marks = OPENING;
     let mut has_changed = false;
     let mut left = list;
-    while left > 0 {
-        let (worker, act) = STEPS[((left - 1) % 8) as usize];
-        left = (left - 1) / 8;
-        assert!(rt; worker < 2 && tallies.len() == 3);
-        let (tally, hand) = (&mut tallies[worker], &mut hands[worker]);
-        let before = tally.entries();
-        make_step(rt, alloc, board, tally, hand, &mut marks, act);
-        has_changed = tally.entries() > before;
-        assert!(rt; board.is_of(case.page, case.cuts, tallies));
+    for _step in 0..LENGTH {
+        if left > 0 {
+            let (worker, act) = STEPS[((left - 1) % 8) as usize];
+            left = (left - 1) / 8;
+            assert!(rt; worker < 2 && tallies.len() == 3);
+            let before = tallies[worker].entries();
+            let tally = &mut tallies[worker];
+            make_step(rt, alloc, board, tally, &mut hands[worker], &mut marks, act);
+            has_changed = tallies[worker].entries() > before;
+            assert!(rt; board.is_of(case.page, case.cuts, tallies));
+        }
     }
     mem::forget(hands);
     (marks, has_changed)
 }
 
 /// Takes back all claims and makes main's turns until all is done.
-fn finish_alone<'p>(rt: &impl Abort, alloc: Global, board: &mut Board<'p>, tally: &mut Tally) {
+fn finish_alone<'p>(
+    rt: &impl Abort,
+    alloc: Global,
+    board: &mut Board<'p>,
+    tally: &mut Tally,
+    marks: &mut Marks,
+) {
     let mut hand = hand_of(alloc, GuessKind::Quiet);
-    let mut marks = OPENING;
     let _ = board.recall(tally);
     for _turn in 0..TURNS {
-        if advance(rt, alloc, board, tally, &mut marks) {
-            claim(rt, alloc, board, tally, &mut hand, &mut marks);
-            post(rt, alloc, board, tally, &mut hand, &mut marks);
+        if advance(rt, alloc, board, tally, marks) {
+            claim(rt, alloc, board, tally, &mut hand, marks);
+            post(rt, alloc, board, tally, &mut hand, marks);
         }
     }
     mem::forget(hand);
@@ -286,20 +293,20 @@ fn assert_tree(rt: &impl Abort, alloc: Global, front: Front<'_>, wanted: &[u8]) 
     assert!(rt; same);
 }
 
-/// Main ends with the page's tree.
-fn assert_ends(
+/// Main ends a board on which the chunks are so far, with the page's tree.
+fn assert_ends<'p>(
     rt: &impl Abort,
     alloc: Global,
-    board: Board<'_>,
-    tallies: Vec<Tally>,
-    case: Case<'_>,
-    list: u32,
+    mut board: Board<'p>,
+    mut tallies: Vec<Tally>,
+    mut marks: Marks,
+    case: Case<'p>,
 ) {
-    let (mut board, mut tallies) = (board, tallies);
     assert!(rt; tallies.len() == 3);
-    finish_alone(rt, alloc, &mut board, &mut tallies[2]);
+    finish_alone(rt, alloc, &mut board, &mut tallies[2], &mut marks);
     assert!(rt; board.is_of(case.page, case.cuts, tallies.as_slice()));
-    assert!(rt; board.is_done(), "behind the list {list}");
+    assert!(rt; board.is_done());
+    assert!(rt; marks == [Mark::Done; 3]);
     let (front, journal) = board.finish(tallies);
     mem::forget(journal);
     assert_tree(rt, alloc, front, case.wanted);
@@ -325,7 +332,7 @@ fn try_list(
         mem::forget(tallies);
     } else {
         states.push(marks).expect(rt, "there is memory");
-        assert_ends(rt, alloc, board, tallies, case, list);
+        assert_ends(rt, alloc, board, tallies, marks, case);
     }
     has_changed
 }
