@@ -1,1 +1,3 @@
-pub mod Written
+pub mod Answered
+pub mod Noted
+pub mod Drilled

@@ -1,4 +1,9 @@
 pub mod Page
+pub mod Devices
 pub mod Answers
 pub mod Status
-pub mod Words
+pub mod Notes
+pub mod Reports
+pub mod Outcomes
+pub mod Modes
+pub mod Runs

@@ -2,20 +2,25 @@
 #![tactic(auto)]
 
 mod answering;
+mod modes;
+mod notes;
+mod outcome;
 mod parsing;
 mod status;
 #[cfg(test)]
 mod tests;
 mod top;
+#[cfg(test)]
+mod word_tests;
 mod words;
 
 pub use answering::answer;
 use hp_text::{StreamSink, StreamSource};
+pub use hp_words::Words;
 pub use hp_workers::{Gate, OpenGate};
 pub use status::Status;
 use std::process::ExitCode;
-pub use top::{answer_page, hpar};
-pub use words::Words;
+pub use top::hpar;
 
 fn main(rt: HostRuntime) -> ExitCode {
     let mut page = StreamSource::new(rt.stdin());

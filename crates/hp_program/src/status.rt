@@ -5,7 +5,7 @@ ghost use Rattle.hp_program.specs.Status.{code_of};
 /// How a run ends. Only `Done` and `WriteFault` leave anything in the output.
 #[derive(Clone, Copy, Debug, PartialEq, Eq)]
 pub enum Status {
-    /// The whole tree was written.
+    /// All was written: the tree, or what a mode writes.
     Done,
     /// The words are none that the program knows.
     Usage,
@@ -15,10 +15,12 @@ pub enum Status {
     TooLarge,
     /// The page could not be read to its end.
     ReadFault,
-    /// The tree could not be written to its end. The first part of it was.
+    /// The output failed before all was written. The first part of it was.
     WriteFault,
     /// Memory ran out, or the tree's text would be of absurd length: 34 GB of indentation and more.
     NoMemory,
+    /// The page can't be cut at the places that the words list.
+    BadCuts,
 }
 
 impl Status {
@@ -34,6 +36,7 @@ impl Status {
             Status::ReadFault => 5,
             Status::WriteFault => 6,
             Status::NoMemory => 7,
+            Status::BadCuts => 8,
         }
     }
 }

@@ -1,8 +1,14 @@
-use Rattle.std.proofs.Common.{rules}
-use Rattle.hp_program.proofs.Written.{without_words}
-use Rattle.hp_program.specs.Answers.{IsTooLarge}
-use Rattle.hp_program.specs.declared.status.Status.TheVariants.{TooLarge}
+use Rattle.std.proofs.Common.{sym}
+use Rattle.hp_words.specs.Settings.{settings}
+use Rattle.hp_program.proofs.Answered.{as_told, exact_run}
 use Rattle.hp_program.proofs.top.hpar.Goals as goal
 
-pub returns-clause-too_large : goal.returns-clause-too_large
-returns-clause-too_large g c = without_words (g.S.Source.left c.args.page.now) TooLarge IsTooLarge c.args.words.now c.answer_page.result _ (search rules) c.answer_page.ensures.too_large
+pub returns-clause-run : goal.returns-clause-run
+returns-clause-run g c = record {
+  note = _;
+  answer = as_told (settings c.args.words.now) _ _ _ _ _ (sym c.status.ensures) c.put_for-outcome.ensures.answer;
+  noted = c.write_note.ensures;
+}
+
+pub returns-clause-exact : goal.returns-clause-exact
+returns-clause-exact g c = exact_run c.args.words.now _ _ _ _ (as_told (settings c.args.words.now) _ _ _ _ _ (sym c.status.ensures) c.put_for-outcome.ensures.answer)

@@ -1,14 +1,13 @@
-use Rattle.hp_program.proofs.Written.{of_fault, of_ok}
+use Rattle.std.proofs.Common.{List, ℕ, subst, sym}
+use Rattle.std.specs.Prelude.{◌≡◌, IfSome}
+use Rattle.hp_program.proofs.Answered.{of_bytes, of_refusal}
 use Rattle.hp_program.proofs.top.put_page.Goals as goal
 
-pub returns-clause-done : goal.returns-clause-done
-returns-clause-done g c = λ is. of_ok c.write_page.result _ (c.status_of.ensures.done.0 is) c.write_page.ensures.whole
+pub returns-in-Ok-clause-answer : goal.returns-in-Ok-clause-answer
+returns-in-Ok-clause-answer g c =
+    of_bytes c.args.asked.now _ _ c.as_slice.result.now _ _
+    (record { told = subst (λ (bytes : List ℕ). IfSome (g.S.Source.left c.args.page.now) (λ left. bytes ≡ left)) (sym c.as_slice.ensures.value) c.in-Ok.ensures.whole; ended = c.in-Ok.ensures.at_end })
+    c.put_bytes.ensures.answer
 
-pub returns-clause-write_fault : goal.returns-clause-write_fault
-returns-clause-write_fault g c = λ is. of_fault c.write_page.result _ (c.status_of.ensures.write_fault.0 is) c.write_page.ensures.failed
-
-pub returns-clause-part : goal.returns-clause-part
-returns-clause-part g c = λ is. of_fault c.write_page.result _ (c.status_of.ensures.write_fault.0 is) c.write_page.ensures.part
-
-pub returns-clause-nothing : goal.returns-clause-nothing
-returns-clause-nothing g c = λ is. c.write_page.ensures.nothing (c.status_of.ensures.no_memory.0 is)
+pub returns-in-Err-clause-answer : goal.returns-in-Err-clause-answer
+returns-in-Err-clause-answer g c = of_refusal c.args.asked.now _ _ c.in-Err.refusal c.unread.result c.unread.ensures c.in-Err.ensures.fault c.in-Err.ensures.too_large c.in-Err.ensures.too_large_gives
