@@ -1,5 +1,5 @@
-//! Lists of up to six steps that two workers make on the board of a page of three chunks: behind each step the board is still that of the
-//! page, and from wherever a list leads main ends with the page's tree.
+//! Lists of up to six steps that two workers make on the board of a page of three chunks: behind each list the board is still that of the
+//! page, and from wherever it leads main ends with the page's tree.
 ghost use Rattle.std.specs.Prelude.{◌≤◌, ◌^◌, length};
 ghost use Rattle.hp_text.specs.Page.{text_of as page_text};
 ghost use Rattle.hp_cut.specs.Places.{IsOf};
@@ -89,7 +89,7 @@ const STEPS: [(usize, Act); 8] = [
     (1, Act::Release),
 ];
 
-fn mark(rt: &impl Abort, marks: &mut Marks, chunk: u32, mark: Mark) {
+fn set_mark(rt: &impl Abort, marks: &mut Marks, chunk: u32, mark: Mark) {
     assert!(rt; chunk < 3);
     marks[chunk as usize] = mark;
 }
@@ -129,7 +129,7 @@ fn claim<'p>(
     } else {
         Mark::Claimed(worker)
     };
-    mark(rt, marks, claim.chunk.number, claimed);
+    set_mark(rt, marks, claim.chunk.number, claimed);
     hand.claims.push(claim).expect(rt, "there is memory");
 }
 
@@ -161,7 +161,7 @@ fn post<'p>(
     } else {
         Mark::Guessed(tally.worker())
     };
-    mark(rt, marks, chunk, posted);
+    set_mark(rt, marks, chunk, posted);
     let fragment = make(rt, alloc, claim, hand.kind);
     let posted = board.post(tally, chunk, fragment);
     let is_taken = posted.is_ok();
@@ -183,7 +183,7 @@ fn advance(
     mem::forget(advance);
     if !is_idle {
         let judged = if is_kept { Mark::Done } else { Mark::Again };
-        mark(rt, marks, front_of(marks), judged);
+        set_mark(rt, marks, front_of(marks), judged);
     }
     is_idle
 }
@@ -207,7 +207,7 @@ fn release<'p>(
         Mark::Unclaimed
     };
     mem::forget(claim);
-    mark(rt, marks, chunk, before);
+    set_mark(rt, marks, chunk, before);
     assert!(rt; board.release(tally, chunk));
 }
 
@@ -237,7 +237,6 @@ fn run_list<'p>(
     alloc: Global,
     board: &mut Board<'p>,
     tallies: &mut [Tally],
-    case: Case<'p>,
     list: u32,
 ) -> (Marks, bool) {
     let mut hands = [
@@ -256,7 +255,6 @@ fn run_list<'p>(
             let tally = &mut tallies[worker];
             make_step(rt, alloc, board, tally, &mut hands[worker], &mut marks, act);
             has_changed = tallies[worker].entries() > before;
-            assert!(rt; board.is_of(case.page, case.cuts, tallies));
         }
     }
     mem::forget(hands);
@@ -326,7 +324,8 @@ fn try_list(
     let own = case.cuts.copy(alloc).expect(rt, "there is memory");
     let begun = Board::begin(alloc, case.page, own, 2);
     let (mut board, mut tallies) = begun.expect(rt, "there is memory");
-    let (marks, has_changed) = run_list(rt, alloc, &mut board, tallies.as_mut_slice(), case, list);
+    let (marks, has_changed) = run_list(rt, alloc, &mut board, tallies.as_mut_slice(), list);
+    assert!(rt; board.is_of(case.page, case.cuts, tallies.as_slice()));
     if states.contains(&marks) {
         mem::forget(board);
         mem::forget(tallies);

@@ -6,7 +6,7 @@ use hp_control::Control;
 use hp_fragment::{replay, speculate_by};
 use hp_pieces::Fragment;
 use hp_predict::GuessKind;
-use hp_text::Chunk;
+use hp_text::{Chunk, Page};
 use std::alloc::Global;
 use std::mem;
 use std::process::Abort;
@@ -55,9 +55,8 @@ const JOURNAL: &[Entry] = &[
     },
 ];
 
-/// A part of the text between two places.
-fn part_of<'p>(rt: &impl Abort, text: &'p str, from: usize, to: usize) -> Chunk<'p> {
-    let page = page_of(rt, text);
+/// The part of a page between two places.
+fn part_of<'p>(rt: &impl Abort, page: Page<'p>, from: usize, to: usize) -> Chunk<'p> {
     let text = page.as_str();
     assert!(rt; from <= to && to <= text.len());
     assert!(rt; text.is_char_boundary(from));
@@ -125,12 +124,12 @@ fn claimed<'p>(
 }
 
 /// Worker 0 claims the chunk 0 with the start state, which is handed out, worker 1 the chunk 1, and nothing is left.
-fn claim_both(
+fn claim_both<'p>(
     rt: &impl Abort,
     alloc: Global,
-    board: &mut Board<'static>,
+    board: &mut Board<'p>,
     tallies: &mut [Tally],
-) -> (Chunk<'static>, Control, Chunk<'static>) {
+) -> (Chunk<'p>, Control, Chunk<'p>) {
     assert_eq!(rt; tallies.len(), 3);
     let (chunk, known) = claimed(rt, alloc, board, &mut tallies[0]);
     let state = known.expect(rt, "the state before the page is known");
@@ -152,18 +151,18 @@ fn claim_both(
 }
 
 /// Of the three fragments each is refused for its cause.
-fn refuse(
+fn refuse<'p>(
     rt: &impl Abort,
     alloc: Global,
-    board: &mut Board<'static>,
+    board: &mut Board<'p>,
     tally: &mut Tally,
-    chunk: Chunk<'static>,
-    behind: Chunk<'static>,
+    chunk: Chunk<'p>,
+    behind: Chunk<'p>,
 ) {
     let of_another = guess(rt, alloc, behind);
     let cause = refusal(rt, board, tally, 1, of_another);
     assert_eq!(rt; cause, Some(PostCause::NotYours));
-    let two = guess(rt, alloc, part_of(rt, PAGE, 7, 10));
+    let two = guess(rt, alloc, part_of(rt, chunk.page, 7, 10));
     let cause = refusal(rt, board, tally, 0, two);
     assert_eq!(rt; cause, Some(PostCause::OtherText));
     let guessed = guess(rt, alloc, chunk);
@@ -172,7 +171,7 @@ fn refuse(
 }
 
 /// All steps of the script.
-fn run_script(rt: &impl Abort, alloc: Global, board: &mut Board<'static>, tallies: &mut [Tally]) {
+fn run_script<'p>(rt: &impl Abort, alloc: Global, board: &mut Board<'p>, tallies: &mut [Tally]) {
     let (chunk, start, behind) = claim_both(rt, alloc, board, tallies);
     assert_eq!(rt; tallies.len(), 3);
     assert!(rt; is_idle(rt, alloc, board, &mut tallies[0]));
@@ -190,8 +189,8 @@ fn run_script(rt: &impl Abort, alloc: Global, board: &mut Board<'static>, tallie
     assert!(rt; !board.release(&mut tallies[0], 0));
 }
 
-fn assert_script(rt: &impl Abort, alloc: Global) {
-    let page = page_of(rt, PAGE);
+fn assert_script(rt: &impl Abort, alloc: Global, text: &str) {
+    let page = page_of(rt, text);
     let cuts = in_two(rt, alloc, page, 6);
     let own = cuts.copy(alloc).expect(rt, "there is memory");
     let begun = Board::begin(alloc, page, own, 2);
@@ -209,5 +208,5 @@ fn assert_script(rt: &impl Abort, alloc: Global) {
 
 #[test]
 fn two_workers_step_by_step(rt: HostRuntime) {
-    assert_script(&rt, rt.alloc());
+    assert_script(&rt, rt.alloc(), PAGE);
 }
