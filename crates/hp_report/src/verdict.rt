@@ -9,7 +9,7 @@ use std::alloc::Global;
 use std::fmt;
 
 /// What became of a chunk.
-#[derive(Clone, Copy, Debug, PartialEq, Eq)]
+#[derive(Clone, Copy)]
 pub enum Verdict {
     /// It is the first, and the state before it is known.
     Exact,
