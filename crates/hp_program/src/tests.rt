@@ -249,7 +249,12 @@ const LONG: &[Long] = &[
 ];
 
 /// A text, and another one behind it so many times. It stays to the test's end.
-fn repeated<R: AllocGlobal + Abort>(rt: &R, first: &str, again: &str, times: usize) -> Vec<u8> {
+pub(crate) fn repeated<R: AllocGlobal + Abort>(
+    rt: &R,
+    first: &str,
+    again: &str,
+    times: usize,
+) -> Vec<u8> {
     let mut text = String::from_str(rt.alloc(), first).expect(rt, "there is memory");
     let rest = again
         .repeat(rt.alloc(), times)

@@ -5,7 +5,7 @@ ghost use Rattle.hp_text.specs.Page.{text_of as page_text};
 ghost use Rattle.hp_cut.specs.Places.{IsOf};
 
 use super::*;
-use crate::tests::room_for;
+use crate::tests::{repeated, room_for};
 use hp_cut::{Cuts, cuts_at_tags, cuts_by_size};
 use hp_predict::GuessKind;
 use hp_report::append_counts;
@@ -496,4 +496,18 @@ fn a_drill_counts_what_the_journals_say(rt: HostRuntime) {
     mem::forget(no_notes);
     mem::forget(no_drill_notes);
     assert!(&rt; told);
+}
+
+/// So many elements, each inside the one before, that their printed tree would be of absurd length.
+#[test]
+fn a_tree_of_absurd_length_is_not_written(rt: HostRuntime) {
+    let bytes = repeated(&rt, "", "<div>", 200_000);
+    let line = "--chunk 16777216";
+    let (status, out, notes) = run_with(&rt, line, bytes.as_slice(), &OpenGate);
+    let silent = out.taken().is_empty();
+    let told = notes.taken() == b"out of memory\n".as_slice();
+    mem::forget(out);
+    mem::forget(notes);
+    mem::forget(bytes);
+    assert_eq!(&rt; (status, silent, told), (Status::NoMemory, true, true));
 }
