@@ -1,5 +1,5 @@
 //! Claims of chunks, and what takes them back.
-ghost use Rattle.std.specs.Prelude.{◌≡◌, ◌<◌, ◌≤◌, IfNone, IfOk, IfSome, OnErr, count_by, is_some, length, true};
+ghost use Rattle.std.specs.Prelude.{◌≡◌, ◌+◌, ◌-◌, ◌<◌, ◌≤◌, ◌^◌, IfNone, IfOk, IfSome, OnErr, count_by, is_some, length, min, true};
 ghost use Rattle.std.specs.Bool.{OnFalse, OnTrue};
 ghost use Rattle.hp_board.specs.Calls.{IsAllClaimed, IsClaim, is_claimed, is_yours, recalled, released, released_slot};
 ghost use Rattle.hp_board.specs.Desk.{SamePage, slot_at, statuses};
@@ -101,7 +101,9 @@ impl<'p> Board<'p> {
         ensures later { IsLater tally.old tally.new }
         ensures board { self.new ≡ recalled tally.old.worker self.old (length self.old.slots) }
         ensures count { result ≡ count_by is_claimed self.old.slots }
+        ensures raised { tally.new.entries ≡ min (tally.old.entries + result) (2 ^ 64 - 1) }
     {
+        let _before = tally.entries();
         let mut count = 0;
         for chunk in 0..self.chunks() {
             if self.unclaim(tally, chunk) {

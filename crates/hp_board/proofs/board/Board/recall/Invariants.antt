@@ -1,5 +1,5 @@
 -- The claims of the chunks so far are taken back.
-use Rattle.std.proofs.Common.{◌≡◌, ◌≤◌, take}
+use Rattle.std.proofs.Common.{◌≡◌, ◌+◌, ◌-◌, ◌≤◌, ◌^◌, min, take}
 use Rattle.std.specs.Prelude.{count_by}
 use Rattle.hp_board.specs.Calls.{is_claimed, recalled}
 use Rattle.hp_board.specs.Desk.{SamePage}
@@ -12,4 +12,5 @@ invariant-loop-chunk l = record {
   count : l.count ≡ count_by is_claimed (take l.chunk l.fn.self.slots);
   worker : l.tally.worker ≡ l.fn.tally.worker;
   entries : l.fn.tally.entries ≤ l.tally.entries;
+  raised : l.tally.entries ≡ min (l.fn.tally.entries + l.count) (2 ^ 64 - 1);
 }
