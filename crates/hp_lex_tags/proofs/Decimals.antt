@@ -28,7 +28,7 @@ use Rattle.hp_tokens.proofs.Fronts.{low-chars, low-rest, begins}
 use Rattle.hp_lex_tags.specs.Letters.{ampersand, number_sign}
 use Rattle.hp_lex_tags.specs.Rows.{has_row, row, capped}
 use Rattle.hp_lex_tags.specs.Tags.{tag_rules}
-use Rattle.hp_lex_tags.specs.Decided.{at_data, behind_reference, IsReference, number_of, is_decimal, IsDecimal}
+use Rattle.hp_lex_tags.specs.Decided.{at_data, behind_reference, EmitsOne, IsReference, number_of, is_decimal, IsDecimal}
 use Rattle.hp_lex_tags.specs.Straight.{tagging_at}
 use Rattle.hp_lex_tags.proofs.NamedSteps.{tags_rows}
 use Rattle.hp_lex_tags.proofs.StraightMoves.{consumed_move, reread_move}
@@ -106,14 +106,16 @@ module _ (names : List Reference) (m : Machine) where
   end_move v p r c u =
       (by_rows (tag_rules names) has_row row (tags_rows names)).by_row (standing (at_end v (at_reference m)) p r (c ∷ u)) c u refl refl refl
 
-  decimal_leads : (d : ℕ) (ds : List ℕ) (c : ℕ) (u : List ℕ) (p r : ℕ) → list_all is_decimal (d ∷ ds) ≡ true
-      → Leads (move (tag_rules names)) (standing (at_data m) p r (38 ∷ (35 ∷ ((d ∷ ds) ++ (59 ∷ (c ∷ u)))))) (record { began = p; token = character (numeric (number_of 0 (d ∷ ds))) } ∷ [])
-      (standing (behind_reference m) ((((p + 1) + 1) + length (d ∷ ds)) + 1) p (c ∷ u))
-  decimal_leads d ds c u p r h =
-      onward (ampersand_move names m p r (35 ∷ ((d ∷ ds) ++ (59 ∷ (c ∷ u)))))
-      (onward (sign_move (p + 1) p ((d ∷ ds) ++ (59 ∷ (c ∷ u))))
-      (Leads-join (over_decimal names (at_reference m) refl d ds (c ∷ u) ((p + 1) + 1) p h)
-      (onward (end_move (number_of 0 (d ∷ ds)) ((((p + 1) + 1) + length (d ∷ ds)) + 1) p c u) here)))
+  decimal_emits : (d : ℕ) (ds : List ℕ) (c : ℕ) (u : List ℕ) (p r : ℕ) → list_all is_decimal (d ∷ ds) ≡ true
+      → EmitsOne names (standing (at_data m) p r (38 ∷ (35 ∷ ((d ∷ ds) ++ (59 ∷ (c ∷ u)))))) (standing (behind_reference m) ((((p + 1) + 1) + length (d ∷ ds)) + 1) p (c ∷ u)) (numeric (number_of 0 (d ∷ ds))) p
+  decimal_emits d ds c u p r h = record {
+    mid = standing (at_end (number_of 0 (d ∷ ds)) (at_reference m)) ((((p + 1) + 1) + length (d ∷ ds)) + 1) p (c ∷ u);
+    quiet =
+        onward (ampersand_move names m p r (35 ∷ ((d ∷ ds) ++ (59 ∷ (c ∷ u)))))
+        (onward (sign_move (p + 1) p ((d ∷ ds) ++ (59 ∷ (c ∷ u)))) (over_decimal names (at_reference m) refl d ds (c ∷ u) ((p + 1) + 1) p h));
+    inside = refl;
+    last = end_move (number_of 0 (d ∷ ds)) ((((p + 1) + 1) + length (d ∷ ds)) + 1) p c u;
+  }
 
 -- in a value it goes behind what was read of it
 module _ (names : List Reference) (last : Option (List ℕ)) (b : Building) where
@@ -172,12 +174,11 @@ decimal_reference names u value count x some =
         ascii = digits_ascii ds (x.next ∷ x.rest) x.digits;
       };
       some = subst S x.is some;
-      leads = λ m p r.
-          let P : List ℕ → ℕ → Type 0 = λ xs q. Leads (move (tag_rules names)) (standing (at_data m) p r (38 ∷ (35 ∷ (ds ++ (59 ∷ (x.next ∷ x.rest))))))
-          (record { began = p; token = character (numeric (number_of 0 ds)) } ∷ []) (standing (behind_reference m) q p xs) in
+      emits = λ m p r.
+          let P : List ℕ → ℕ → Type 0 = λ xs q. EmitsOne names (standing (at_data m) p r (38 ∷ (35 ∷ (ds ++ (59 ∷ (x.next ∷ x.rest)))))) (standing (behind_reference m) q p xs) (numeric (number_of 0 ds)) p in
           let Q : ℕ → Type 0 = λ q. P (x.next ∷ x.rest) q in
           let O : List ℕ → Type 0 = λ xs. P xs (p + 1 + (suc (suc (length ds)))) in
-          subst O (sym (behind_digits ds (x.next ∷ x.rest))) (subst Q (ends_at p (length ds)) (decimal_leads names m x.d x.ds x.next x.rest p r x.digits));
+          subst O (sym (behind_digits ds (x.next ∷ x.rest))) (subst Q (ends_at p (length ds)) (decimal_emits names m x.d x.ds x.next x.rest p r x.digits));
       in_value = λ back h last b p r.
           let P : List ℕ → ℕ → Type 0 = λ xs q. Leads (move (tag_rules names)) (tagging_at last (return_state back) b p r (38 ∷ (35 ∷ (ds ++ (59 ∷ (x.next ∷ x.rest)))))) []
           (tagging_at last (return_state back) (put Value (numeric (number_of 0 ds) ∷ []) b) q r xs) in

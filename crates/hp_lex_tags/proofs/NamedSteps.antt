@@ -1,5 +1,5 @@
 -- A named reference is one move.
-use Rattle.std.proofs.Common.{◌≡◌, ℕ, ◌+◌, ◌*◌, ◌<◌, ◌≤◌, List, [], ◌∷◌, ◌++◌, Bool, true, false, ◌&&◌, cond, not, nat_eq, length, take, drop, refl, ap, ◌∙◌, sym, subst, arith, Option, None, Some, append-nil, length-drop, IsTrue, get_or, suc, drop-cons, add-one}
+use Rattle.std.proofs.Common.{◌≡◌, ℕ, ◌+◌, ◌*◌, ◌<◌, ◌≤◌, List, [], ◌∷◌, ◌++◌, Bool, true, false, ◌&&◌, not, nat_eq, length, take, drop, refl, ap, ◌∙◌, sym, subst, arith, Option, None, Some, append-nil, length-drop, IsTrue, get_or, suc, drop-cons, add-one}
 use Rattle.std.specs.Prelude.{◌==◌, sum_by, IfSome}
 use Rattle.std.specs.Bool.{OnFalse}
 use Rattle.std.specs.Char.{len_utf8}

@@ -1,5 +1,5 @@
 -- A named reference in the data state is three moves.
-use Rattle.std.proofs.Common.{◌≡◌, ℕ, ◌+◌, ◌<◌, ◌≤◌, List, [], ◌∷◌, Bool, true, false, cond, length, map, take, drop, suc, zero, refl, ap, ◌∙◌, sym, subst, arith, Option, None, Some}
+use Rattle.std.proofs.Common.{◌≡◌, ℕ, ◌+◌, ◌<◌, ◌≤◌, List, [], ◌∷◌, ◌++◌, Bool, true, false, cond, length, map, take, drop, suc, zero, refl, ap, ◌∙◌, sym, subst, arith, inl, Option, None, Some}
 use Rattle.std.specs.Prelude.{◌==◌, nat_lt, sum_by, slice_get, IsUtf8}
 use Rattle.std.specs.List.{list_all}
 use Rattle.std.specs.Option.{is_some}
@@ -21,11 +21,13 @@ use Rattle.hp_tokens.specs.declared.machine.Machine.{Machine}
 use Rattle.hp_tokens.specs.declared.lexing.LexState.{LexState}
 use Rattle.hp_tokens.specs.declared.rows.Turn.TheVariants as turns
 use Rattle.hp_tokens.specs.Reading.{Unread, first, IsAsciiFront, FrontIs, ReadsAscii}
-use Rattle.hp_tokens.specs.States.{enter}
+use Rattle.hp_tokens.specs.States.{enter, is_resting}
 use Rattle.hp_tokens.specs.Rows.{Row, character, again, go, flushing, back, with_buffer, returning_to}
 use Rattle.hp_tokens.specs.Moves.{Lexing, Emitted, Move, needs_more, makes, standing, move, read_as, after_row}
-use Rattle.hp_tokens.specs.Runs.{Leads, here, onward}
-use Rattle.hp_tokens.specs.Advancing.{lexing, Turned, at_rest}
+use Rattle.hp_tokens.specs.Runs.{here, onward}
+use Rattle.hp_tokens.specs.Groups.{done}
+use Rattle.hp_tokens.specs.Advancing.{lexing, Appends, IsGroup, Turned, at_rest}
+use Rattle.hp_tokens.proofs.Pieces.{Leads-join}
 use Rattle.hp_tokens.proofs.Stepping.{by_rows}
 use Rattle.hp_tokens.proofs.Fronts.{low-chars, low-rest}
 use Rattle.hp_tokens.proofs.PlainRuns.{cleared, lexing_clear}
@@ -33,7 +35,7 @@ use Rattle.hp_lex_tags.specs.Letters.{ampersand, number_sign}
 use Rattle.hp_lex_tags.specs.Rows.{has_row, row}
 use Rattle.hp_lex_tags.specs.Named.{reference_move, second_value}
 use Rattle.hp_lex_tags.specs.Tags.{tag_rules, is_here}
-use Rattle.hp_lex_tags.specs.Decided.{at_data, behind_reference, IsReference}
+use Rattle.hp_lex_tags.specs.Decided.{at_data, behind_reference, EmitsOne, IsReference}
 use Rattle.hp_lex_tags.specs.Usual.{IsUsual}
 use Rattle.hp_lex_tags.proofs.NamedSteps.{tags_rows, named_at}
 
@@ -83,9 +85,13 @@ module _ (names : List Reference) (m : Machine) where
         ∙ ap (λ (o : Option ℕ). makes (standing (behind_reference m) (q + sum_by len_utf8 (take f.length u)) p (drop f.length u))
         (map (λ t. record { began = p; token = t }) (character f.first ∷ map character (second_value o)))) alone))
 
-    pub name_leads : (p r : ℕ) → Leads next (standing (at_data m) p r (38 ∷ u)) (record { began = p; token = character f.first } ∷ [])
-        (standing (behind_reference m) (p + 1 + sum_by len_utf8 (take f.length u)) r (drop f.length u))
-    name_leads p r = onward (ampersand_move p r u) (onward (letter_move (p + 1) p c u rest e letter) (onward (name_move (p + 1) p) here))
+    pub name_emits : (p r : ℕ) → EmitsOne names (standing (at_data m) p r (38 ∷ u)) (standing (behind_reference m) (p + 1 + sum_by len_utf8 (take f.length u)) p (drop f.length u)) f.first p
+    name_emits p r = record {
+      mid = standing (at_name m) (p + 1) p u;
+      quiet = onward (ampersand_move p r u) (onward (letter_move (p + 1) p c u rest e letter) here);
+      inside = refl;
+      last = name_move (p + 1) p;
+    }
 
 -- ASCII code points take a byte each
 pub ascii_width : (n : ℕ) (xs : List ℕ) → n ≤ length xs → list_all (λ c. nat_lt c 128) (take n xs) ≡ true → sum_by len_utf8 (take n xs) ≡ n
@@ -103,12 +109,12 @@ pub begins-at : (xs : List ℕ) (c : ℕ) → first xs ≡ Some c → (rest : Li
 begins-at [] c h = cc
 begins-at (x ∷ xs) c h = let same : x ≡ c = cc in (xs, ap (λ (y : ℕ). y ∷ xs) same)
 
--- the promise of a reference that was read at once
-pub reference_turn : (names : List Reference) (s : LexState) (old mid new : Unread) (c n : ℕ) (r place : ℕ) → s.machine.state ≡ Data
+-- a reference was read at once
+pub reference_emits : (names : List Reference) (s : LexState) (old mid new : Unread) (c n : ℕ) (r place : ℕ) → s.machine.state ≡ Data
     → s.machine.after_cr ≡ false → s.ahead ≡ [] → place ≡ old.place → first old.text ≡ Some 38 → IsReference names (drop 1 old.text) c n
     → ReadsAscii 1 old mid → ReadsAscii n mid new
-    → Turned (tag_rules names) is_here (lexing s old r) [] (lexing (record s { machine = enter Data s.machine }) new place) (character c ∷ []) place turns.Emitted
-reference_turn names s old mid new c n r place is cr none at amp usual skipped reads =
+    → EmitsOne names (lexing s old r) (lexing (record s { machine = enter Data s.machine }) new place) c place
+reference_emits names s old mid new c n r place is cr none at amp usual skipped reads =
     let m : Machine = s.machine in
     let t : LexState = record s { machine = enter Data s.machine } in
     let u : List ℕ = drop 1 old.text in
@@ -124,18 +130,37 @@ reference_turn names s old mid new c n r place is cr none at amp usual skipped r
     lexing_clear t new place cr none
     ∙ (ap (λ (p : ℕ). standing (behind_reference m) p place new.text) there
     ∙ ap (λ (xs : List ℕ). standing (behind_reference m) (place + 1 + n) place xs) gone) in
-    let es : List Emitted = record { began = place; token = character c } ∷ [] in
-    let P : Lexing → Type 0 = λ k. Leads (move (tag_rules names)) k es (lexing t new place) in
-    let Q : Lexing → Type 0 = λ k. Leads (move (tag_rules names)) (standing (at_data m) place r (38 ∷ u)) es k in (
-      record {
-        es = es;
-        leads = subst P (sym start) (subst Q (sym end) (usual.leads m place r));
-        appends = record { more = character c ∷ []; appended = refl; spelled = refl; runs = ((λ h. refl), tt) };
-        began = refl;
-        says = refl;
-      },
-      at_rest refl,
-    )
+    let P : Lexing → Type 0 = λ k. EmitsOne names k (lexing t new place) c place in
+    let Q : Lexing → Type 0 = λ k. EmitsOne names (standing (at_data m) place r (38 ∷ u)) k c place in
+    subst P (sym start) (subst Q (sym end) (usual.emits m place r))
+
+-- what one move emitted is appended
+module _ (names : List Reference) (old new : Lexing) (c place : ℕ) (tokens : List Token) (e : EmitsOne names old new c place) where
+  abbrev emitted : Emitted
+  emitted = record { began = place; token = character c }
+
+  appends : Appends tokens (emitted ∷ []) (tokens ++ character c ∷ [])
+  appends = record { more = character c ∷ []; appended = refl; spelled = refl; runs = ((λ h. refl), tt) }
+
+  pub emits_turn : is_resting new.machine.state ≡ true → Turned (tag_rules names) is_here old tokens new (tokens ++ character c ∷ []) place turns.Emitted
+  emits_turn rests = (
+    record { es = emitted ∷ []; leads = Leads-join e.quiet (onward e.last here); appends = appends; began = refl; says = refl },
+    at_rest rests,
+  )
+
+  pub emits_group : IsGroup (move (tag_rules names)) is_here old tokens new (tokens ++ character c ∷ []) place
+  emits_group = inl (record {
+    from = e.mid;
+    mid = new;
+    first = emitted ∷ [];
+    rest = [];
+    quiet = e.quiet;
+    inside = e.inside;
+    made = e.last;
+    onward = done;
+    appends = appends;
+    one_place = (refl, tt);
+  })
 
 -- what is found in the bytes of a text is found in its code points
 module _ (names : List Reference) (over : (cs : List ℕ) → OverChars names cs) (bytes : List ℕ) (u : IsUtf8 bytes) where

@@ -16,18 +16,18 @@ use Rattle.hp_tokens.specs.declared.machine.Machine.{Machine}
 use Rattle.hp_tokens.specs.Reading.{Unread, first}
 use Rattle.hp_tokens.specs.States.{enter, return_state, is_in_value}
 use Rattle.hp_tokens.specs.Parts.{put}
-use Rattle.hp_tokens.specs.Rows.{character, with_buffer, returning_to}
+use Rattle.hp_tokens.specs.Rows.{with_buffer, returning_to}
 use Rattle.hp_tokens.specs.Moves.{Lexing, Move, needs_more, makes, standing, move}
 use Rattle.hp_tokens.specs.Runs.{Leads, here, onward}
 use Rattle.hp_lex_tags.specs.Letters.{ampersand}
 use Rattle.hp_lex_tags.specs.Named.{reference_move, read_buffer, second_value, goes_on}
 use Rattle.hp_lex_tags.specs.Tags.{tag_rules}
 use Rattle.hp_lex_tags.specs.Usual.{IsUsual, ReferenceTaken}
-use Rattle.hp_lex_tags.specs.Decided.{at_data, behind_reference, IsReference}
+use Rattle.hp_lex_tags.specs.Decided.{at_data, behind_reference, EmitsOne, IsReference}
 use Rattle.hp_lex_tags.specs.Straight.{tagging, tagging_at, within, Onto}
 use Rattle.hp_lex_tags.proofs.NamedSteps.{named_at}
 use Rattle.hp_lex_tags.proofs.StraightMoves.{consumed_move, reread_move}
-use Rattle.hp_lex_tags.proofs.UsualReference.{ascii_width, begins-at, name_leads, no_cr}
+use Rattle.hp_lex_tags.proofs.UsualReference.{ascii_width, begins-at, name_emits, no_cr}
 
 -- behind the `&` of a value; in a name
 abbrev pub referring : Return → Option (List ℕ) → Building → Machine
@@ -101,9 +101,9 @@ named_reference names u f usual =
     record {
       ascii = usual.ascii;
       some = usual.some;
-      leads = λ m p r.
-          let P : ℕ → Type 0 = λ n. Leads (move (tag_rules names)) (standing (at_data m) p r (38 ∷ u)) (record { began = p; token = character f.first } ∷ []) (standing (behind_reference m) (p + 1 + n) p (drop f.length u)) in
-          subst P width (name_leads names m f usual.c u rest.0 rest.1 usual.letter usual.closed usual.longest usual.alone p r);
+      emits = λ m p r.
+          let P : ℕ → Type 0 = λ n. EmitsOne names (standing (at_data m) p r (38 ∷ u)) (standing (behind_reference m) (p + 1 + n) p (drop f.length u)) f.first p in
+          subst P width (name_emits names m f usual.c u rest.0 rest.1 usual.letter usual.closed usual.longest usual.alone p r);
       in_value = named_in_value names u f usual;
     }
 

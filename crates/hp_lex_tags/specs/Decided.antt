@@ -12,11 +12,11 @@ use Rattle.hp_tokens.specs.Reading.{IsAsciiFront}
 use Rattle.hp_tokens.specs.States.{enter, return_state, is_in_value}
 use Rattle.hp_tokens.specs.Parts.{put}
 use Rattle.hp_tokens.specs.Rows.{character}
-use Rattle.hp_tokens.specs.Moves.{standing, move}
+use Rattle.hp_tokens.specs.Moves.{Lexing, makes, standing, move}
 use Rattle.hp_tokens.specs.Runs.{Leads}
 use Rattle.hp_lex_tags.specs.Rows.{capped}
 use Rattle.hp_lex_tags.specs.Straight.{tagging_at}
-use Rattle.hp_lex_tags.specs.Tags.{tag_rules}
+use Rattle.hp_lex_tags.specs.Tags.{is_here, tag_rules}
 
 -- what was read of a reference in the data state and is done with
 abbrev pub at_data : Machine → Machine
@@ -25,13 +25,19 @@ at_data m = record m { state = Data; after_cr = false }
 abbrev pub behind_reference : Machine → Machine
 behind_reference m = enter Data (at_data m)
 
+-- moves that emit nothing led to one in a state of this part, which emits that code point; it began at that place
+pub record EmitsOne (names : List Reference) (old new : Lexing) (c place : ℕ) : Type 0 where
+  pub mid : Lexing
+  pub quiet : Leads (move (tag_rules names)) old [] mid
+  pub inside : is_here mid.machine.state ≡ true
+  pub last : move (tag_rules names) mid ≡ makes new (record { began = place; token = character c } ∷ [])
+
 -- A reference behind its `&` that is decided whatever follows: the code point that it stands for, which is not U+0000, and how
 -- many code points it has, which are ASCII. The rows emit that code point for it, or append it to an attribute's value.
 pub record IsReference (names : List Reference) (text : List ℕ) (c length : ℕ) : Type 0 where
   pub ascii : IsAsciiFront length text
   pub some : (c == 0) ≡ false
-  pub leads : (m : Machine) (place rested : ℕ) → Leads (move (tag_rules names)) (standing (at_data m) place rested (38 ∷ text)) (record { began = place; token = character c } ∷ [])
-      (standing (behind_reference m) (place + 1 + length) place (drop length text))
+  pub emits : (m : Machine) (place rested : ℕ) → EmitsOne names (standing (at_data m) place rested (38 ∷ text)) (standing (behind_reference m) (place + 1 + length) place (drop length text)) c place
   pub in_value : (back : Return) → is_in_value back ≡ true → (last : Option (List ℕ)) (b : Building) (place rested : ℕ)
       → Leads (move (tag_rules names)) (tagging_at last (return_state back) b place rested (38 ∷ text)) []
       (tagging_at last (return_state back) (put Value (c ∷ []) b) (place + 1 + length) rested (drop length text))

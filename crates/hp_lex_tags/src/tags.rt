@@ -23,6 +23,7 @@ use crate::rows::{
     before_attribute_value, data, end_tag_open, quoted_value, self_closing_start_tag, tag_name,
     tag_open, unquoted_value,
 };
+use crate::usual_reference::emit_reference;
 use hp_elements::{Text, Token, Tokens};
 use hp_names::Names;
 use hp_tokens::{
@@ -229,6 +230,9 @@ pub fn advance<'p>(
     ensures group { IfOk result (λ turn. turn ≡ turns.Emitted → IsGroup (move (tag_rules names.now)) spec_is_here (lexing state.old input.old rested.old) tokens.old (lexing state.new input.new rested.new) tokens.new rested.new) }
     ensures held { IfOk result (λ turn. held state.new ≤ input.new.place) }
 {
+    if emit_reference(alloc, state, input, names, rested, tokens)? {
+        return Ok(Turn::Emitted);
+    }
     hp_tokens::advance(&Tags { names }, alloc, state, input, rested, tokens)
 }
 

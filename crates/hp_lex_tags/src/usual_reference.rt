@@ -1,5 +1,5 @@
 //! A named or a decimal reference in the data state or in an attribute's value, read straight from the page: what the rows do code point by code point, at once.
-ghost use Rattle.std.specs.Prelude.{◌≡◌, ◌+◌, ◌*◌, ◌-◌, ◌≤◌, ◌<◌, [], ◌∷◌, Some, map, length, true, IfSome, IfNone, IsUtf8};
+ghost use Rattle.std.specs.Prelude.{◌≡◌, ◌+◌, ◌*◌, ◌-◌, ◌≤◌, ◌<◌, ◌==◌, [], ◌∷◌, Some, map, length, true, false, IfOk, IfSome, IfNone, IsUtf8};
 ghost use Rattle.std.specs.List.{list_all};
 ghost use Rattle.std.specs.Str.{chars};
 ghost use Rattle.std.specs.Char.{is_ascii_digit};
@@ -9,16 +9,18 @@ ghost use Rattle.hp_tokens.specs.declared.state.State.TheVariants as states;
 ghost use Rattle.hp_tokens.specs.Reading.{first};
 ghost use Rattle.hp_tokens.specs.Plain.{none_of};
 ghost use Rattle.hp_tokens.specs.Rows.{character};
-ghost use Rattle.hp_tokens.specs.Advancing.{held, lexing, Turned};
+ghost use Rattle.hp_tokens.specs.Advancing.{held, lexing, IsGroup, Turned};
+ghost use Rattle.hp_tokens.specs.Moves.{move};
 ghost use Rattle.hp_lex_tags.specs.Tags.{is_here, tag_rules};
-ghost use Rattle.hp_lex_tags.specs.Decided.{IsReference, IsDecimal};
+ghost use Rattle.hp_lex_tags.specs.Decided.{EmitsOne, IsReference, IsDecimal};
 ghost use Rattle.hp_lex_tags.specs.Usual.{IsUsual, ReferenceTaken};
 
 use crate::references::capped;
 use crate::straight::stands_in_data;
-use hp_elements::Text;
+use hp_elements::{Text, Tokens};
 use hp_names::{Found, Names, numeric};
-use hp_tokens::{Cursor, LexState, State};
+use hp_tokens::{Cursor, LexState, NoMemory, State, push_char};
+use std::alloc::Global;
 
 /// The reference name at the front of a text, where it ends with a semicolon, so that it is decided whatever follows, is ASCII and
 /// stands for one code point, which is not U+0000.
@@ -132,9 +134,37 @@ pub(crate) fn take_reference(names: &Names, input: &mut Cursor<'_>) -> Option<ch
     Some(usual.stands_for)
 }
 
+/// A named or a decimal reference with its semicolon at the front, in the data state: what it stands for, where `rested` becomes the
+/// place of its `&`; `None` where there is none that is decided whatever follows, and then nothing changes.
+#[inline(never)]
+fn read_reference(
+    state: &mut LexState,
+    input: &mut Cursor<'_>,
+    names: &Names,
+    rested: &mut u64,
+) -> Option<char>
+    requires held { held state.old ≤ input.old.place }
+    ensures emits { IfSome result (λ c. EmitsOne names.now (lexing state.old input.old rested.old) (lexing state.new input.new rested.new) c rested.new) }
+    ensures here { IfSome result (λ c. is_here state.old.machine.state ≡ true) }
+    ensures rests { IfSome result (λ c. state.new.machine.state ≡ states.Data) }
+    ensures no_nul { IfSome result (λ c. (c == 0) ≡ false) }
+    ensures none { IfNone result ((state.new ≡ state.old) × (input.new ≡ input.old) × (rested.new ≡ rested.old)) }
+    ensures held { held state.new ≤ input.new.place }
+    ensures ahead { state.new.ahead ≡ state.old.ahead }
+{
+    if !stands_in_data(state) || !is_at_ampersand(input) {
+        return None;
+    }
+    let place = input.place();
+    let stands_for = take_reference(names, input)?;
+    *rested = place;
+    state.machine.enter(State::Data);
+    Some(stands_for)
+}
+
 /// What a named or a decimal reference with its semicolon at the front stands for, in the data state, where `rested` becomes the place of its `&`; `None` where
 /// there is none that is decided whatever follows, and then nothing changes. It is what calls of `advance` do there.
-#[inline(never)]
+#[inline]
 pub fn next_reference<'p>(
     state: &mut LexState,
     input: &mut Cursor<'p>,
@@ -150,12 +180,30 @@ pub fn next_reference<'p>(
     ensures held { held state.new ≤ input.new.place }
     ensures ahead { state.new.ahead ≡ state.old.ahead }
 {
-    if !stands_in_data(state) || !is_at_ampersand(input) {
-        return None;
-    }
-    let place = input.place();
-    let stands_for = take_reference(names, input)?;
-    *rested = place;
-    state.machine.enter(State::Data);
+    let stands_for = read_reference(state, input, names, rested)?;
     Some(Text::of_char(stands_for))
+}
+
+/// Appends what such a reference at the front stands for. Answers whether there was one; otherwise nothing changes.
+pub(crate) fn emit_reference(
+    alloc: Global,
+    state: &mut LexState,
+    input: &mut Cursor<'_>,
+    names: &Names,
+    rested: &mut u64,
+    tokens: &mut Tokens<'_>,
+) -> Result<bool, NoMemory>
+    requires held { held state.old ≤ input.old.place }
+    ensures turn { IfOk result (λ emitted. emitted ≡ true → Turned (tag_rules names.now) is_here (lexing state.old input.old rested.old) tokens.old (lexing state.new input.new rested.new) tokens.new rested.new turns.Emitted) }
+    ensures group { IfOk result (λ emitted. emitted ≡ true → IsGroup (move (tag_rules names.now)) is_here (lexing state.old input.old rested.old) tokens.old (lexing state.new input.new rested.new) tokens.new rested.new) }
+    ensures none { IfOk result (λ emitted. emitted ≡ false → (state.new ≡ state.old) × (input.new ≡ input.old) × (rested.new ≡ rested.old) × (tokens.new ≡ tokens.old)) }
+    ensures held { held state.new ≤ input.new.place }
+{
+    match read_reference(state, input, names, rested) {
+        Some(stands_for) => {
+            push_char(alloc, tokens, stands_for)?;
+            Ok(true)
+        }
+        None => Ok(false),
+    }
 }

@@ -1,4 +1,4 @@
-use Rattle.std.proofs.Common.{◌≡◌, ℕ, List, Bool, true, false, refl, ap, sym, ◌∙◌}
+use Rattle.std.proofs.Common.{◌≡◌, ℕ, List, Bool, true, refl, ap, sym, ◌∙◌}
 use Rattle.hp_names.specs.References.{Reference}
 use Rattle.hp_names.specs.Longest.{is_open}
 use Rattle.hp_tokens.proofs.Told.{never}
