@@ -13,8 +13,9 @@ use Rattle.hp_tokens.specs.Moves.{Emitted}
 use Rattle.hp_control.specs.declared.edit.Edit.{Edit}
 use Rattle.hp_control.specs.Outcome.{Touch, is_older}
 use Rattle.hp_control.specs.States.{ControlState, IsFormatting, IsValid}
-use Rattle.hp_control.specs.Tree.{applied_all}
-use Rattle.hp_model.specs.AtOnce.{LeaveSame, MakeSame, RunsTouchFirst, after_first, built_at_once, handle_at_once, handle_rest}
+use Rattle.hp_groves.specs.Joining.{JoinTexts, Same, Through}
+use Rattle.hp_groves.proofs.Joined.{one_by_one-join}
+use Rattle.hp_model.specs.AtOnce.{LeaveSame, RunsTouchFirst, after_first, built_at_once, handle_at_once, handle_rest}
 use Rattle.hp_model.specs.Growth.{steps_left}
 use Rattle.hp_model.specs.Handling.{all_turns, bound, handle, handle_piece, settled}
 use Rattle.hp_model.specs.Rows.{entering, turn}
@@ -23,7 +24,7 @@ use Rattle.hp_model.specs.Tokens.{is_line_feed}
 use Rattle.hp_model.specs.Turns.{Handled, goes_on, after_turn, before_all, joined, later, left_by, plainly, turns, unchanged}
 use Rattle.hp_model.specs.Whole.{IsRead}
 use Rattle.hp_model.proofs.Handled.{all_turns-valid, handle-valid, piece-valid, settled-valid, turns-end}
-use Rattle.hp_model.proofs.JoinedTexts.{applied-append}
+use Rattle.hp_model.proofs.JoinedTexts.{join-behind, join-equal}
 use Rattle.hp_model.proofs.Manners.{DealsAfter, HandsOn, Manner, drops, pends, hands_on, puts, carried, manner, turn_deals}
 use Rattle.hp_model.proofs.RowLemmas.{joined_assoc, joined_first, joined_last}
 use Rattle.hp_model.proofs.Together.{carried_together, stays, turned_together}
@@ -34,7 +35,7 @@ same_by h k e = record {
   control = ap (λ (x : Handled). left_by x) e;
   switch = ap (λ (x : Handled). x.switch) e;
   stopped = ap (λ (x : Handled). x.stopped) e;
-  edits = λ t. ap (λ (x : Handled). applied_all t x.outcome.edits) e;
+  edits = join-equal h.outcome.edits k.outcome.edits (ap (λ (x : Handled). x.outcome.edits) e);
   touched = λ test. ap (λ (x : Handled). list_any test x.outcome.touched) e;
   spared = ap (λ (x : Handled). x.outcome.spared) e;
 }
@@ -44,24 +45,17 @@ same_then h k l f g = record {
   control = f.control ∙ g.control;
   switch = f.switch ∙ g.switch;
   stopped = f.stopped ∙ g.stopped;
-  edits = λ t. f.edits t ∙ g.edits t;
+  edits = Through h.outcome.edits k.outcome.edits l.outcome.edits f.edits g.edits;
   touched = λ test. f.touched test ∙ g.touched test;
   spared = f.spared ∙ g.spared;
 }
-
-make-behind : (es fs gs : List Edit) → MakeSame fs gs → MakeSame (es ++ fs) (es ++ gs)
-make-behind es fs gs f t = applied-append t es fs ∙ (f (applied_all t es) ∙ sym (applied-append t es gs))
-
-make-both : (es ds fs gs : List Edit) → MakeSame es ds → MakeSame fs gs → MakeSame (es ++ fs) (ds ++ gs)
-make-both es ds fs gs e f t =
-    applied-append t es fs ∙ (ap (λ u. applied_all u fs) (e t) ∙ (f (applied_all t ds) ∙ sym (applied-append t ds gs)))
 
 pub same_joined : (h k l : Handled) → LeaveSame k l → LeaveSame (joined h k) (joined h l)
 same_joined h k l f = record {
   control = f.control;
   switch = ap (λ s. later h.switch s) f.switch;
   stopped = ap (λ b. h.stopped || b) f.stopped;
-  edits = make-behind h.outcome.edits k.outcome.edits l.outcome.edits f.edits;
+  edits = join-behind h.outcome.edits k.outcome.edits l.outcome.edits f.edits;
   touched = λ test.
       list_any-append test h.outcome.touched k.outcome.touched
       ∙ (ap (λ b. list_any test h.outcome.touched || b) (f.touched test) ∙ sym (list_any-append test h.outcome.touched l.outcome.touched));
@@ -269,15 +263,15 @@ told_pieces class (x ∷ xs) rest (e ∷ es) p v read h =
           ∙ sym (append_assoc k.outcome.edits (handle (left_by k) (token.Characters class xs)).outcome.edits (built (record p { control = left_by (handle (left_by k) (token.Characters class xs)) }) more.more).edits)));
     }
 
--- both lead to the same parser, and from every tree to the same tree
+-- both lead to the same parser, with the same edits but for how texts are joined
 abbrev SameBuilt : Built → Built → Type 0
-SameBuilt b c = (b.parser ≡ c.parser) × MakeSame b.edits c.edits
+SameBuilt b c = (b.parser ≡ c.parser) × JoinTexts b.edits c.edits
 
 at_once_after : (p q : Parser) (h k : Handled) (b : Built) (ts : List Token) → LeaveSame h k → q ≡ told p k → SameBuilt b (built_at_once q ts)
     → SameBuilt (record { parser = b.parser; edits = h.outcome.edits ++ b.edits }) (record { parser = (built_at_once (told p k) ts).parser; edits = k.outcome.edits ++ (built_at_once (told p k) ts).edits })
 at_once_after p q h k b ts s e f =
     let g : SameBuilt b (built_at_once (told p k) ts) = subst (λ r. SameBuilt b (built_at_once r ts)) e f in
-    (g.0, make-both h.outcome.edits k.outcome.edits b.edits (built_at_once (told p k) ts).edits s.edits g.1)
+    (g.0, one_by_one-join h.outcome.edits k.outcome.edits b.edits (built_at_once (told p k) ts).edits s.edits g.1)
 
 told-same : (p : Parser) (h k : Handled) → LeaveSame h k → told p h ≡ told p k
 told-same p h k s =
@@ -304,7 +298,7 @@ run_at_once class x xs ts es p read run e v later_ones =
     let to : q ≡ told p (handle_at_once p.control t) = sym (told-none p h (run_switch class x xs p.control v)) ∙ told-same p h (handle_at_once p.control t) s in
     let more = later_ones told_so.more q told_so.read (sym told_so.tokens) (handle-valid t p.control tt v) in
     let g = at_once_after p q h (handle_at_once p.control t) (built q told_so.more) ts s to more in
-    (told_so.parser ∙ g.0, λ tree. ap (applied_all tree) told_so.edits ∙ g.1 tree)
+    (told_so.parser ∙ g.0, subst (λ (made : List Edit). JoinTexts made (built_at_once p (t ∷ ts)).edits) (sym told_so.edits) g.1)
 
 -- a token that is no run
 one_at_once : (t : Token) (ts : List Token) (es : List Emitted) (p : Parser) → AreRead es → IsRun t → tokens_of es ≡ t ∷ singles ts → IsValid p.control
@@ -320,8 +314,8 @@ one_at_once t ts (e ∷ es) p read run h v later_ones =
     subst (λ x. SameBuilt (record { parser = (built (told p (handle p.control x)) es).parser; edits = (handle p.control x).outcome.edits ++ (built (told p (handle p.control x)) es).edits }) (built_at_once p (t ∷ ts)))
     (sym parts.0) (at_once_after p q (handle p.control t) (handle_at_once p.control t) (built q es) ts s (told-same p (handle p.control t) (handle_at_once p.control t) s) more)
 
-pub built_so : (es : List Emitted) (ts : List Token) (p : Parser) → AreRead es → AreRuns ts → singles ts ≡ tokens_of es → IsValid p.control → ((built p es).parser ≡ (built_at_once p ts).parser) × MakeSame (built p es).edits (built_at_once p ts).edits
-built_so [] [] p read runs e v = (refl, λ t. refl)
+pub built_so : (es : List Emitted) (ts : List Token) (p : Parser) → AreRead es → AreRuns ts → singles ts ≡ tokens_of es → IsValid p.control → ((built p es).parser ≡ (built_at_once p ts).parser) × JoinTexts (built p es).edits (built_at_once p ts).edits
+built_so [] [] p read runs e v = (refl, Same [])
 built_so (e ∷ es) [] p read runs h v = absurd (nothing e es h)
   where
     nothing : (e : Emitted) (es : List Emitted) → [] ≡ tokens_of (e ∷ es) → ⊥

@@ -5,7 +5,6 @@ use Rattle.hp_elements.specs.declared.act.Act.{Act}
 use Rattle.hp_elements.specs.declared.act.Act.TheVariants as act
 use Rattle.hp_elements.specs.declared.known.Known.TheVariants as names
 use Rattle.hp_elements.specs.declared.element_name.ElementName.TheVariants as element
-use Rattle.hp_elements.specs.KnownNames as known
 use Rattle.hp_elements.specs.declared.token.Kind.{Kind}
 use Rattle.hp_elements.specs.declared.token.Kind.TheVariants.{Characters, Start, End}
 use Rattle.hp_elements.specs.declared.token.Mode.{Mode}

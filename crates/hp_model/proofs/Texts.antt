@@ -19,14 +19,14 @@ use Rattle.hp_control.specs.Adoption.{reconstruct}
 use Rattle.hp_control.specs.Foreign.{is_foreign}
 use Rattle.hp_control.specs.Outcome.{Outcome, Touch, after, is_older, touches_any}
 use Rattle.hp_control.specs.States.{ControlState, IsFormatting, IsValid, is_html}
-use Rattle.hp_model.specs.AtOnce.{LeaveSame, MakeSame, handle_at_once}
+use Rattle.hp_groves.specs.Joining.{JoinTexts, Join}
+use Rattle.hp_model.specs.AtOnce.{LeaveSame, handle_at_once}
 use Rattle.hp_model.specs.Rows.{entering, turn}
 use Rattle.hp_model.specs.Growth.{steps_left}
 use Rattle.hp_model.specs.Texts.{ComesTo, TakesText, TextsTouchFirst, as_run, each_at_once, has_html_top, is_text_mode, is_white, run_of, white_or_other}
 use Rattle.hp_model.specs.Turns.{Handled, Turn, goes_on, joined, left_by, plainly, unchanged}
 use Rattle.hp_model.proofs.AtOnce.{not_skipping, runs_at_once, same_by, same_joined, same_then, turned_once}
 use Rattle.hp_model.proofs.Handled.{all_turns-valid}
-use Rattle.hp_model.proofs.JoinedTexts.{texts_join}
 use Rattle.hp_model.proofs.Manners.{DealsAfter, Manner, puts, carried, in_foreign, in_mode, is_colgroup, keeps_text, manner, plain, put_by, turn_deals}
 use Rattle.hp_model.proofs.Reconstructed.{Rebuilds, Topped, rebuilds, reconstruct-fresh, reconstructed-fresh}
 use Rattle.hp_model.proofs.RowLemmas.{joined_last}
@@ -65,8 +65,8 @@ put_both : (w x : Bool) (a b : List ℕ) (c : ControlState)
     → Together (put_by false false (not w) a c) (put_by false false (not x) b (put_by false false (not w) a c).control) (put_by false false (not (w && x)) (a ++ b) c)
 put_both w x a b c = go w x
   where
-    made : MakeSame (Put (child.Text a) (place false c.stack) ∷ Put (child.Text b) (place false c.stack) ∷ []) (Put (child.Text (a ++ b)) (place false c.stack) ∷ [])
-    made t = sym (texts_join (place false c.stack) a b t)
+    made : JoinTexts (Put (child.Text a) (place false c.stack) ∷ Put (child.Text b) (place false c.stack) ∷ []) (Put (child.Text (a ++ b)) (place false c.stack) ∷ [])
+    made = Join (place false c.stack) a b []
 
     go : (w x : Bool) → Together (put_by false false (not w) a c) (put_by false false (not x) b (put_by false false (not w) a c).control) (put_by false false (not (w && x)) (a ++ b) c)
     go true true = record { control = refl; edits = made; touched = refl; later_touched = refl; spared = refl; later_spared = refl }

@@ -12,6 +12,7 @@ use Rattle.hp_elements.specs.declared.token.Kind.TheVariants.{Characters}
 use Rattle.hp_elements.specs.declared.token.Mode.{Mode}
 use Rattle.hp_elements.specs.declared.token.Mode.TheVariants as mode
 use Rattle.hp_control.specs.declared.edit.Child.TheVariants as child
+use Rattle.hp_control.specs.declared.edit.Edit.{Edit}
 use Rattle.hp_control.specs.declared.edit.Edit.TheVariants.{Put}
 use Rattle.hp_control.specs.declared.element.OpenElement.{OpenElement}
 use Rattle.hp_control.specs.Acts.{headed, place, touching}
@@ -20,18 +21,18 @@ use Rattle.hp_control.specs.Foreign.{is_foreign}
 use Rattle.hp_control.specs.KindTests.{within}
 use Rattle.hp_control.specs.Outcome.{Outcome, Touch, after, becomes}
 use Rattle.hp_control.specs.States.{ControlState, IsFormatting, is_html}
-use Rattle.hp_control.specs.Tree.{applied_all}
-use Rattle.hp_model.specs.AtOnce.{LeaveSame, MakeSame}
+use Rattle.hp_groves.specs.Joining.{JoinTexts, Same, Join}
+use Rattle.hp_model.specs.AtOnce.{LeaveSame}
 use Rattle.hp_model.specs.Rows.{entering, is_head_mode}
 use Rattle.hp_model.specs.Turns.{Handled, joined, plainly}
-use Rattle.hp_model.proofs.JoinedTexts.{applied-append, texts_join}
+use Rattle.hp_model.proofs.JoinedTexts.{join-behind}
 use Rattle.hp_model.proofs.Manners.{Manner, drops, pends, hands_on, puts, carried, in_foreign, in_mode, is_colgroup, keeps_text, manner, put_by, replaced_if}
 use Rattle.hp_model.proofs.Reconstructed.{Fresh, Rebuilds, Topped, rebuilds, reconstruct-fresh, reconstructed-fresh}
 
 -- the first of two outcomes, the second in the state that it left, and that of both at once
 pub record Together (a b both : Outcome) : Type 0 where
   pub control : b.control ≡ both.control
-  pub edits : MakeSame (a.edits ++ b.edits) both.edits
+  pub edits : JoinTexts (a.edits ++ b.edits) both.edits
   pub touched : a.touched ≡ both.touched
   pub later_touched : b.touched ≡ []
   pub spared : a.spared ≡ both.spared
@@ -44,10 +45,10 @@ replaced_if-append false a b = refl
 put_together : (fostering replaces marks : Bool) (a b : List ℕ) (c : ControlState) → Together (put_by fostering replaces marks a c) (put_by fostering replaces marks b (put_by fostering replaces marks a c).control) (put_by fostering replaces marks (a ++ b) c)
 put_together fostering replaces marks a b c = go marks
   where
-    made : MakeSame (Put (child.Text (replaced_if replaces a)) (place fostering c.stack) ∷ Put (child.Text (replaced_if replaces b)) (place fostering c.stack) ∷ []) (Put (child.Text (replaced_if replaces (a ++ b))) (place fostering c.stack) ∷ [])
-    made t =
-        sym (ap (λ (text : List ℕ). applied_all t (Put (child.Text text) (place fostering c.stack) ∷ [])) (replaced_if-append replaces a b)
-        ∙ texts_join (place fostering c.stack) (replaced_if replaces a) (replaced_if replaces b) t)
+    made : JoinTexts (Put (child.Text (replaced_if replaces a)) (place fostering c.stack) ∷ Put (child.Text (replaced_if replaces b)) (place fostering c.stack) ∷ []) (Put (child.Text (replaced_if replaces (a ++ b))) (place fostering c.stack) ∷ [])
+    made =
+        subst (λ (text : List ℕ). JoinTexts (Put (child.Text (replaced_if replaces a)) (place fostering c.stack) ∷ Put (child.Text (replaced_if replaces b)) (place fostering c.stack) ∷ []) (Put (child.Text text) (place fostering c.stack) ∷ []))
+        (sym (replaced_if-append replaces a b)) (Join (place fostering c.stack) (replaced_if replaces a) (replaced_if replaces b) [])
 
     go : (k : Bool) → Together (put_by fostering replaces k a c) (put_by fostering replaces k b (put_by fostering replaces k a c).control) (put_by fostering replaces k (a ++ b) c)
     go true = record { control = refl; edits = made; touched = refl; later_touched = refl; spared = refl; later_spared = refl }
@@ -56,7 +57,7 @@ put_together fostering replaces marks a b c = go marks
 pub behind : (r a b both : Outcome) → Together a b both → Together (after r a) b (after r both)
 behind r a b both f = record {
   control = f.control;
-  edits = λ t. ap (applied_all t) (append_assoc r.edits a.edits b.edits) ∙ (applied-append t r.edits (a.edits ++ b.edits) ∙ (f.edits (applied_all t r.edits) ∙ sym (applied-append t r.edits both.edits)));
+  edits = subst (λ (made : List Edit). JoinTexts made (r.edits ++ both.edits)) (sym (append_assoc r.edits a.edits b.edits)) (join-behind r.edits (a.edits ++ b.edits) both.edits f.edits);
   touched = ap (λ ts. r.touched ++ ts) f.touched;
   later_touched = f.later_touched;
   spared = ap (λ k. r.spared || k) f.spared;
@@ -82,9 +83,9 @@ rebuilt_together fostering replaces marks a b c =
     d = (put_by fostering replaces marks a r.control).control
 
 pub carried_together : (man : Manner) (a b : List ℕ) (c : ControlState) → Together (carried man a c) (carried man b (carried man a c).control) (carried man (a ++ b) c)
-carried_together drops a b c = record { control = refl; edits = λ t. refl; touched = refl; later_touched = refl; spared = refl; later_spared = refl }
-carried_together hands_on a b c = record { control = refl; edits = λ t. refl; touched = refl; later_touched = refl; spared = refl; later_spared = refl }
-carried_together pends a b c = record { control = ap (λ (text : List ℕ). record c { pending = text }) (append_assoc c.pending a b); edits = λ t. refl; touched = refl; later_touched = refl; spared = refl; later_spared = refl }
+carried_together drops a b c = record { control = refl; edits = Same []; touched = refl; later_touched = refl; spared = refl; later_spared = refl }
+carried_together hands_on a b c = record { control = refl; edits = Same []; touched = refl; later_touched = refl; spared = refl; later_spared = refl }
+carried_together pends a b c = record { control = ap (λ (text : List ℕ). record c { pending = text }) (append_assoc c.pending a b); edits = Same []; touched = refl; later_touched = refl; spared = refl; later_spared = refl }
 carried_together (puts fostering false replaces marks) a b c = put_together fostering replaces marks a b c
 carried_together (puts fostering true replaces marks) a b c = rebuilt_together fostering replaces marks a b c
 

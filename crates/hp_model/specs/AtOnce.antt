@@ -6,10 +6,9 @@ use Rattle.hp_elements.specs.declared.token.Token.{Token}
 use Rattle.hp_elements.specs.declared.token.Token.TheVariants as token
 use Rattle.hp_tokens.specs.Advancing.{AreRuns, IsRun, singles, tokens_of}
 use Rattle.hp_tokens.specs.Moves.{Emitted}
-use Rattle.hp_control.specs.declared.edit.Edit.{Edit}
 use Rattle.hp_control.specs.Outcome.{Touch, touches_any}
 use Rattle.hp_control.specs.States.{ControlState, IsValid}
-use Rattle.hp_control.specs.Tree.{Tree, applied_all}
+use Rattle.hp_groves.specs.Joining.{JoinTexts}
 use Rattle.hp_model.specs.Handling.{all_turns, handle, settled}
 use Rattle.hp_model.specs.Runs.{AreRead, Built, Parser, built, told}
 use Rattle.hp_model.specs.Tokens.{is_line_feed}
@@ -29,16 +28,12 @@ handle_rest c (Some t) = all_turns c t
 abbrev pub handle_at_once : ControlState → Token → Handled
 handle_at_once c t = if c.skip_lf && is_line_feed t then handle_rest (settled c) (after_first t) else all_turns (settled c) t
 
--- from every tree the edits lead to the same tree
-abbrev pub MakeSame : List Edit → List Edit → Type 0
-MakeSame es fs = (t : Tree) → applied_all t es ≡ applied_all t fs
-
--- the same is left, and the same was touched
+-- the same is left, the same was touched, and the edits are the same but for how texts are joined
 pub record LeaveSame (h k : Handled) : Type 0 where
   pub control : left_by h ≡ left_by k
   pub switch : h.switch ≡ k.switch
   pub stopped : h.stopped ≡ k.stopped
-  pub edits : MakeSame h.outcome.edits k.outcome.edits
+  pub edits : JoinTexts h.outcome.edits k.outcome.edits
   pub touched : (test : Touch → Bool) → list_any test h.outcome.touched ≡ list_any test k.outcome.touched
   pub spared : h.outcome.spared ≡ k.outcome.spared
 
@@ -57,7 +52,7 @@ built_at_once p (t ∷ ts) =
 -- what was emitted, taken as runs, each of which is handled at once
 abbrev pub BuiltAtOnce : Type 0
 BuiltAtOnce = (es : List Emitted) (ts : List Token) (p : Parser) → AreRead es → AreRuns ts → singles ts ≡ tokens_of es → IsValid p.control
-    → ((built p es).parser ≡ (built_at_once p ts).parser) × MakeSame (built p es).edits (built_at_once p ts).edits
+    → ((built p es).parser ≡ (built_at_once p ts).parser) × JoinTexts (built p es).edits (built_at_once p ts).edits
 
 -- of a run of characters only the first code point touches something older, unless it is a line feed that is dropped
 abbrev pub RunsTouchFirst : Type 0

@@ -41,8 +41,8 @@ pub fn runs()
 {}
 
 /// A run of characters handled at once is its code points handled one by one: the same state, switch, end of parsing and touched
-/// parts of older states, and from every tree the same tree. So are the tokens that the lexer emits, taken as runs. Of a run, and of
-/// a text that goes into the current node as it comes, only the first code point touches something older.
+/// parts of older states, and the same edits but for how texts are joined. So are the tokens that the lexer emits, taken as runs. Of
+/// a run, and of a text that goes into the current node as it comes, only the first code point touches something older.
 pub fn at_once()
     ensures token { RunsAtOnce }
     ensures tokens { BuiltAtOnce }
