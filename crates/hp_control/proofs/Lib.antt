@@ -14,6 +14,7 @@ pub mod OlderLemmas
 pub mod TreeLengths
 pub mod TellingLemmas
 pub mod QuestionLemmas
+pub mod RememberingLemmas
 pub mod Once
 pub mod KeptOnce
 mod Setting

@@ -1,6 +1,6 @@
 -- Pairs whose questions stand once, and how they are found.
 use Rattle.std.proofs.Common.{◌≡◌, ◌≢◌, ◌⊎◌, inl, inr, ℕ, suc, zero, Bool, true, false, List, [], ◌∷◌, ◌++◌, length, Some, refl, sym, ap, ◌∙◌, subst}
-use Rattle.std.specs.Prelude.{◌||◌, ◌<◌, slice_get, if◌then◌else◌, IfNone, Ok, None}
+use Rattle.std.specs.Prelude.{◌||◌, ◌<◌, slice_get, IfNone, Ok, None}
 use Rattle.std.proofs.Common.{arith}
 use Rattle.std.specs.List.{Contains}
 use Rattle.std.proofs.lemmas.List.Folds.{list_any-append}
@@ -11,9 +11,10 @@ use Rattle.hp_control.specs.declared.question.Answer.{Answer}
 use Rattle.hp_control.specs.declared.question.Kept.{Kept}
 use Rattle.hp_control.specs.Guessing.{AreDistinct, AreSaid, IsIndexed, KeepsPlaces, places_at}
 use Rattle.hp_control.specs.Hashing.{hash_of}
-use Rattle.hp_control.specs.Plan.{Heard, Runs, asks, gives, is_asked, kept_with}
+use Rattle.hp_control.specs.Plan.{Heard, Runs, asks, gives, is_asked}
 use Rattle.hp_control.specs.QuestionParts.{same_question}
 use Rattle.hp_control.proofs.QuestionLemmas.{question_told, question_again, question_apart}
+use Rattle.hp_control.proofs.RememberingLemmas.{answered_again}
 
 some_one : {X : Type 0} (x y : X) → Some x ≡ Some y → x ≡ y
 some_one x y e = cc
@@ -102,13 +103,8 @@ module _ {S : Type 0} (kept : List Kept) (old new : Option (HashMap ℕ (List �
 -- a question that was asked before is answered as then
 pub runs_again : (h now : Heard) (kept : List Kept) (i : ℕ) (k : Kept) (q : Question) (answer : Answer) → now ≡ h → h.kept ≡ Some kept → AreSaid h.says kept → slice_get kept i ≡ Some k → k.question ≡ q → answer ≡ k.answer → Runs h now (asks q gives) (Ok answer)
 runs_again h now kept i k q answer same is_kept said there is copied =
-    let pair : Kept = record { question = q; answer = h.says q } in
-    let asked = asked_at kept i k q there is in
-    let none : h.kept ≡ kept_with h.kept (pair ∷ []) = is_kept ∙ (ap (λ (b : Bool). Some (if b then kept else kept ++ pair ∷ [])) (sym asked) ∙ ap (λ (o : Option (List Kept)). kept_with o (pair ∷ [])) (sym is_kept)) in
-    record {
-      ends = ap Ok (sym (copied ∙ (said_at h.says kept i k said there ∙ ap h.says is)));
-      noted = same ∙ ap (λ (o : Option (List Kept)). record { says = h.says; kept = o }) none;
-    }
+    let told : h.says q ≡ answer = sym (copied ∙ (said_at h.says kept i k said there ∙ ap h.says is)) in
+    subst (λ (n : Heard). Runs h n (asks q gives) (Ok answer)) (sym same) (answered_again h kept q answer is_kept (asked_at kept i k q there is, told))
 
 pub none_weaker : {X : Type 0} (r : Option X) (P Q : Type 0) → (P → Q) → IfNone r P → IfNone r Q
 none_weaker None P Q f h = f h

@@ -4,8 +4,11 @@ use Rattle.std.specs.Option.{unwrap_or}
 use Rattle.std.specs.List.{Contains}
 use Rattle.std.specs.HashMap.{HashMap, get}
 use Rattle.hp_control.specs.declared.question.Question.{Question}
+use Rattle.hp_control.specs.declared.question.Question.TheVariants as ask
 use Rattle.hp_control.specs.declared.question.Answer.{Answer}
 use Rattle.hp_control.specs.declared.question.Kept.{Kept}
+use Rattle.hp_control.specs.declared.sought.Sought.{Sought}
+use Rattle.hp_control.specs.declared.sought.Sought.TheVariants.{Made, Same}
 use Rattle.hp_control.specs.Hashing.{hash_of}
 use Rattle.hp_control.specs.Plan.{Heard, is_asked}
 
@@ -26,6 +29,11 @@ AreDistinct (k ∷ ks) = (is_asked ks k.question ≡ false) × AreDistinct ks
 abbrev pub AreSaid : (Question → Answer) → List Kept → Type 0
 AreSaid says [] = Unit {0}
 AreSaid says (k ∷ ks) = (k.answer ≡ says k.question) × AreSaid says ks
+
+-- the question that is looked for
+abbrev pub sought : Sought → Question
+sought (Made question) = question.now
+sought (Same cuts tag) = ask.Same cuts tag.now
 
 -- the places that are noted under a hash
 abbrev pub places_at : {S : Type 0} → Option (HashMap ℕ (List ℕ) S) → ℕ → List ℕ

@@ -15,6 +15,7 @@ pub mod QuestionParts
 pub mod Hashing
 pub mod Plan
 pub mod Guessing
+pub mod Remembering
 pub mod Running
 pub mod Holds
 pub mod Agree

@@ -3,11 +3,14 @@ ghost use Rattle.std.specs.Prelude.{◌≡◌, IfOk, OnErr, None, Ok};
 ghost use Rattle.hp_control.specs.Truth.{answer_of};
 ghost use Rattle.hp_control.specs.Nothing.{nothing};
 ghost use Rattle.hp_control.specs.Plan.{Heard, Runs, asks, gives};
+ghost use Rattle.hp_control.specs.Remembering.{question_of};
 ghost use Rattle.hp_control.specs.declared.question.Question.{Question};
+ghost use Rattle.hp_control.specs.declared.question.Question.TheVariants.{Same};
 ghost use Rattle.hp_control.specs.declared.question.Answer.{Answer};
 
 use crate::question::{Answer, EntryKind, FactKind, Question};
-use hp_elements::{Mode, Name, NoMemory, Rest};
+use crate::recurring::Recurring;
+use hp_elements::{Mode, Name, NoMemory, Rest, Tag};
 use std::alloc::Global;
 
 /// What is below a chunk: a state that is asked.
@@ -19,6 +22,16 @@ pub trait Below {
     /// for want of memory, nothing is kept.
     fn ask(&mut self, alloc: Global, question: Question) -> Result<Answer, NoMemory>
         ensures asked { IfOk result (λ answer. Runs (heard self.old) (heard self.new) (asks question gives) (Ok answer)) }
+        ensures unchanged { OnErr result (heard self.new ≡ heard self.old) };
+
+    /// Asks a question that comes again and again. Where its usual answer is remembered, that takes no search.
+    fn ask_recurring(&mut self, alloc: Global, question: Recurring) -> Result<Answer, NoMemory>
+        ensures asked { IfOk result (λ answer. Runs (heard self.old) (heard self.new) (asks (question_of question) gives) (Ok answer)) }
+        ensures unchanged { OnErr result (heard self.new ≡ heard self.old) };
+
+    /// Asks how many entries are equal to the tag. It is copied only where the pair is kept, and wasn't kept before.
+    fn ask_same(&mut self, alloc: Global, cuts: u64, tag: &Tag) -> Result<Answer, NoMemory>
+        ensures asked { IfOk result (λ answer. Runs (heard self.old) (heard self.new) (asks (Same cuts tag.now) gives) (Ok answer)) }
         ensures unchanged { OnErr result (heard self.new ≡ heard self.old) };
 }
 
@@ -34,6 +47,32 @@ impl Below for Nothing {
         let answer = answer_nothing(alloc, &question);
         drop(question);
         answer
+    }
+
+    #[inline(always)]
+    fn ask_recurring(&mut self, _alloc: Global, question: Recurring) -> Result<Answer, NoMemory> {
+        Ok(recurring_of_nothing(question))
+    }
+
+    #[inline(always)]
+    fn ask_same(&mut self, _alloc: Global, _cuts: u64, _tag: &Tag) -> Result<Answer, NoMemory> {
+        Ok(Answer::Count(0))
+    }
+}
+
+/// What a state with empty lists answers to a question that comes again and again.
+#[inline(always)]
+fn recurring_of_nothing(question: Recurring) -> Answer
+    ensures { result ≡ answer_of nothing (question_of question) }
+{
+    match question {
+        Recurring::Html { .. } => Answer::No,
+        Recurring::Paragraph { .. } => Answer::No,
+        Recurring::Quiet { .. } => Answer::Yes,
+        Recurring::Listed { .. } => Answer::Entry {
+            kind: EntryKind::Absent,
+            top: false,
+        },
     }
 }
 

@@ -2,17 +2,23 @@
 ghost use Rattle.std.specs.Prelude.{◌≡◌, ◌<◌, false, [], Ok, IfOk, OnErr};
 ghost use Rattle.hp_control.specs.Guessing.{AreDistinct, AreSaid, heard_by};
 ghost use Rattle.hp_control.specs.Plan.{Runs, asks, gives, is_asked};
+ghost use Rattle.hp_control.specs.Remembering.{WasAsked, question_of};
 
 use crate::below::{Below, Predictor};
 use crate::items::lose;
 use crate::pairs::Pairs;
 use crate::question::{Answer, Assumptions, Kept, Question};
-use hp_elements::{Kinds, NoMemory};
+use crate::recurring::{Recurring, Remembered};
+use crate::sought::Sought;
+use hp_elements::{Kinds, NoMemory, Tag};
 use std::alloc::Global;
 use std::marker::Model;
 
 /// How many sorts of questions there are, of each of which the last one is remembered.
 const SORTS: usize = 8;
+
+/// The sort of `Same`.
+const SAME: usize = 4;
 
 /// An older state that is guessed: it answers as the predictor, and keeps each question that it was asked once, with its answer.
 #[derive(Drop)]
@@ -21,16 +27,19 @@ pub struct Guess<P: Predictor + Drop> {
     pairs: Pairs,
     /// Where the last question of each sort stands. Asked again, it is answered by one comparison.
     last: [usize; SORTS],
+    /// What is answered without a search.
+    remembered: Remembered,
 }
 
 impl<P: Predictor + Drop> Model for Guess<P> {
     ghost use Rattle.hp_control.specs.Guessing.{AreSaid, Guessing};
+    ghost use Rattle.hp_control.specs.Remembering.{WereAsked};
 
     ghost Value = { Guessing P };
 
     ghost view = { λ g. record { predictor = g.predictor; kept = g.pairs } };
 
-    ghost invariant = { λ g. AreSaid (P.says g.predictor) g.pairs };
+    ghost invariant = { λ g. AreSaid (P.says g.predictor) g.pairs × WereAsked (P.says g.predictor) g.pairs g.remembered };
 }
 
 /// The sort of a question: those that texts and tags ask again and again are apart.
@@ -46,7 +55,7 @@ fn sort_of(question: &Question) -> usize
         Question::Seen { .. } => 1,
         Question::Quiet { .. } => 2,
         Question::Listed { .. } => 3,
-        Question::Same { .. } => 4,
+        Question::Same { .. } => SAME,
         Question::Reach { .. } => 5,
         Question::Elem { .. } => 6,
         _ => 7,
@@ -62,6 +71,7 @@ impl<P: Predictor + Drop> Guess<P> {
             predictor,
             pairs: Pairs::new(),
             last: [0; SORTS],
+            remembered: Remembered::new(),
         }
     }
 
@@ -115,12 +125,36 @@ impl<P: Predictor + Drop> Guess<P> {
     }
 }
 
+impl<P: Predictor + Drop> Guess<P> {
+    /// Asks, and says that it was asked.
+    fn ask_plainly(&mut self, alloc: Global, question: Question) -> Result<Answer, NoMemory>
+        ensures asked { IfOk result (λ answer. Runs (heard_by P.says self.old) (heard_by P.says self.new) (asks question gives) (Ok answer)) }
+        ensures was_asked { IfOk result (WasAsked (P.says self.new.predictor) self.new.kept question) }
+        ensures unchanged { OnErr result (heard_by P.says self.new ≡ heard_by P.says self.old) }
+    {
+        self.ask(alloc, question)
+    }
+
+    /// Asks a question that comes again and again, and remembers its usual answer.
+    #[inline(never)]
+    fn learn(&mut self, alloc: Global, question: Recurring) -> Result<Answer, NoMemory>
+        ensures asked { IfOk result (λ answer. Runs (heard_by P.says self.old) (heard_by P.says self.new) (asks (question_of question) gives) (Ok answer)) }
+        ensures unchanged { OnErr result (heard_by P.says self.new ≡ heard_by P.says self.old) }
+    {
+        let answer = self.ask_plainly(alloc, question.question())?;
+        if question.is_usual(&answer) {
+            self.remembered.put(question);
+        }
+        Ok(answer)
+    }
+}
+
 impl<P: Predictor + Drop> Below for Guess<P> {
     ghost heard = { heard_by P.says };
 
     fn ask(&mut self, alloc: Global, question: Question) -> Result<Answer, NoMemory> {
         let sort = sort_of(&question);
-        match self.pairs.find(&question, self.last[sort]) {
+        match self.pairs.find(Sought::Made(&question), self.last[sort]) {
             Some((place, pair)) => {
                 let answer = pair.answer.copy(alloc);
                 self.last[sort] = place;
@@ -128,6 +162,28 @@ impl<P: Predictor + Drop> Below for Guess<P> {
                 answer
             }
             None => self.ask_first(alloc, question, sort),
+        }
+    }
+
+    #[inline(always)]
+    fn ask_recurring(&mut self, alloc: Global, question: Recurring) -> Result<Answer, NoMemory> {
+        if self.remembered.has(question) {
+            return Ok(question.usual());
+        }
+        self.learn(alloc, question)
+    }
+
+    fn ask_same(&mut self, alloc: Global, cuts: u64, tag: &Tag) -> Result<Answer, NoMemory> {
+        match self.pairs.find(Sought::Same { cuts, tag }, self.last[SAME]) {
+            Some((place, pair)) => {
+                let answer = pair.answer.copy(alloc);
+                self.last[SAME] = place;
+                answer
+            }
+            None => {
+                let tag = tag.copy(alloc)?;
+                self.ask_first(alloc, Question::Same { cuts, tag }, SAME)
+            }
         }
     }
 }

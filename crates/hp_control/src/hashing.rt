@@ -2,10 +2,11 @@
 ghost use Rattle.std.specs.Prelude.{◌≡◌};
 ghost use Rattle.std.specs.Str.{chars};
 ghost use Rattle.hp_control.specs.Hashing.{mixed, mixed_text, mixed_kinds, mixed_attributes, hash_of};
+ghost use Rattle.hp_control.specs.declared.question.Question.TheVariants.{Same};
 
 use crate::asked::{fact_place, set_place};
 use crate::question::Question;
-use hp_elements::{Attribute, Chain, Kinds};
+use hp_elements::{Attribute, Chain, Kinds, Tag};
 
 /// The hash with one number more.
 #[inline]
@@ -52,6 +53,14 @@ fn mixed_attributes(hash: u64, attributes: &Chain<Attribute>) -> u64
     mix
 }
 
+/// The hash of the question how many entries equal the tag.
+pub(crate) fn hash_of_same(cuts: u64, tag: &Tag) -> u64
+    ensures { result ≡ hash_of (Same cuts tag.now) }
+{
+    let name = mixed_text(mixed(9, cuts), tag.name.as_str());
+    mixed_attributes(name, &tag.attributes)
+}
+
 /// The hash of a question.
 pub(crate) fn hash_of(question: &Question) -> u64
     ensures { result ≡ hash_of question.now }
@@ -76,10 +85,7 @@ pub(crate) fn hash_of(question: &Question) -> u64
         Question::Listed { depth, cuts, name } => {
             mixed_text(mixed(mixed(8, *depth), *cuts), name.as_str())
         }
-        Question::Same { cuts, tag } => {
-            let name = mixed_text(mixed(9, *cuts), tag.name.as_str());
-            mixed_attributes(name, &tag.attributes)
-        }
+        Question::Same { cuts, tag } => hash_of_same(*cuts, tag),
         Question::Pointer { depth } => mixed(10, *depth),
         Question::Fact { which } => mixed(11, fact_place(*which)),
         Question::Whole { depth } => mixed(12, *depth),

@@ -1,12 +1,13 @@
 //! Questions with their answers, each question once, in the order in which they came, and found by the question.
 ghost use Rattle.std.specs.Prelude.{◌≡◌, ◌≢◌, ℕ, false, [], ◌∷◌, ◌++◌, slice_get, Some, OnOk, OnErr, IfSome, IfNone};
 ghost use Rattle.std.specs.List.{Contains};
-ghost use Rattle.hp_control.specs.Guessing.{AreDistinct, KeepsPlaces, places_at};
+ghost use Rattle.hp_control.specs.Guessing.{AreDistinct, KeepsPlaces, places_at, sought};
 ghost use Rattle.hp_control.specs.Plan.{is_asked};
 ghost use Rattle.hp_control.specs.declared.question.Kept.{Kept};
 
 use crate::hashing::hash_of;
-use crate::question::{Assumptions, Kept, Question};
+use crate::question::{Assumptions, Kept};
+use crate::sought::Sought;
 use hp_elements::{List, NoMemory};
 use std::alloc::Global;
 use std::collections::HashMap;
@@ -77,14 +78,14 @@ fn note_place(
 fn first_of<'a>(
     kept: &'a Assumptions,
     places: &[usize],
-    question: &Question,
+    question: Sought<'_>,
 ) -> Option<(usize, &'a Kept)>
-    ensures found { IfSome result (λ p. (slice_get kept.now p.0 ≡ Some p.1.now) × (p.1.now.question ≡ question.now)) }
-    ensures none { IfNone result ((place : ℕ) (pair : Kept) → Contains places.now place → slice_get kept.now place ≡ Some pair → pair.question ≢ question.now) }
+    ensures found { IfSome result (λ p. (slice_get kept.now p.0 ≡ Some p.1.now) × (p.1.now.question ≡ sought question.entry)) }
+    ensures none { IfNone result ((place : ℕ) (pair : Kept) → Contains places.now place → slice_get kept.now place ≡ Some pair → pair.question ≢ sought question.entry) }
 {
     for place in places {
         if let Some(pair) = kept.as_slice().get(*place) {
-            if pair.question.same(question) {
+            if question.is(&pair.question) {
                 return Some((*place, pair));
             }
         }
@@ -122,18 +123,18 @@ impl Pairs {
     }
 
     /// Where the question stands, and the pair; `None` where it doesn't stand. The place where it may stand is looked at first.
-    pub(crate) fn find(&self, question: &Question, maybe: usize) -> Option<(usize, &Kept)>
-        ensures found { IfSome result (λ p. (slice_get self.now p.0 ≡ Some p.1.now) × (p.1.now.question ≡ question.now)) }
-        ensures none { IfNone result (is_asked self.now question.now ≡ false) }
+    pub(crate) fn find(&self, question: Sought<'_>, maybe: usize) -> Option<(usize, &Kept)>
+        ensures found { IfSome result (λ p. (slice_get self.now p.0 ≡ Some p.1.now) × (p.1.now.question ≡ sought question.entry)) }
+        ensures none { IfNone result (is_asked self.now (sought question.entry) ≡ false) }
     {
         if let Some(pair) = self.kept.as_slice().get(maybe) {
-            if pair.question.same(question) {
+            if question.is(&pair.question) {
                 return Some((maybe, pair));
             }
         }
         match &self.places {
             None => None,
-            Some(places) => match places.get(&hash_of(question)) {
+            Some(places) => match places.get(&question.hash()) {
                 None => None,
                 Some(noted) => first_of(&self.kept, noted.as_slice(), question),
             },

@@ -9,7 +9,7 @@ pub returns-in-Some-clause-asked : goal.returns-in-Some-clause-asked
 returns-in-Some-clause-asked g c =
     let says = g.P.Predictor.says in
     let turned = ap (heard_by says) c.self.view_is in
-    let said = subst (λ (h : Heard). AreSaid h.says c.self.inside.pairs) turned c.self.invariant in
+    let said = subst (λ (h : Heard). AreSaid h.says c.self.inside.pairs) turned c.self.invariant.0 in
     IfOk-weaker c.copy-answer.result _ _ (λ answer e.
     runs_again (heard_by says c.args.self.now) _ c.self.inside.pairs c.in-Some.place c.in-Some.pair.now c.args.question answer
     turned (ap (λ (h : Heard). h.kept) (sym turned)) said c.in-Some.ensures.found.0 c.in-Some.ensures.found.1 e) c.copy-answer.ensures
