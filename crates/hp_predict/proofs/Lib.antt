@@ -1,6 +1,7 @@
 pub mod NameLemmas
 pub mod TagLemmas
 pub mod NamesLemmas
+pub mod PassedTags
 pub mod LengthLemmas
 pub mod EndsLemmas
 pub mod ModeLemmas

@@ -1,5 +1,5 @@
 -- The names that tags leave open, without regard to the rules of the tree: lists of names whose last one stands first.
-use Rattle.std.specs.Prelude.{ℕ, Bool, false, not, ◌&&◌, if◌then◌else◌, List, [], ◌∷◌, Option, None, Some}
+use Rattle.std.specs.Prelude.{◌≡◌, ℕ, ◌==◌, Bool, true, false, not, ◌&&◌, ◌||◌, if◌then◌else◌, List, [], ◌∷◌, Option, None, Some}
 use Rattle.std.specs.Option.{is_some, unwrap_or}
 use Rattle.std.specs.Str.{bytes_eq}
 use Rattle.hp_elements.specs.Names.{text_of}
@@ -72,3 +72,15 @@ unmatched [] names = []
 unmatched (tag ∷ tags) names =
     if is_unmatched tag names then tag.name ∷ unmatched tags names
     else unmatched tags (after_tag tag names)
+
+-- a start tag before which nothing else opens, and the end tag that closes it at once
+pub record IsPair (start end : SeenTag) : Type 0 where
+  pub opens : start.is_end ≡ false
+  pub closes : end.is_end ≡ true
+  pub same : end.name ≡ start.name
+  pub alone : (names : Names) → implied start.name names ≡ names
+
+-- a name begins with `t`, in either case, as those of rows and cells do, before whose tags something else may open
+abbrev pub begins_with_t : List ℕ → Bool
+begins_with_t [] = false
+begins_with_t (c ∷ cs) = c == 116 || c == 84

@@ -51,6 +51,10 @@ tags false (c ∷ cs) = elim (tag_at c cs) [ None ↦ tags false cs | Some tag �
 abbrev pub counts : List ℕ → Bool
 counts name = not (in_set Void Html name || is_among (words "html head body") name)
 
+-- those that count
+abbrev pub counting : List SeenTag → List SeenTag
+counting seen = filter (λ (tag : SeenTag). counts tag.name) seen
+
 -- the tags of a text that count
 abbrev pub counted_tags : List ℕ → List SeenTag
-counted_tags text = filter (λ (tag : SeenTag). counts tag.name) (tags false text)
+counted_tags text = counting (tags false text)

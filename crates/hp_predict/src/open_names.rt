@@ -1,11 +1,13 @@
 //! The names that the tags of a text leave open, and its end tags that close none of them.
-ghost use Rattle.std.specs.Prelude.{◌≡◌, ◌≤◌, true, [], ◌∷◌, ◌++◌, length, drop, OnOk, IfOk, IfSome, if◌then◌else◌};
+ghost use Rattle.std.specs.Prelude.{◌≡◌, ◌<◌, ◌≤◌, true, [], ◌∷◌, ◌++◌, length, drop, Some, OnOk, IfOk, IfSome, if◌then◌else◌};
 ghost use Rattle.std.specs.Option.{option_map};
-ghost use Rattle.hp_predict.specs.Tags.{counts, counted_tags};
-ghost use Rattle.hp_predict.specs.OpenNames.{with_section, with_row, implied, below, is_unmatched, after_tag, after, unmatched};
+ghost use Rattle.std.specs.Str.{IsAscii};
+ghost use Rattle.hp_predict.specs.Tags.{counts, counted_tags, counting};
+ghost use Rattle.hp_predict.specs.Found.{found_tag, left_from, tags_from};
+ghost use Rattle.hp_predict.specs.OpenNames.{IsPair, begins_with_t, with_section, with_row, implied, below, is_unmatched, after_tag, after, unmatched};
 
 use crate::name::TagName;
-use crate::tags::next_tag;
+use crate::tags::{FoundTag, next_tag};
 use hp_control::Stack;
 use hp_elements::{Known, List, NoMemory, SetName};
 use std::alloc::Global;
@@ -73,6 +75,36 @@ fn closed_by(names: &Stack<TagName<'_>>, name: &TagName<'_>) -> Option<usize>
     None
 }
 
+/// Whether a name as it stands in a text begins with `t`, as those of rows and cells do, before whose tags something else may open.
+fn begins_with_t(name: &[u8]) -> bool
+    ensures { result ≡ begins_with_t name.now }
+{
+    match name {
+        [first, ..] => *first == b't' || *first == b'T',
+        [] => false,
+    }
+}
+
+/// Whether the second tag closes the first one at once, before which nothing else opens. The two leave the names as they are.
+fn is_pair(start: FoundTag<'_>, end: FoundTag<'_>) -> bool
+    ensures { result ≡ true → IsPair (found_tag start.entry) (found_tag end.entry) }
+{
+    if start.is_end || !end.is_end || begins_with_t(start.name) {
+        return false;
+    }
+    end.name.eq_ignore_ascii_case(start.name)
+}
+
+/// The next tag, where it closes this one at once.
+fn closing<'t>(start: FoundTag<'t>, next: Option<FoundTag<'t>>) -> Option<FoundTag<'t>>
+    ensures { IfSome result (λ end. (next.entry ≡ Some end) × IsPair (found_tag start.entry) (found_tag end)) }
+{
+    match next {
+        Some(end) if is_pair(start, end) => Some(end),
+        _ => None,
+    }
+}
+
 impl<'t> Scan<'t> {
     /// Takes one more tag.
     fn take(&mut self, alloc: Global, is_end: bool, name: TagName<'t>) -> Result<(), NoMemory>
@@ -97,6 +129,25 @@ impl<'t> Scan<'t> {
             self.names.add(alloc, name)
         }
     }
+
+    /// Takes a tag, or it and the next one, where that closes it at once. Answers the tag behind. A name is looked up only where
+    /// its tag isn't closed at once.
+    fn pass(&mut self, alloc: Global, tag: FoundTag<'t>) -> Result<Option<FoundTag<'t>>, NoMemory>
+        requires ascii { IsAscii tag.name.now }
+        ensures names { IfOk result (λ next. after (counting (tags_from next)) self.new.names ≡ after (counting (tags_from (Some tag.entry))) self.old.names) }
+        ensures unmatched { IfOk result (λ next. self.new.unmatched ++ unmatched (counting (tags_from next)) self.new.names ≡ self.old.unmatched ++ unmatched (counting (tags_from (Some tag.entry))) self.old.names) }
+        ensures smaller { IfOk result (λ next. left_from next < left_from (Some tag.entry)) }
+        ensures ascii { IfOk result (λ next. IfSome next (λ found. IsAscii found.name.now)) }
+    {
+        let next = next_tag(tag.rest);
+        match closing(tag, next) {
+            Some(end) => Ok(next_tag(end.rest)),
+            None => {
+                self.take(alloc, tag.is_end, TagName::read(tag.name))?;
+                Ok(next)
+            }
+        }
+    }
 }
 
 /// Reads the tags of a text.
@@ -108,10 +159,9 @@ pub fn read_tags<'t>(alloc: Global, text: &'t [u8]) -> Result<Scan<'t>, NoMemory
         names: Stack::new(),
         unmatched: List::new(),
     };
-    let mut rest = text;
-    while let Some(tag) = next_tag(rest) {
-        rest = tag.rest;
-        scan.take(alloc, tag.is_end, tag.name)?;
+    let mut found = next_tag(text);
+    while let Some(tag) = found {
+        found = scan.pass(alloc, tag)?;
     }
     Ok(scan)
 }

@@ -6,7 +6,6 @@ ghost use Rattle.std.specs.Char.{is_ascii_alphanumeric};
 ghost use Rattle.hp_predict.specs.Tags.{tags, tag_after as spec_tag_after, named as spec_named};
 ghost use Rattle.hp_predict.specs.Found.{opening as spec_opening, opening_tag, found_tag};
 
-use crate::name::TagName;
 use memchr::memchr;
 
 /// How many ASCII letters and digits stand at the front of a text.
@@ -55,10 +54,11 @@ fn tag_after<'t>(text: &'t [u8]) -> Option<Opening<'t>>
 }
 
 /// A tag, and the text behind it.
-#[derive(Drop)]
+#[derive(Clone, Copy)]
 pub struct FoundTag<'t> {
     pub is_end: bool,
-    pub name: TagName<'t>,
+    /// The name as it stands in the text.
+    pub name: &'t [u8],
     pub rest: &'t [u8],
 }
 
@@ -76,12 +76,13 @@ fn closed<'t>(opening: Opening<'t>, text: &'t [u8]) -> Option<FoundTag<'t>>
     requires ascii { IsAscii opening.name.now }
     ensures tags { MatchOption result (tags false (60 ∷ text.now) ≡ []) (λ found. tags false (60 ∷ text.now) ≡ found_tag found ∷ tags false found.rest.now) }
     ensures shorter { IfSome result (λ found. length found.rest.now < length text.now) }
+    ensures ascii { IfSome result (λ found. IsAscii found.name.now) }
 {
     match memchr(b'>', text) {
         None => None,
         Some(end) => Some(FoundTag {
             is_end: opening.is_end,
-            name: TagName::read(opening.name),
+            name: opening.name,
             rest: behind(text, end),
         }),
     }
@@ -91,6 +92,7 @@ fn closed<'t>(opening: Opening<'t>, text: &'t [u8]) -> Option<FoundTag<'t>>
 pub fn next_tag<'t>(text: &'t [u8]) -> Option<FoundTag<'t>>
     ensures tags { MatchOption result (tags false text.now ≡ []) (λ found. tags false text.now ≡ found_tag found ∷ tags false found.rest.now) }
     ensures shorter { IfSome result (λ found. length found.rest.now < length text.now) }
+    ensures ascii { IfSome result (λ found. IsAscii found.name.now) }
 {
     let mut rest = text;
     while let Some(at) = memchr(b'<', rest) {
