@@ -16,7 +16,8 @@ use Rattle.hp_control.specs.declared.edit.Edit.{Edit}
 use Rattle.hp_control.specs.Composed.{is_foreign_now}
 use Rattle.hp_control.specs.Outcome.{is_older, touches_any}
 use Rattle.hp_control.specs.States.{ControlState, IsValid}
-use Rattle.hp_control.specs.Tree.{applied_all}
+use Rattle.hp_groves.specs.Joining.{JoinTexts, Same, Back, Through}
+use Rattle.hp_groves.proofs.Joined.{one_by_one-join}
 use Rattle.hp_lexer.specs.declared.lexer.Asked.{Asked}
 use Rattle.hp_lexer.specs.declared.lexer.Lexer.{Lexer}
 use Rattle.hp_lexer.specs.Places.{IsInPiece, told, text_at}
@@ -104,7 +105,7 @@ module _ (names : List Reference) (name : List ℕ) (base : ℕ) (s : ControlSta
     comes =
         subst (λ (n : Lexing). Come n (left_after handle_at_once c tokens) (es ++ made_after handle c (singles tokens))) does.turned
         (subst (λ (d : ControlState). Come (turned_by handle c (singles tokens) k) d (es ++ made_after handle c (singles tokens))) does.left there);
-    same = λ tree. sym (does.made tree);
+    same = Back _ _ does.made;
     valid = after-valid tokens c read runs valid;
   }
     where
@@ -126,9 +127,7 @@ module _ (names : List Reference) (name : List ℕ) (base : ℕ) (s : ControlSta
         subst (λ (r : Option Rest). Come (switched r k) (left_by (handle_at_once c e.token)) (es ++ made_after handle c (e.token ∷ []))) same.switch
         (subst (λ (d : ControlState). Come (switched (handle c e.token).switch k) d (es ++ made_after handle c (e.token ∷ []))) same.control
         (led-come l k c es (e ∷ []) h leads (ap (λ b. not b && true) (same.touched (is_older s)) ∙ u)));
-    same = λ tree.
-        ap (applied_all tree) (append-nil (handle_at_once c e.token).outcome.edits)
-        ∙ (sym (same.edits tree) ∙ sym (ap (applied_all tree) (append-nil (handle c e.token).outcome.edits)));
+    same = one_by_one-join (handle_at_once c e.token).outcome.edits (handle c e.token).outcome.edits [] [] (Back _ _ same.edits) (Same []);
     valid = at_once-valid runs_at_once e.token c read.0 runs valid;
   }
     where
@@ -141,7 +140,7 @@ module _ (names : List Reference) (name : List ℕ) (base : ℕ) (s : ControlSta
   run-further l c es ts run f same = record {
     more = f.more;
     comes = subst (λ (d : ControlState). Come l d (es ++ f.more)) left f.comes;
-    same = λ tree. sym (same.edits tree) ∙ (ap (applied_all tree) (each-made c ts) ∙ f.same tree);
+    same = Through _ _ _ (Back _ _ same.edits) (subst (λ (made : List Edit). JoinTexts made f.more) (sym (each-made c ts)) f.same);
     valid = subst IsValid left f.valid;
   }
     where

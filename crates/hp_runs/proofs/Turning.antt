@@ -1,5 +1,5 @@
 -- All tokens of some moves, each with its switch, are steps of the run.
-use Rattle.std.proofs.Common.{◌≡◌, ℕ, List, [], ◌∷◌, ◌++◌, refl, ap, ◌∙◌, sym, Option}
+use Rattle.std.proofs.Common.{◌≡◌, ℕ, List, [], ◌∷◌, ◌++◌, refl, ap, ◌∙◌, sym, subst, Option}
 use Rattle.hp_elements.specs.declared.token.CharClass.{CharClass}
 use Rattle.hp_elements.specs.declared.token.Rest.{Rest}
 use Rattle.hp_elements.specs.declared.token.Token.{Token}
@@ -8,9 +8,10 @@ use Rattle.hp_tokens.specs.Advancing.{AreRuns, single, singles, tokens_of}
 use Rattle.hp_tokens.specs.Moves.{Lexing, Emitted, Move, makes}
 use Rattle.hp_control.specs.declared.edit.Edit.{Edit}
 use Rattle.hp_control.specs.States.{ControlState, IsValid}
-use Rattle.hp_control.specs.Tree.{Tree, applied_all}
+use Rattle.hp_groves.specs.Joining.{JoinTexts, Same}
+use Rattle.hp_groves.proofs.Joined.{one_by_one-join}
 use Rattle.hp_model.proofs.Handled.{handle-valid}
-use Rattle.hp_model.specs.AtOnce.{LeaveSame, MakeSame, RunsAtOnce, handle_at_once}
+use Rattle.hp_model.specs.AtOnce.{LeaveSame, RunsAtOnce, handle_at_once}
 use Rattle.hp_model.specs.Handling.{handle}
 use Rattle.hp_model.specs.Runs.{Parser, goes, built, step_by, switched, told}
 use Rattle.hp_model.specs.Turns.{left_by}
@@ -19,7 +20,7 @@ use Rattle.hp_runs.specs.Tokens.{AllRead}
 use Rattle.hp_runs.specs.Handling.{AreQuiet, Handler, left_after, made_after, turned_by}
 use Rattle.hp_runs.proofs.Batches.{at, built-control, built-made, left-append, made-append}
 use Rattle.hp_runs.proofs.Quiet.{at_once-quiet, characters-quiet}
-use Rattle.hp_runs.proofs.Together.{applied-append, left-single, made-single}
+use Rattle.hp_runs.proofs.Together.{left-single, made-single}
 
 pub turned-append : (does : Handler) (c : ControlState) (xs ys : List Token) (l : Lexing) → turned_by does c (xs ++ ys) l ≡ turned_by does (left_after does c xs) ys (turned_by does c xs l)
 turned-append does c [] ys l = refl
@@ -48,7 +49,7 @@ loud-step l m es c made is =
 pub record Does (c : ControlState) (ts : List Token) (k : Lexing) : Type 0 where
   pub turned : turned_by handle c (singles ts) k ≡ turned_by handle_at_once c ts k
   pub left : left_after handle c (singles ts) ≡ left_after handle_at_once c ts
-  pub made : MakeSame (made_after handle c (singles ts)) (made_after handle_at_once c ts)
+  pub made : JoinTexts (made_after handle c (singles ts)) (made_after handle_at_once c ts)
 
 letters-turned : (class : CharClass) (text : List ℕ) (c : ControlState) (k : Lexing) → turned_by handle c (single (token.Characters class text)) k ≡ k
 letters-turned class text c k = turned-quiet handle c (single (token.Characters class text)) k (characters-quiet (single (token.Characters class text)) c (alone text))
@@ -72,18 +73,20 @@ does-on t ts c k same rest = record {
       left-append handle c (single t) (singles ts)
       ∙ (ap (λ (x : ControlState). left_after handle x (singles ts)) (left-single c t)
       ∙ (rest.left ∙ ap (λ (x : ControlState). left_after handle_at_once x ts) same.control));
-  made = λ tree.
-      ap (applied_all tree) (made-append handle c (single t) (singles ts) ∙ ap (λ (es : List Edit). es ++ made_after handle (left_after handle c (single t)) (singles ts)) (made-single c t))
-      ∙ (ap (λ (x : ControlState). applied_all tree ((handle c t).outcome.edits ++ made_after handle x (singles ts))) (left-single c t)
-      ∙ (applied-append tree (handle c t).outcome.edits (made_after handle (left_by (handle c t)) (singles ts))
-      ∙ (ap (λ (x : Tree). applied_all x (made_after handle (left_by (handle c t)) (singles ts))) (same.edits tree)
-      ∙ (rest.made (applied_all tree (handle_at_once c t).outcome.edits)
-      ∙ (ap (λ (x : ControlState). applied_all (applied_all tree (handle_at_once c t).outcome.edits) (made_after handle_at_once x ts)) same.control
-      ∙ sym (applied-append tree (handle_at_once c t).outcome.edits (made_after handle_at_once (left_by (handle_at_once c t)) ts)))))));
+  made =
+      subst (λ (es : List Edit). JoinTexts es (made_after handle_at_once c (t ∷ ts))) (sym parts)
+      (subst (λ (x : ControlState). JoinTexts ((handle c t).outcome.edits ++ made_after handle (left_by (handle c t)) (singles ts)) ((handle_at_once c t).outcome.edits ++ made_after handle_at_once x ts)) same.control
+      (one_by_one-join (handle c t).outcome.edits (handle_at_once c t).outcome.edits (made_after handle (left_by (handle c t)) (singles ts)) (made_after handle_at_once (left_by (handle c t)) ts) same.edits rest.made));
 }
+  where
+    parts : made_after handle c (singles (t ∷ ts)) ≡ (handle c t).outcome.edits ++ made_after handle (left_by (handle c t)) (singles ts)
+    parts =
+        made-append handle c (single t) (singles ts)
+        ∙ (ap (λ (es : List Edit). es ++ made_after handle (left_after handle c (single t)) (singles ts)) (made-single c t)
+        ∙ ap (λ (x : ControlState). (handle c t).outcome.edits ++ made_after handle x (singles ts)) (left-single c t))
 
 pub all-together : RunsAtOnce → (ts : List Token) (c : ControlState) (k : Lexing) → AllRead ts → AreRuns ts → IsValid c → Does c ts k
-all-together law [] c k read runs v = record { turned = refl; left = refl; made = λ t. refl }
+all-together law [] c k read runs v = record { turned = refl; left = refl; made = Same [] }
 all-together law (t ∷ ts) c k read runs v =
     let same : LeaveSame (handle c t) (handle_at_once c t) = law t c read.0 runs.0 v in
     does-on t ts c k same (all-together law ts (left_by (handle c t)) (switched (handle_at_once c t).switch k) read.1 runs.1 (handle-valid t c read.0 v))

@@ -14,13 +14,14 @@ use Rattle.hp_control.specs.declared.edit.Edit.{Edit}
 use Rattle.hp_control.specs.Composed.{is_foreign_now}
 use Rattle.hp_control.specs.Outcome.{touches_any}
 use Rattle.hp_control.specs.States.{ControlState, IsValid}
+use Rattle.hp_groves.specs.Joining.{JoinTexts}
 use Rattle.hp_lexer.specs.declared.lexer.Asked.TheVariants as asked
 use Rattle.hp_lexer.specs.declared.lexer.Lexer.{Lexer}
 use Rattle.hp_lexer.specs.declared.lexer.Step.TheVariants as steps
 use Rattle.hp_lexer.specs.Places.{IsInPiece, told, text_at}
 use Rattle.hp_lexer.specs.Standing.{IsBatch, PlainStepped, Reaches, ReachesCdata, Stepped, TagStepped, stands}
 use Rattle.hp_lexer.specs.Table.{table}
-use Rattle.hp_model.specs.AtOnce.{MakeSame, handle_at_once}
+use Rattle.hp_model.specs.AtOnce.{handle_at_once}
 use Rattle.hp_model.specs.Runs.{Parser, followed_by}
 use Rattle.hp_model.specs.Texts.{TakesText, as_run}
 use Rattle.hp_model.specs.Turns.{left_by}
@@ -36,11 +37,11 @@ pub record HasCome (names : List Reference) (name : List ℕ) (base : ℕ) (s : 
   pub goes : GoesOwn (table names) s from edits (record { lexing = at; control = c })
   pub follows : IsInPiece base (at_filled name here) at
 
--- It has come further, to a valid state, with edits that have the effect of these on every tree.
+-- It has come further, to a valid state, with edits that are these but for how texts are joined.
 pub record ComesFurther (names : List Reference) (name : List ℕ) (base : ℕ) (s : ControlState) (from : Parser) (here : Lexing) (c : ControlState) (edits made : List Edit) : Type 0 where
   pub more : List Edit
   pub comes : HasCome names name base s from here c (edits ++ more)
-  pub same : MakeSame made more
+  pub same : JoinTexts made more
   pub valid : IsValid c
 
 -- It has come to where the text is used up, and what the lexer has read ahead is all that is unread.

@@ -4,7 +4,7 @@ ghost use Rattle.hp_runs.specs.Coming.{BlanksCome, CutEnds, NameComes, RunBegins
 ghost use Rattle.hp_runs.specs.Coming.{BlanksStop, TagStops, TextStops, TokensStop};
 
 /// What the lexer's calls do to how far a run has come, where none of the tokens touches something older, each handled at once: the
-/// run is at the lexer's place behind them, whatever switches they call for, and has edits of the same effect.
+/// run is at the lexer's place behind them, whatever switches they call for, and has the same edits but for how texts are joined.
 pub fn comes_on()
     ensures begins { RunBegins }
     ensures text_begins { TextBegins }
