@@ -1,7 +1,11 @@
 -- The questions, and how each answer is read: one of another kind is read as if nothing were there.
 use Rattle.std.specs.Prelude.{ℕ, ◌+◌, ◌-◌, ◌<◌, ◌^◌, Bool, true, false, not, ◌&&◌, if◌then◌else◌, nat_lt, nat_le, List, [], Option, Some, None}
 use Rattle.hp_elements.specs.Kinds.{is_html}
+use Rattle.hp_elements.specs.Names.{text_of}
+use Rattle.hp_elements.specs.KnownNames as known
 use Rattle.hp_elements.specs.declared.kinds.Kinds.{Kinds}
+use Rattle.hp_elements.specs.declared.kinds.Kinds.TheVariants as kinds
+use Rattle.hp_elements.specs.declared.sets.SetName.TheVariants as sets
 use Rattle.hp_elements.specs.declared.tag.Tag.{Tag}
 use Rattle.hp_elements.specs.declared.token.Mode.{Mode}
 use Rattle.hp_elements.specs.declared.token.Mode.TheVariants as mode
@@ -73,6 +77,14 @@ IsShort depth (Here k) = depth + k < 2 ^ 60
 
 abbrev pub ask_seen : ℕ → Kinds → Kinds → Plan Bool
 ask_seen depth goals stops = asks (ask.Seen depth goals stops) (λ a. gives (is_yes a))
+
+-- whether the element there is an HTML one
+abbrev pub ask_html : ℕ → Plan Bool
+ask_html depth = ask_seen depth kinds.AnyHtml kinds.All
+
+-- whether a p element is in button scope from there downward
+abbrev pub ask_paragraph : ℕ → Plan Bool
+ask_paragraph depth = ask_seen depth (kinds.Html (text_of known.P)) (kinds.Set sets.ButtonScopeEnds)
 
 abbrev pub ask_reach : ℕ → Kinds → Kinds → Plan (Option ℕ)
 ask_reach depth goals stops = asks (ask.Reach depth goals stops) (λ a. gives (depth_from depth a))

@@ -1,10 +1,10 @@
 //! One call for each kind of question: it asks, and reads the answer.
 ghost use Rattle.std.specs.Prelude.{◌≡◌, ◌+◌, ◌<◌, ◌^◌, IfOk, IfSome};
 ghost use Rattle.hp_views.specs.Asking.{ask_seen, ask_reach, ask_run, ask_template, ask_reset, ask_quiet, ask_listed, ask_same, ask_pointer, ask_quirks, ask_last_tag, ask_body, ask_frameset};
-ghost use Rattle.hp_views.specs.Asking.{IsShort, ask_foreign, ask_there};
+ghost use Rattle.hp_views.specs.Asking.{IsShort, ask_foreign, ask_html, ask_paragraph, ask_there};
 ghost use Rattle.hp_views.specs.View.{Learns};
 
-use hp_control::{Answer, Below, EntryKind, FactKind, Question};
+use hp_control::{Answer, Below, EntryKind, FactKind, Question, Recurring};
 use hp_elements::{Kinds, Mode, Name, Namespace, NoMemory, Tag};
 use std::alloc::Global;
 
@@ -56,6 +56,21 @@ fn asked_yes<B: Below>(below: &mut B, alloc: Global, question: Question) -> Resu
     }
 }
 
+/// The same of a question that comes again and again.
+#[inline(always)]
+fn recurring_yes<B: Below>(
+    below: &mut B,
+    alloc: Global,
+    question: Recurring,
+) -> Result<bool, NoMemory>
+    ensures { Learns result (B.heard below.old) (B.heard below.new) (asks (question_of question) (λ a. gives (spec_is_yes a))) }
+{
+    match below.ask_recurring(alloc, question)? {
+        Answer::Yes => Ok(true),
+        _ => Ok(false),
+    }
+}
+
 /// The number that is answered to the question.
 #[inline(always)]
 fn asked_count<B: Below>(below: &mut B, alloc: Global, question: Question) -> Result<u64, NoMemory>
@@ -69,6 +84,7 @@ fn asked_count<B: Below>(below: &mut B, alloc: Global, question: Question) -> Re
 }
 
 ghost use Rattle.hp_control.specs.Plan.{asks, gives};
+ghost use Rattle.hp_control.specs.Remembering.{question_of};
 
 /// Whether a goal stands above each stop, from this depth downward.
 #[inline(never)]
@@ -87,6 +103,22 @@ pub fn older_seen<B: Below>(
         stops,
     };
     asked_yes(below, alloc, question)
+}
+
+/// Whether the element at this depth is an HTML one.
+#[inline(always)]
+pub fn older_html<B: Below>(below: &mut B, alloc: Global, depth: u64) -> Result<bool, NoMemory>
+    ensures { Learns result (B.heard below.old) (B.heard below.new) (ask_html depth) }
+{
+    recurring_yes(below, alloc, Recurring::Html { depth })
+}
+
+/// Whether a p element is in button scope, seen from this depth.
+#[inline(always)]
+pub fn older_paragraph<B: Below>(below: &mut B, alloc: Global, depth: u64) -> Result<bool, NoMemory>
+    ensures { Learns result (B.heard below.old) (B.heard below.new) (ask_paragraph depth) }
+{
+    recurring_yes(below, alloc, Recurring::Paragraph { depth })
 }
 
 /// How many elements stand above the first goal, from this depth downward; `None` where a stop comes first, or no goal.
@@ -155,7 +187,28 @@ pub fn older_quiet<B: Below>(
 ) -> Result<bool, NoMemory>
     ensures { Learns result (B.heard below.old) (B.heard below.new) (ask_quiet depth cuts) }
 {
-    asked_yes(below, alloc, Question::Quiet { depth, cuts })
+    recurring_yes(below, alloc, Recurring::Quiet { depth, cuts })
+}
+
+ghost use Rattle.hp_control.specs.Plan.{Runs};
+ghost use Rattle.hp_control.specs.declared.question.Question.TheVariants.{Listed as ListedQuestion};
+ghost use Rattle.std.specs.Prelude.{Ok};
+
+/// What is answered to the question how the last entry of that name stands.
+#[inline(always)]
+fn listed_answer<B: Below>(
+    below: &mut B,
+    alloc: Global,
+    depth: u64,
+    cuts: u64,
+    name: Name,
+) -> Result<Answer, NoMemory>
+    ensures { IfOk result (λ answer. Runs (B.heard below.old) (B.heard below.new) (asks (ListedQuestion depth cuts name) gives) (Ok answer)) }
+{
+    match name.known() {
+        Some(name) => below.ask_recurring(alloc, Recurring::Listed { depth, cuts, name }),
+        None => below.ask(alloc, Question::Listed { depth, cuts, name }),
+    }
 }
 
 /// How the last entry of that name stands.
@@ -169,7 +222,7 @@ pub fn older_listed<B: Below>(
 ) -> Result<Standing, NoMemory>
     ensures { Learns result (B.heard below.old) (B.heard below.new) (ask_listed depth cuts name) }
 {
-    match below.ask(alloc, Question::Listed { depth, cuts, name })? {
+    match listed_answer(below, alloc, depth, cuts, name)? {
         Answer::Entry { kind, top } => Ok(Standing { kind, top }),
         _ => Ok(Standing {
             kind: EntryKind::Absent,
@@ -184,12 +237,15 @@ pub fn older_same<B: Below>(
     below: &mut B,
     alloc: Global,
     cuts: u64,
-    tag: Tag,
+    tag: &Tag,
 ) -> Result<u64, NoMemory>
-    ensures learns { Learns result (B.heard below.old) (B.heard below.new) (ask_same cuts tag) }
+    ensures learns { Learns result (B.heard below.old) (B.heard below.new) (ask_same cuts tag.now) }
     ensures short { IfOk result (λ count. count < 2 ^ 60) }
 {
-    asked_count(below, alloc, Question::Same { cuts, tag })
+    match below.ask_same(alloc, cuts, tag)? {
+        Answer::Count(count) if count < LIMIT => Ok(count),
+        _ => Ok(0),
+    }
 }
 
 /// Where the form pointer points.

@@ -88,10 +88,7 @@ impl<'p, B: Below> View<'p, B> {
         match self.change.stack.paragraph() {
             WalkEnd::Goal => Ok(true),
             WalkEnd::Stop => Ok(false),
-            WalkEnd::BelowAll => {
-                let ends = Kinds::Set(SetName::ButtonScopeEnds);
-                self.seen_below(alloc, Kinds::Html(Name::of_known(Known::P)), ends)
-            }
+            WalkEnd::BelowAll => self.paragraph_below(alloc),
         }
     }
 

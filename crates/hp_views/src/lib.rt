@@ -21,7 +21,7 @@ mod view;
 mod walks;
 mod whole;
 
-pub use asking::{Standing, older_listed, older_quiet, older_reach, older_same, older_seen};
+pub use asking::{Standing, older_html, older_listed, older_quiet, older_reach, older_same};
 pub use laws::{
     begins_mean, closing_means, fields_mean, inserts_mean, lists_mean, places_mean, pops_mean,
     removes_mean, reset_means, steps_mean, tests_tell, whole_means,

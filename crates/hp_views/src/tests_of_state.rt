@@ -4,8 +4,8 @@ ghost use Rattle.hp_views.specs.View.{sight, Answers};
 ghost use Rattle.hp_views.specs.StackPlans.{seen_plan, in_scope_plan, current_is_plan, below_is_plan, template_plan, frameset_ok_plan, is_quirks_plan, has_form_plan, is_table_mode};
 
 use crate::asking::{
-    Pointed, older_body, older_foreign, older_frameset, older_last_tag, older_pointer,
-    older_quirks, older_seen, older_template, older_there,
+    Pointed, older_body, older_foreign, older_frameset, older_html, older_last_tag,
+    older_paragraph, older_pointer, older_quirks, older_seen, older_template, older_there,
 };
 use crate::place::a_template;
 use crate::view::View;
@@ -41,7 +41,8 @@ fn last_is_body(stack: &OpenElements) -> bool
 
 ghost use Rattle.hp_views.specs.SecondPlans.{last_is_body as spec_last_is_body, second_plan, own_modes, foreign_now_plan};
 ghost use Rattle.hp_views.specs.View.{Knows};
-ghost use Rattle.hp_views.specs.Asking.{ask_last_tag, ask_seen};
+ghost use Rattle.hp_views.specs.Asking.{ask_html, ask_last_tag, ask_paragraph, ask_seen};
+ghost use Rattle.hp_elements.specs.declared.kinds.Kinds.TheVariants as kinds;
 
 impl<'p, B: Below> View<'p, B> {
     /// Whether a goal stands above each stop.
@@ -70,6 +71,35 @@ impl<'p, B: Below> View<'p, B> {
         Ok(older_seen(&mut self.below, alloc, depth, goals, stops)?)
     }
 
+    /// Whether the older current node is of these kinds.
+    #[inline(always)]
+    fn older_is(&mut self, alloc: Global, goals: Kinds) -> Result<bool, Refusal>
+        ensures { Answers result (sight B.heard self.old) (sight B.heard self.new) (λ v. ask_seen v.change.popped goals kinds.All) }
+    {
+        match goals {
+            Kinds::AnyHtml => self.html_below(alloc),
+            other => self.seen_below(alloc, other, Kinds::All),
+        }
+    }
+
+    /// Whether it is an HTML element.
+    #[inline(always)]
+    fn html_below(&mut self, alloc: Global) -> Result<bool, Refusal>
+        ensures { Answers result (sight B.heard self.old) (sight B.heard self.new) (λ v. ask_html v.change.popped) }
+    {
+        let depth = self.change.popped;
+        Ok(older_html(&mut self.below, alloc, depth)?)
+    }
+
+    /// Whether a p element of what is left of the older stack is in button scope.
+    #[inline(always)]
+    pub(crate) fn paragraph_below(&mut self, alloc: Global) -> Result<bool, Refusal>
+        ensures { Answers result (sight B.heard self.old) (sight B.heard self.new) (λ v. ask_paragraph v.change.popped) }
+    {
+        let depth = self.change.popped;
+        Ok(older_paragraph(&mut self.below, alloc, depth)?)
+    }
+
     /// Whether an element of these kinds is in that scope (13.2.4.2).
     #[inline(always)]
     pub fn in_scope(&mut self, alloc: Global, scope: Scope, goals: Kinds) -> Result<bool, Refusal>
@@ -84,7 +114,7 @@ impl<'p, B: Below> View<'p, B> {
         ensures { Answers result (sight B.heard self.old) (sight B.heard self.new) (current_is_plan goals) }
     {
         if self.change.stack.is_empty() {
-            self.seen_below(alloc, goals, Kinds::All)
+            self.older_is(alloc, goals)
         } else {
             Ok(is_within(&goals, self.change.stack.at(0)))
         }
@@ -114,7 +144,7 @@ impl<'p, B: Below> View<'p, B> {
             return Ok(!is_html(self.change.stack.at(0)));
         }
         let depth = self.change.popped;
-        if older_seen(&mut self.below, alloc, depth, Kinds::AnyHtml, Kinds::All)? {
+        if older_html(&mut self.below, alloc, depth)? {
             return Ok(false);
         }
         older_foreign(&mut self.below, alloc, depth)

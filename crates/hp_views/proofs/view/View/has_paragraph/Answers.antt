@@ -1,11 +1,9 @@
 use Rattle.std.specs.Prelude.{Ok, true, false, refl}
-use Rattle.std.proofs.Common.{ℕ, List, subst, sym, ◌∙◌}
+use Rattle.std.proofs.Common.{sym, ◌∙◌}
 use Rattle.hp_elements.specs.declared.act.Scope.TheVariants as scope
-use Rattle.hp_elements.specs.declared.kinds.Kinds.TheVariants as kinds
 use Rattle.hp_control.specs.declared.open_elements.WalkEnd.TheVariants.{Goal, Stop, BelowAll}
-use Rattle.hp_views.specs.Asking.{ask_seen}
 use Rattle.hp_views.specs.StackPlans.{in_scope_plan}
-use Rattle.hp_views.specs.View.{Answers, sight}
+use Rattle.hp_views.specs.View.{sight}
 use Rattle.hp_views.proofs.AtOnce.{gives_at_once}
 use Rattle.hp_views.proofs.Carrying.{answers_as}
 use Rattle.hp_views.proofs.Paragraphs.{a_paragraph, button_ends, paragraph_seen, seen_to}
@@ -28,8 +26,5 @@ returns-in-Stop g c =
 pub returns-in-BelowAll : goal.returns-in-BelowAll
 returns-in-BelowAll g c =
     let v = c.args.self.now in
-    let old = sight g.B.Below.heard v in
-    let new = sight g.B.Below.heard c.seen_below.new.self in
-    let P : List ℕ → Type 0 = λ name. Answers c.seen_below.result old new (λ v. ask_seen v.change.popped (kinds.Html name) button_ends) in
-    answers_as c.seen_below.result old new (λ v. seen_to v.change.popped a_paragraph button_ends BelowAll) (in_scope_plan scope.Button a_paragraph)
-    (paragraph_seen v.change.popped v.change.stack BelowAll (sym c.in-BelowAll.is ∙ c.paragraph.ensures)) (subst P c.of_known.ensures c.seen_below.ensures)
+    answers_as c.paragraph_below.result (sight g.B.Below.heard v) (sight g.B.Below.heard c.paragraph_below.new.self) (λ v. seen_to v.change.popped a_paragraph button_ends BelowAll) (in_scope_plan scope.Button a_paragraph)
+    (paragraph_seen v.change.popped v.change.stack BelowAll (sym c.in-BelowAll.is ∙ c.paragraph.ensures)) c.paragraph_below.ensures

@@ -1,0 +1,5 @@
+use Rattle.std.proofs.Common.{refl}
+use Rattle.hp_views.proofs.view.View.paragraph_below.Goals as goal
+
+pub returns : goal.returns
+returns g c = record { runs = c.in_ok-older_paragraph.ensures; same = refl }
