@@ -6,8 +6,8 @@ ghost use Rattle.hp_views.specs.View.{sight, Answers, Learns};
 ghost use Rattle.hp_foreign.specs.Plans.{ask_element, goes_plan, older_goes};
 
 use hp_control::{Answer, Below, OpenElement, Question, Refusal, is_html};
-use hp_elements::{ElementName, Kind, Kinds, Known, Namespace, NoMemory, Point, Token};
-use hp_views::{View, older_seen};
+use hp_elements::{ElementName, Kind, Known, Namespace, NoMemory, Point, Token};
+use hp_views::{View, older_html};
 use std::alloc::Global;
 
 /// The start tags that are foreign content at a MathML text integration point.
@@ -103,7 +103,7 @@ fn older_goes<'p, B: Below>(
     ensures { Answers result (sight B.heard view.old) (sight B.heard view.new) (λ v. older_goes kind v) }
 {
     let depth = view.change.popped;
-    if older_seen(&mut view.below, alloc, depth, Kinds::AnyHtml, Kinds::All)? {
+    if older_html(&mut view.below, alloc, depth)? {
         return Ok(false);
     }
     match older_element(&mut view.below, alloc, depth)? {

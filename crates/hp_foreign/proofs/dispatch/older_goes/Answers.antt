@@ -23,7 +23,7 @@ pub returns-then-branch : goal.returns-then-branch
 returns-then-branch g c =
     let depth = c.args.view.now.change.popped in
     record {
-      runs = is_html (g.B.Below.heard c.args.view.now.below) (g.B.Below.heard c.older_seen.new.below) c.args.kind depth (ask_seen depth kinds.AnyHtml kinds.All) c.in_ok-older_seen.field-0 c.in_ok-older_seen.ensures c.if-branch.true;
+      runs = is_html (g.B.Below.heard c.args.view.now.below) (g.B.Below.heard c.older_html.new.below) c.args.kind depth (ask_seen depth kinds.AnyHtml kinds.All) c.in_ok-older_html.field-0 c.in_ok-older_html.ensures c.if-branch.true;
       same = refl;
     }
 
@@ -31,8 +31,8 @@ pub returns-in-Some : goal.returns-in-Some
 returns-in-Some g c =
     let depth = c.args.view.now.change.popped in
     record {
-      runs = not_html (g.B.Below.heard c.args.view.now.below) (g.B.Below.heard c.older_seen.new.below) (g.B.Below.heard c.older_element.new.below) c.args.kind depth (ask_seen depth kinds.AnyHtml kinds.All) c.in_ok-older_seen.field-0 c.in_ok-element.field-0 c.is_foreign_at.result
-          c.in_ok-older_seen.ensures c.if-branch.false c.in_ok-element.ensures (ap (foreign_one c.args.kind) c.in-Some.is ∙ sym c.is_foreign_at.ensures);
+      runs = not_html (g.B.Below.heard c.args.view.now.below) (g.B.Below.heard c.older_html.new.below) (g.B.Below.heard c.older_element.new.below) c.args.kind depth (ask_seen depth kinds.AnyHtml kinds.All) c.in_ok-older_html.field-0 c.in_ok-element.field-0 c.is_foreign_at.result
+          c.in_ok-older_html.ensures c.if-branch.false c.in_ok-element.ensures (ap (foreign_one c.args.kind) c.in-Some.is ∙ sym c.is_foreign_at.ensures);
       same = refl;
     }
 
@@ -40,7 +40,7 @@ pub returns-in-None : goal.returns-in-None
 returns-in-None g c =
     let depth = c.args.view.now.change.popped in
     record {
-      runs = not_html (g.B.Below.heard c.args.view.now.below) (g.B.Below.heard c.older_seen.new.below) (g.B.Below.heard c.older_element.new.below) c.args.kind depth (ask_seen depth kinds.AnyHtml kinds.All) c.in_ok-older_seen.field-0 c.in_ok-element.field-0 false
-          c.in_ok-older_seen.ensures c.if-branch.false c.in_ok-element.ensures (ap (foreign_one c.args.kind) c.in-None.is);
+      runs = not_html (g.B.Below.heard c.args.view.now.below) (g.B.Below.heard c.older_html.new.below) (g.B.Below.heard c.older_element.new.below) c.args.kind depth (ask_seen depth kinds.AnyHtml kinds.All) c.in_ok-older_html.field-0 c.in_ok-element.field-0 false
+          c.in_ok-older_html.ensures c.if-branch.false c.in_ok-element.ensures (ap (foreign_one c.args.kind) c.in-None.is);
       same = refl;
     }
