@@ -75,7 +75,7 @@ fn older_equals<'p, B: Below>(
         Some(_) => Ok(0),
         None => {
             let cuts = view.change.cuts;
-            older_same(&mut view.below, alloc, cuts, tag.copy(alloc)?)
+            older_same(&mut view.below, alloc, cuts, tag)
         }
     }
 }
