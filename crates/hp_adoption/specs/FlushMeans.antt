@@ -1,12 +1,15 @@
 -- Pending characters put as one text: what each makes of a state one after the other, all together make (13.2.6.4.10).
-use Rattle.std.specs.Prelude.{◌≡◌, ℕ, zero, suc, ◌&&◌, ◌||◌, Bool, true, false, if◌then◌else◌, List, [], ◌∷◌, ◌++◌, Option, Some, drop, slice_get, refl}
+use Rattle.std.specs.Prelude.{◌≡◌, ℕ, zero, suc, ◌&&◌, ◌||◌, Bool, true, false, if◌then◌else◌, List, [], ◌∷◌, ◌++◌, Option, Some, drop, map, slice_get, refl}
 use Rattle.std.specs.List.{list_all}
 use Rattle.std.specs.Option.{is_some, option_map}
-use Rattle.std.proofs.Common.{ap, sym, subst, ◌∙◌, append_assoc}
+use Rattle.std.proofs.Common.{ap, sym, subst, ◌∙◌, append-nil, append_assoc}
 use Rattle.std.proofs.lemmas.Bool.{eq-eqb}
 use Rattle.std.proofs.Math.Bool.{or_assoc}
 use Rattle.hp_elements.specs.declared.tag.Tag.{Tag}
 use Rattle.hp_control.specs.declared.edit.Child.TheVariants as child
+use Rattle.hp_control.specs.declared.edit.Edit.{Edit}
+use Rattle.hp_control.specs.declared.edit.Edit.TheVariants.{Put}
+use Rattle.hp_control.specs.declared.edit.Place.{Place}
 use Rattle.hp_control.specs.declared.element.OpenElement.{OpenElement}
 use Rattle.hp_control.specs.declared.element.FormattingEntry.{FormattingEntry}
 use Rattle.hp_control.specs.declared.element.FormattingEntry.TheVariants.{Marker, Element}
@@ -15,10 +18,24 @@ use Rattle.hp_control.specs.Adoption.{spliced, stale, relist, renew_entry, renew
 use Rattle.hp_control.specs.Composed.{is_white, foster_characters, put_characters}
 use Rattle.hp_control.specs.Outcome.{Outcome, becomes, after, and_then, nothing_done}
 use Rattle.hp_control.specs.States.{ControlState}
-use Rattle.hp_control.specs.Tree.{applied_all}
 use Rattle.hp_control.specs.Walks.{open_at}
+use Rattle.hp_groves.specs.Joining.{JoinTexts, Same, Join, Back, Through}
+use Rattle.hp_groves.proofs.Joined.{one_by_one-join}
 use Rattle.hp_adoption.specs.FlushActs.{foster_whole, whole_by, put_whole, MeansAs, FlushesAtOnce}
-use Rattle.hp_adoption.specs.Joining.{letters, letters_are_text, applied_after}
+
+-- one code point after the other
+abbrev letters : Place → List ℕ → List Edit
+letters p text = map (λ c. Put (child.Text (c ∷ [])) p) text
+
+letters-behind : (p : Place) (a cs : List ℕ) → JoinTexts (Put (child.Text a) p ∷ letters p cs) (Put (child.Text (a ++ cs)) p ∷ [])
+letters-behind p a [] = subst (λ text. JoinTexts (Put (child.Text a) p ∷ []) (Put (child.Text text) p ∷ [])) (sym (append-nil a)) (Same (Put (child.Text a) p ∷ []))
+letters-behind p a (c ∷ cs) =
+    subst (λ text. JoinTexts (Put (child.Text a) p ∷ letters p (c ∷ cs)) (Put (child.Text text) p ∷ [])) (append_assoc a (c ∷ []) cs)
+    (Through _ _ _ (Join p a (c ∷ []) (letters p cs)) (letters-behind p (a ++ c ∷ []) cs))
+
+-- A text's code points, one after the other in one place, join to that text, where it has any.
+letters-join : (p : Place) (c : ℕ) (cs : List ℕ) → JoinTexts (Put (child.Text (c ∷ cs)) p ∷ []) (letters p (c ∷ cs))
+letters-join p c cs = Back _ _ (letters-behind p (c ∷ []) cs)
 
 -- the first so many entries are elements
 abbrev AreElements : ℕ → List FormattingEntry → Type 0
@@ -163,7 +180,7 @@ means_after o p q m = record {
   control = m.control;
   touched = ap (λ l. o.touched ++ l) m.touched;
   spared = ap (λ b. o.spared || b) m.spared;
-  edits = λ t. applied_after t o.edits p.edits ∙ (m.edits (applied_all t o.edits) ∙ sym (applied_after t o.edits q.edits));
+  edits = one_by_one-join o.edits o.edits p.edits q.edits (Same o.edits) m.edits;
 }
 
 means_told : (o p q : Outcome) → p ≡ q → MeansAs o q → MeansAs o p
@@ -172,7 +189,7 @@ means_told o p q e m = let P : Outcome → Type 0 = λ r. MeansAs o r in subst P
 white_means : (x : ℕ) (cs : List ℕ) (c : ControlState) → MeansAs (put_here false (child.Text (x ∷ cs)) c) (put_characters (x ∷ cs) c)
 white_means x cs c =
     means_told (put_here false (child.Text (x ∷ cs)) c) (put_characters (x ∷ cs) c) (put_so (x ∷ cs) c) (put_each (x ∷ cs) c)
-    (record { control = refl; touched = refl; spared = refl; edits = λ t. sym (letters_are_text t x cs (place false c.stack)) })
+    (record { control = refl; touched = refl; spared = refl; edits = letters-join (place false c.stack) x cs })
 
 settled_means : (x : ℕ) (cs : List ℕ) (c : ControlState) → list_all is_white (x ∷ cs) ≡ false → IsSettled c → MeansAs (and_then (put_here true (child.Text (x ∷ cs))) frameset_not_ok c) (foster_characters (x ∷ cs) c)
 settled_means x cs c w h =
@@ -181,7 +198,7 @@ settled_means x cs c w h =
       control = ap (λ b. record c { frameset_ok = b }) (sym (mixed_off (x ∷ cs) c.frameset_ok w));
       touched = refl;
       spared = refl;
-      edits = λ t. sym (letters_are_text t x cs (place true c.stack));
+      edits = letters-join (place true c.stack) x cs;
     })
 
 foster_means : (x : ℕ) (cs : List ℕ) (c : ControlState) → list_all is_white (x ∷ cs) ≡ false → MeansAs (foster_whole (x ∷ cs) c) (foster_characters (x ∷ cs) c)
@@ -196,7 +213,7 @@ by_means x cs c true e = white_means x cs c
 by_means x cs c false e = foster_means x cs c e
 
 text_means : (text : List ℕ) (c : ControlState) → MeansAs (put_whole text c) ((if list_all is_white text then put_characters text else foster_characters text) c)
-text_means [] c = record { control = refl; touched = refl; spared = refl; edits = λ t. refl }
+text_means [] c = record { control = refl; touched = refl; spared = refl; edits = Same [] }
 text_means (x ∷ cs) c = by_means x cs c (list_all is_white (x ∷ cs)) refl
 
 pub flushes_at_once : FlushesAtOnce

@@ -10,7 +10,6 @@ pub mod ReconLaws
 pub mod ArkLaws
 pub mod FlushActs
 pub mod FlushLaws
-pub mod Joining
 pub mod FlushMeans
 pub mod ListMeans
 pub mod AdoptLawsEntries
