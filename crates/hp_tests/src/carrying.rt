@@ -2,8 +2,9 @@
 //!
 //! A contract lets a call want memory at any time. Each call of `hp_views`, `hp_adoption` and `hp_foreign` that may is reached here:
 //! - The acts and the tests of `hp_acts::carry` each reach the call of their name.
-//! - What is asked of an older state: `older_seen` by `InScope`, `older_reach` by `CloseParagraph`, `older_run` by `Implied`, `older_template` by
-//!   `TemplateInStack`, `older_reset` by `Reset`, `older_quiet` by `Reconstruct`, `older_listed` by `Listed`, `older_same` by `AppendToList`,
+//! - What is asked of an older state: `older_seen` by `InScope`, `older_html` by `IsHtml`, `older_paragraph` and `older_reach` by `CloseParagraph`, `older_run`
+//!   by `Implied`, `older_template` by `TemplateInStack`, `older_reset` by `Reset`, `older_quiet` by `Reconstruct`, `older_listed` by `Listed`, `older_same` by
+//!   `AppendToList`,
 //!   `older_pointer` by `HasForm`, `older_quirks` by `IsQuirks`, `older_frameset` by `FramesetOk`, `older_body` by `SecondIsBody`, `older_there` by that
 //!   test behind an own `body`, `older_foreign` by `IsHtml` where no element is left, `older_last_tag` by `LastTag`.
 //! - Calls within others: `is_seen` by `InScope`, `through` by `CloseItem`, `close`, `implied_except` and `has_paragraph` by `CloseParagraph`, `through_named` and
