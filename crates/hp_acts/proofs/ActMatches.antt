@@ -1,4 +1,4 @@
--- Each act of a row does by its plan what it does to the whole state, its edits in their effect.
+-- Each act of a row does by its plan what it does to the whole state, its edits but for how texts are joined.
 use Rattle.std.proofs.Common.{◌≡◌, Bool, true, Option, None, Some, refl, sym, ap, ◌∙◌}
 use Rattle.std.specs.Prelude.{Result, Ok, Err, map}
 use Rattle.std.specs.List.{list_any}
@@ -18,16 +18,17 @@ use Rattle.hp_control.specs.Faithful.{FaithfulWhere, Split}
 use Rattle.hp_control.specs.Outcome.{Act as StateAct, Outcome, is_older, is_touch}
 use Rattle.hp_control.specs.Plan.{Plan}
 use Rattle.hp_control.specs.States.{ControlState}
-use Rattle.hp_control.specs.Tree.{applied_all}
+use Rattle.hp_groves.specs.Joining.{Through}
 use Rattle.hp_adoption.specs.FlushActs.{MeansAs, flush_at_once}
 use Rattle.hp_adoption.specs.FlushMeans.{flushes_at_once}
+use Rattle.hp_model.proofs.JoinedTexts.{join-behind}
 use Rattle.hp_model.specs.Steps.{step}
 use Rattle.hp_model.specs.Tokens.{tag_of}
 use Rattle.hp_model.specs.Whole.{IsRead}
 use Rattle.hp_acts.specs.ActLaws.{MeansBy, step_at_once}
 use Rattle.hp_acts.specs.Plans.{act_plan, by_plan}
 use Rattle.hp_acts.specs.Spending.{html_tag}
-use Rattle.hp_acts.proofs.Matching.{MatchesAlike, applied_after}
+use Rattle.hp_acts.proofs.Matching.{MatchesAlike}
 use Rattle.hp_acts.proofs.RowMatches.{is_row_act}
 
 -- the tag of a token as the lexer reads it is an HTML one
@@ -48,11 +49,11 @@ pub planned : (fostering : Bool) (t : Token) (a : Act) → is_row_act a ≡ true
 planned fostering t act.Done h = refl
 planned fostering t _ h = refl
 
--- what an act does, its edits in their effect
+-- what an act does, its edits but for how texts are joined
 alike_flush : (s : ControlState) (d : Split) (end : Result Split Crossing) (o p : Outcome) → MeansAs o p → MatchesAlike s d end o → MatchesAlike s d end p
 alike_flush s d (Ok w) o p e m = record {
   control = m.control ∙ e.control;
-  edits = λ tree. m.edits tree ∙ (applied_after tree (map (named_edit s) d.edits) o.edits ∙ (e.edits (applied_all tree (map (named_edit s) d.edits)) ∙ sym (applied_after tree (map (named_edit s) d.edits) p.edits)));
+  edits = Through _ _ _ m.edits (join-behind (map (named_edit s) d.edits) o.edits p.edits e.edits);
   own = sym (ap (λ l. list_any (is_older s) l) e.touched) ∙ m.own;
   stands = m.stands;
 }

@@ -1,5 +1,5 @@
 -- The handling of a token over an older state comes to what the definition says.
-use Rattle.std.proofs.Common.{◌≡◌, ℕ, zero, suc, ◌+◌, ◌*◌, ◌^◌, ◌<◌, ◌≤◌, inl, inr, List, [], ◌∷◌, ◌++◌, length, Bool, true, false, ◌==◌, ◌&&◌, Option, None, Some, refl, sym, subst, ap, ◌∙◌, arith, length-append, append-nil}
+use Rattle.std.proofs.Common.{◌≡◌, ℕ, zero, suc, ◌+◌, ◌^◌, ◌<◌, ◌≤◌, inl, inr, List, [], ◌∷◌, ◌++◌, length, Bool, true, false, ◌==◌, ◌&&◌, Option, None, Some, refl, sym, subst, ap, ◌∙◌, arith, length-append, append-nil}
 use Rattle.std.specs.Prelude.{if◌then◌else◌, Result, Ok, Err, drop, map, IsSome}
 use Rattle.std.specs.Option.{unwrap_or}
 use Rattle.std.proofs.lemmas.Bool.{true≢false}
@@ -17,7 +17,6 @@ use Rattle.hp_control.specs.Apply.{applied, named_edit, shifted}
 use Rattle.hp_control.specs.Faithful.{Split, StandsOn, state_over}
 use Rattle.hp_control.specs.Plan.{end_by}
 use Rattle.hp_control.specs.States.{ControlState, IsValid, StackFits}
-use Rattle.hp_control.specs.Tree.{applied_all}
 use Rattle.hp_control.specs.Truth.{answer_of}
 use Rattle.hp_views.specs.Quiet.{paged, paged_part, stands_kept}
 use Rattle.hp_views.specs.StackLaws.{full_stack}
@@ -31,6 +30,7 @@ use Rattle.hp_model.specs.Turns.{Handled as Meant, later, turns, unchanged}
 use Rattle.hp_model.specs.Whole.{IsRead}
 use Rattle.hp_model.proofs.Course.{Course, Along, fits}
 use Rattle.hp_model.proofs.Handled.{turns-end, turns-more}
+use Rattle.hp_model.proofs.JoinedTexts.{join-equal}
 use Rattle.hp_acts.specs.HandlePlans.{all_turns_plan, handle_plan, handle_rest, most_turns, without_line_feed}
 use Rattle.hp_acts.specs.Handling.{nothing_asked, unskipped}
 use Rattle.hp_acts.specs.Older.{EndsOver}
@@ -144,7 +144,7 @@ module _ (s : ControlState) (of_act : Bool → Token → Act → ControlState �
     dropped : (v : Split) → StandsOn s v → EndsOver s v (end_by (answer_of s) (handle_rest None (unskipped v))) (handled_rest (settled (state_over v s)) None)
     dropped v st = record {
       control = settled_over s v;
-      edits = λ tree. ap (applied_all tree) (sym (append-nil (map (named_edit s) v.edits)));
+      edits = join-equal (map (named_edit s) v.edits) (map (named_edit s) v.edits ++ []) (sym (append-nil (map (named_edit s) v.edits)));
       switch = refl;
       stopped = refl;
       own = refl;

@@ -1,5 +1,5 @@
 -- What it means that the handling of a token over an older state has got as far as the definition says, step after step.
-use Rattle.std.proofs.Common.{◌≡◌, List, [], ◌∷◌, ◌++◌, Bool, true, false, ◌||◌, Option, None, Some, refl, sym, ap, ◌∙◌, append_assoc, append-nil}
+use Rattle.std.proofs.Common.{◌≡◌, List, [], ◌++◌, Bool, true, false, ◌||◌, Option, None, Some, refl, sym, ap, ◌∙◌, subst, append_assoc, append-nil}
 use Rattle.std.specs.Prelude.{Result, Ok, Err, map}
 use Rattle.std.proofs.Math.Bool.{or-true}
 use Rattle.hp_elements.specs.declared.token.Rest.{Rest}
@@ -9,21 +9,17 @@ use Rattle.hp_control.specs.Apply.{named_edit}
 use Rattle.hp_control.specs.Faithful.{Split, IsDone, Matches, StandsOn, any_after, state_over, touches_after}
 use Rattle.hp_control.specs.Outcome.{Outcome, after, touches, touches_any}
 use Rattle.hp_control.specs.States.{ControlState}
-use Rattle.hp_control.specs.Tree.{Tree, applied, applied_all}
-use Rattle.hp_model.specs.AtOnce.{MakeSame}
+use Rattle.hp_groves.specs.Joining.{JoinTexts, Same, Through}
+use Rattle.hp_groves.proofs.Joined.{one_by_one-join}
+use Rattle.hp_model.proofs.JoinedTexts.{join-equal}
 use Rattle.hp_model.specs.Turns.{Handled, Turn, goes_on, done, again, before, and_then, as_part, joined, later, left_by, unchanged}
 use Rattle.hp_acts.specs.RowPlans.{Reached, Came}
 use Rattle.hp_acts.specs.RowPlans.{left as came_left, again as came_again}
 
--- edits one after the other
-pub applied_after : (tree : Tree) (es fs : List Edit) → applied_all tree (es ++ fs) ≡ applied_all (applied_all tree es) fs
-applied_after tree [] fs = refl
-applied_after tree (e ∷ es) fs = applied_after (applied tree e) es fs
-
--- over s, the view went from v to w as the outcome says, its edits in their effect
+-- over s, the view went from v to w as the outcome says, its edits but for how texts are joined
 pub record IsDoneAlike (s : ControlState) (v w : Split) (o : Outcome) : Type 0 where
   pub control : state_over w s ≡ o.control
-  pub edits : MakeSame (map (named_edit s) w.edits) (map (named_edit s) v.edits ++ o.edits)
+  pub edits : JoinTexts (map (named_edit s) w.edits) (map (named_edit s) v.edits ++ o.edits)
   pub own : touches_any s o ≡ false
   pub stands : StandsOn s w
 
@@ -32,7 +28,7 @@ MatchesAlike s v (Ok w) o = IsDoneAlike s v w o
 MatchesAlike s v (Err crossing) o = touches s crossing o ≡ true
 
 done_alike : (s : ControlState) (v w : Split) (o : Outcome) → IsDone s v w o → IsDoneAlike s v w o
-done_alike s v w o d = record { control = d.control; edits = λ tree. ap (applied_all tree) d.edits; own = d.own; stands = d.stands }
+done_alike s v w o d = record { control = d.control; edits = join-equal (map (named_edit s) w.edits) (map (named_edit s) v.edits ++ o.edits) d.edits; own = d.own; stands = d.stands }
 
 pub matches_alike : (s : ControlState) (v : Split) (end : Result Split Crossing) (o : Outcome) → Matches s v end o → MatchesAlike s v end o
 matches_alike s v (Ok w) o m = done_alike s v w o m
@@ -42,9 +38,9 @@ pub either : (a b : Bool) → a ≡ false → b ≡ false → (a || b) ≡ false
 either false b h k = k
 either true b h k = absurd (cc)
 
-pub alike_after : (s : ControlState) (u v w : List Edit) (o p : Outcome) → MakeSame v (u ++ o.edits) → MakeSame w (v ++ p.edits) → MakeSame w (u ++ (after o p).edits)
-alike_after s u v w o p h k = λ tree.
-    k tree ∙ (applied_after tree v p.edits ∙ (ap (λ t. applied_all t p.edits) (h tree) ∙ (sym (applied_after tree (u ++ o.edits) p.edits) ∙ ap (applied_all tree) (append_assoc u o.edits p.edits))))
+pub alike_after : (s : ControlState) (u v w : List Edit) (o p : Outcome) → JoinTexts v (u ++ o.edits) → JoinTexts w (v ++ p.edits) → JoinTexts w (u ++ (after o p).edits)
+alike_after s u v w o p h k =
+    Through w (v ++ p.edits) (u ++ (after o p).edits) k (subst (JoinTexts (v ++ p.edits)) (append_assoc u o.edits p.edits) (one_by_one-join v (u ++ o.edits) p.edits p.edits h (Same p.edits)))
 
 pub done_after : (s : ControlState) (u v w : Split) (o p : Outcome) → IsDoneAlike s u v o → IsDoneAlike s v w p → IsDoneAlike s u w (after o p)
 done_after s u v w o p d e = record {
@@ -82,7 +78,7 @@ no_touch false = refl
 
 pub nothing_handled : (s : ControlState) (d : Reached) → StandsOn s d.split → IsHandled s d d (unchanged (state_over d.split s))
 nothing_handled s d st = record {
-  done = record { control = refl; edits = λ tree. ap (applied_all tree) (sym (append-nil (map (named_edit s) d.split.edits))); own = refl; stands = st };
+  done = record { control = refl; edits = join-equal (map (named_edit s) d.split.edits) (map (named_edit s) d.split.edits ++ []) (sym (append-nil (map (named_edit s) d.split.edits))); own = refl; stands = st };
   switch = refl;
   stopped = sym (no_touch d.handled.stopped);
 }

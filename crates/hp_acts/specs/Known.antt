@@ -10,8 +10,9 @@ use Rattle.hp_control.specs.Nothing.{nothing}
 use Rattle.hp_control.specs.Plan.{Heard, Runs}
 use Rattle.hp_control.specs.States.{IsValid}
 use Rattle.hp_control.specs.Truth.{answer_of}
+use Rattle.hp_groves.specs.Joining.{JoinTexts}
 use Rattle.hp_views.specs.View.{Sight}
-use Rattle.hp_model.specs.AtOnce.{MakeSame, handle_at_once}
+use Rattle.hp_model.specs.AtOnce.{handle_at_once}
 use Rattle.hp_model.specs.Turns.{Handled as Meant, left_by}
 use Rattle.hp_model.specs.Whole.{IsRead}
 use Rattle.hp_acts.specs.declared.turns.Handled.{Handled}
@@ -21,7 +22,7 @@ use Rattle.hp_acts.specs.RowPlans.{Reached}
 -- from the view v a token that means this was handled, which left w
 pub record IsHandledWhole (v w : Split) (handled : Handled) (h : Meant) : Type 0 where
   pub control : state_over w nothing ≡ left_by h
-  pub edits : MakeSame (map (named_edit nothing) w.edits) (map (named_edit nothing) v.edits ++ h.outcome.edits)
+  pub edits : JoinTexts (map (named_edit nothing) w.edits) (map (named_edit nothing) v.edits ++ h.outcome.edits)
   pub switch : handled.switch ≡ h.switch
   pub stopped : handled.stopped ≡ h.stopped
   pub stands : StandsOn nothing w

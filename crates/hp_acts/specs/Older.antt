@@ -9,7 +9,8 @@ use Rattle.hp_control.specs.Faithful.{Split, StandsOn, state_over}
 use Rattle.hp_control.specs.Outcome.{touches, touches_any}
 use Rattle.hp_control.specs.Plan.{Heard, Runs, asked_by}
 use Rattle.hp_control.specs.States.{ControlState, IsValid}
-use Rattle.hp_model.specs.AtOnce.{MakeSame, handle_at_once}
+use Rattle.hp_groves.specs.Joining.{JoinTexts}
+use Rattle.hp_model.specs.AtOnce.{handle_at_once}
 use Rattle.hp_model.specs.Turns.{Handled as Meant, left_by}
 use Rattle.hp_model.specs.Whole.{IsRead}
 use Rattle.hp_acts.specs.declared.turns.Handled.{Handled}
@@ -20,7 +21,7 @@ use Rattle.hp_acts.specs.Told.{is_told_at_once}
 -- over s, from the view v a token that means this was handled, which left w and touched nothing older
 pub record IsHandledOver (s : ControlState) (v w : Split) (handled : Handled) (h : Meant) : Type 0 where
   pub control : state_over w s ≡ left_by h
-  pub edits : MakeSame (map (named_edit s) w.edits) (map (named_edit s) v.edits ++ h.outcome.edits)
+  pub edits : JoinTexts (map (named_edit s) w.edits) (map (named_edit s) v.edits ++ h.outcome.edits)
   pub switch : handled.switch ≡ h.switch
   pub stopped : handled.stopped ≡ h.stopped
   pub own : touches_any s h.outcome ≡ false
