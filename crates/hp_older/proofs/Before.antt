@@ -1,5 +1,5 @@
 -- Before the html element a token crosses at what no chunk knows, but a line feed that is skipped.
-use Rattle.std.proofs.Common.{◌≡◌, ℕ, zero, suc, ◌<◌, [], ◌∷◌, Bool, true, false, ◌==◌, ◌&&◌, ◌||◌, Option, None, Some, refl, sym, subst, ap, ◌∙◌, arith, append-nil}
+use Rattle.std.proofs.Common.{◌≡◌, ℕ, zero, suc, ◌<◌, [], ◌∷◌, ◌++◌, Bool, true, false, ◌==◌, ◌&&◌, ◌||◌, Option, None, Some, refl, sym, subst, ap, ◌∙◌, arith, append-nil}
 use Rattle.std.specs.Prelude.{if◌then◌else◌, Err, map}
 use Rattle.std.specs.Option.{unwrap_or}
 use Rattle.std.proofs.lemmas.Bool.{lt-ltb, true≢false}
@@ -20,7 +20,6 @@ use Rattle.hp_control.specs.Foreign.{is_foreign}
 use Rattle.hp_control.specs.Outcome.{becomes, touches}
 use Rattle.hp_control.specs.Plan.{crosses, end_by, followed_by}
 use Rattle.hp_control.specs.States.{ControlState, IsValid, NothingOpen, StackFits, is_rooted}
-use Rattle.hp_control.specs.Tree.{applied_all}
 use Rattle.hp_control.specs.Truth.{answer_of}
 use Rattle.hp_foreign.specs.Plans.{goes_plan}
 use Rattle.hp_views.specs.Quiet.{paged, paged_part}
@@ -32,6 +31,7 @@ use Rattle.hp_model.specs.Tokens.{is_line_feed}
 use Rattle.hp_model.specs.Turns.{Handled, Turn, goes_on, done, again, after_turn, before_all, left_by, turns, unchanged}
 use Rattle.hp_model.specs.Whole.{IsRead}
 use Rattle.hp_model.proofs.Handled.{settled-valid, turns_of_token}
+use Rattle.hp_model.proofs.JoinedTexts.{join-equal}
 use Rattle.hp_acts.specs.HandlePlans.{all_turns_plan, handle_plan, handle_rest, most_turns, turns_plan, where_again, without_line_feed}
 use Rattle.hp_acts.specs.Handling.{nothing_asked, unskipped}
 use Rattle.hp_acts.specs.RowPlans.{Reached, dispatched, is_early, turn_plan}
@@ -173,7 +173,7 @@ module _ (s : ControlState) (v : Split) (k : IsBefore s v) where
   rest_comes : (o : Option Token) → AreRead o → ComesOver s v (end_by (answer_of s) (handle_rest o (unskipped v))) (handled_rest (settled c) o)
   rest_comes None read = record {
     control = settled_over;
-    edits = λ tree. ap (applied_all tree) (sym (append-nil (map (named_edit s) v.edits)));
+    edits = join-equal (map (named_edit s) v.edits) (map (named_edit s) v.edits ++ []) (sym (append-nil (map (named_edit s) v.edits)));
     switch = refl;
     stopped = refl;
     own = refl;

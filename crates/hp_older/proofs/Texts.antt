@@ -16,19 +16,19 @@ use Rattle.hp_control.specs.Faithful.{Split, StandsOn, state_over}
 use Rattle.hp_control.specs.Outcome.{is_older, is_touch}
 use Rattle.hp_control.specs.Plan.{asked_by, end_by}
 use Rattle.hp_control.specs.States.{ControlState}
-use Rattle.hp_control.specs.Tree.{applied_all}
 use Rattle.hp_control.specs.Truth.{answer_of}
 use Rattle.hp_views.specs.Quiet.{paged_part}
 use Rattle.hp_views.specs.StackLaws.{current_faithful, full_stack}
 use Rattle.hp_views.specs.StackPlans.{current_is_plan}
+use Rattle.hp_groves.specs.Joining.{Back, Through}
 use Rattle.hp_model.specs.AtOnce.{LeaveSame, handle_at_once}
 use Rattle.hp_model.specs.Texts.{as_run, each_at_once, has_html_top, is_text_mode, is_white, white_or_other}
 use Rattle.hp_model.specs.Turns.{Handled as Meant}
+use Rattle.hp_model.proofs.JoinedTexts.{join-behind}
 use Rattle.hp_model.proofs.Texts.{texts_at_once}
 use Rattle.hp_acts.specs.HandlePlans.{handle_plan}
 use Rattle.hp_acts.specs.Plain.{is_nothing_open}
 use Rattle.hp_acts.specs.RowPlans.{Reached}
-use Rattle.hp_acts.proofs.Matching.{applied_after}
 use Rattle.hp_acts.proofs.PlainRuns.{AsksFirst, asks_first}
 use Rattle.hp_acts.proofs.TurnMatches.{mode_over}
 use Rattle.hp_older.specs.Laws.{ComesOver, TextsHandled, TextsTaken, TextsTakenBelow}
@@ -100,10 +100,7 @@ comes_alike : (s : ControlState) (v : Split) (end : Result Reached Crossing) (h 
 comes_alike s v (Err crossing) h k same m = same.touched (is_touch s crossing) ∙ m
 comes_alike s v (Ok r) h k same m = record {
   control = m.control ∙ sym same.control;
-  edits = λ tree.
-      m.edits tree
-      ∙ (applied_after tree (map (named_edit s) v.edits) h.outcome.edits
-      ∙ (sym (same.edits (applied_all tree (map (named_edit s) v.edits))) ∙ sym (applied_after tree (map (named_edit s) v.edits) k.outcome.edits)));
+  edits = Through _ _ _ m.edits (join-behind (map (named_edit s) v.edits) h.outcome.edits k.outcome.edits (Back k.outcome.edits h.outcome.edits same.edits));
   switch = m.switch ∙ sym same.switch;
   stopped = m.stopped ∙ sym same.stopped;
   own = same.touched (is_older s) ∙ m.own;

@@ -1,5 +1,5 @@
 -- Tokens one after the other over any older state, by induction.
-use Rattle.std.proofs.Common.{◌≡◌, List, [], ◌∷◌, true, refl, sym, ap, ◌∙◌, subst, append-nil}
+use Rattle.std.proofs.Common.{◌≡◌, List, [], ◌∷◌, ◌++◌, true, refl, sym, ◌∙◌, subst, append-nil}
 use Rattle.std.specs.Prelude.{Result, Ok, Err, map}
 use Rattle.hp_elements.specs.declared.token.Token.{Token}
 use Rattle.hp_control.specs.declared.question.Crossing.{Crossing}
@@ -9,8 +9,8 @@ use Rattle.hp_control.specs.Outcome.{touches, touches_any}
 use Rattle.hp_control.specs.Plan.{end_by}
 use Rattle.hp_control.specs.Running.{on_end, end_then}
 use Rattle.hp_control.specs.States.{ControlState}
-use Rattle.hp_control.specs.Tree.{applied_all}
 use Rattle.hp_control.specs.Truth.{answer_of}
+use Rattle.hp_model.proofs.JoinedTexts.{join-equal}
 use Rattle.hp_model.specs.AtOnce.{handle_at_once}
 use Rattle.hp_model.specs.Texts.{each_at_once}
 use Rattle.hp_model.specs.Turns.{Handled, left_by}
@@ -49,7 +49,7 @@ module _ (s : ControlState) (v : Split) (t : Token) (ts : List Token) where
   one_end (Err crossing) m more = touched_first s crossing h.outcome rest.outcome m
 
 each_comes : (s : ControlState) (ts : List Token) (v : Split) → IsOver s v → MayAllCome s ts → ComeOver s v (end_by (answer_of s) (tokens_plan ts v)) (each_at_once (state_over v s) ts)
-each_comes s [] v over may = record { control = refl; edits = λ tree. ap (applied_all tree) (sym (append-nil (map (named_edit s) v.edits))); own = refl; over = over; chunk = λ c. c }
+each_comes s [] v over may = record { control = refl; edits = join-equal (map (named_edit s) v.edits) (map (named_edit s) v.edits ++ []) (sym (append-nil (map (named_edit s) v.edits))); own = refl; over = over; chunk = λ c. c }
 each_comes s (t ∷ ts) v over may =
     subst (λ e. ComeOver s v e (each_at_once (state_over v s) (t ∷ ts))) (sym (end_then (answer_of s) (handle_plan t v) (λ r. tokens_plan ts r.split)))
     (one_end s v t ts (end_by (answer_of s) (handle_plan t v)) (over_comes t s v over may.0) (λ r there. each_comes s ts r.split there may.1))

@@ -21,12 +21,13 @@ use Rattle.hp_control.specs.Outcome.{touches, touches_any}
 use Rattle.hp_control.specs.Plan.{Heard, Runs, asked_by}
 use Rattle.hp_control.specs.States.{ControlState, Fits, IsValid, is_rooted}
 use Rattle.hp_control.specs.Truth.{answer_of}
+use Rattle.hp_groves.specs.Joining.{JoinTexts}
 use Rattle.hp_views.specs.Asking.{ask_last_tag}
 use Rattle.hp_views.specs.BeginLaws.{IsResting}
 use Rattle.hp_views.specs.Begins.{begins}
 use Rattle.hp_views.specs.SecondPlans.{foreign_now_plan}
 use Rattle.hp_views.specs.StackPlans.{current_is_plan}
-use Rattle.hp_model.specs.AtOnce.{MakeSame, handle_at_once}
+use Rattle.hp_model.specs.AtOnce.{handle_at_once}
 use Rattle.hp_model.specs.Growth.{IsInside}
 use Rattle.hp_model.specs.Texts.{TakesText, as_run, each_at_once}
 use Rattle.hp_model.specs.Turns.{Handled as Meant, left_by}
@@ -76,7 +77,7 @@ TokensGoOn = (t : Token) (s : ControlState) (v : Split) → IsChunk s v → IsRe
 -- over s, what means this was handled from the view v, and nothing older was touched; the view w that it left is over s again
 pub record IsDoneOver (s : ControlState) (v w : Split) (handled : Handled) (h : Meant) : Type 0 where
   pub control : state_over w s ≡ left_by h
-  pub edits : MakeSame (map (named_edit s) w.edits) (map (named_edit s) v.edits ++ h.outcome.edits)
+  pub edits : JoinTexts (map (named_edit s) w.edits) (map (named_edit s) v.edits ++ h.outcome.edits)
   pub switch : handled.switch ≡ h.switch
   pub stopped : handled.stopped ≡ h.stopped
   pub own : touches_any s h.outcome ≡ false

@@ -8,7 +8,7 @@ use Rattle.hp_control.specs.Faithful.{Split, state_over}
 use Rattle.hp_control.specs.Outcome.{touches, touches_any}
 use Rattle.hp_control.specs.Plan.{Heard, Plan, Runs, asked_by, followed_by, gives}
 use Rattle.hp_control.specs.States.{ControlState}
-use Rattle.hp_model.specs.AtOnce.{MakeSame}
+use Rattle.hp_groves.specs.Joining.{JoinTexts}
 use Rattle.hp_model.specs.Texts.{each_at_once}
 use Rattle.hp_model.specs.Turns.{Handled, left_by}
 use Rattle.hp_acts.specs.HandlePlans.{handle_plan}
@@ -27,7 +27,7 @@ MayAllCome s (t ∷ ts) = MayCome s t × MayAllCome s ts
 -- over s, tokens that mean this were handled from the view v, and nothing older was touched; the view w that they left is over s again
 pub record AreDoneOver (s : ControlState) (v w : Split) (h : Handled) : Type 0 where
   pub control : state_over w s ≡ left_by h
-  pub edits : MakeSame (map (named_edit s) w.edits) (map (named_edit s) v.edits ++ h.outcome.edits)
+  pub edits : JoinTexts (map (named_edit s) w.edits) (map (named_edit s) v.edits ++ h.outcome.edits)
   pub own : touches_any s h.outcome ≡ false
   pub over : IsOver s w
   pub chunk : IsChunk s v → IsChunk s w
