@@ -5,17 +5,17 @@ use Rattle.hp_names.specs.References.{Reference}
 use Rattle.hp_tokens.specs.declared.lexing.LexState.{LexState}
 use Rattle.hp_tokens.specs.declared.machine.Machine.{Machine}
 use Rattle.hp_control.specs.States.{ControlState, IsValid, lex_start, start}
-use Rattle.hp_control.specs.Tree.{Tree, applied_all, document}
+use Rattle.hp_control.specs.Tree.{applied_all, document}
 use Rattle.hp_control.specs.declared.edit.Edit.{Edit}
+use Rattle.hp_groves.specs.Joining.{JoinTexts, Same, Back, Through}
+use Rattle.hp_groves.proofs.Joined.{joined-make_same, one_by_one-join}
 use Rattle.hp_lexer.proofs.Steady.{table_steady}
 use Rattle.hp_lexer.specs.Table.{table}
 use Rattle.hp_model.proofs.HandlingApart.{goes-leave}
 use Rattle.hp_model.proofs.Running.{one_run, runs-join}
-use Rattle.hp_model.specs.AtOnce.{MakeSame}
 use Rattle.hp_model.specs.Runs.{Parser, followed_by}
 use Rattle.hp_runs.proofs.Existing.{run_exists}
 use Rattle.hp_runs.specs.Pages.{IsTreeOf}
-use Rattle.hp_runs.proofs.Together.{applied-append}
 use Rattle.hp_pieces.specs.Running.{Ends, Leads, parser_in, state_at}
 use Rattle.hp_pieces.proofs.FitRuns.{exit_valid}
 use Rattle.hp_pieces.proofs.SameRuns.{AlikeParsers, end-same, run-same}
@@ -38,12 +38,6 @@ state-same p q a =
     ∙ (ap (λ (m : Machine). record q.control { lex = record { machine = m; ahead = p.lexing.unread } }) a.lexing.machine
     ∙ ap (λ (u : List ℕ). record q.control { lex = record { machine = q.lexing.machine; ahead = u } }) a.lexing.unread)
 
-made-same : (es fs gs hs : List Edit) → MakeSame es gs → MakeSame fs hs → MakeSame (es ++ fs) (gs ++ hs)
-made-same es fs gs hs h k t =
-    applied-append t es fs
-    ∙ (ap (λ (x : Tree). applied_all x fs) (h t)
-    ∙ (k (applied_all t gs) ∙ sym (applied-append t gs hs)))
-
 pub leads_join : (names : List Reference) (a b : List ℕ) (s m t : ControlState) (es fs : List Edit) → Leads names a s es m → Leads names b m fs t → Leads names (a ++ b) s (es ++ fs) t
 leads_join names a b s m t es fs first second =
     let there = run-same names (followed_by (parser_in m) b) (followed_by first.there b) second.there second.made (followed-same (parser_in m) first.there b (begins-same names first)) second.run in record {
@@ -51,13 +45,13 @@ leads_join names a b s m t es fs first second =
       there = there.0;
       run = runs-join (table names) (table_steady names) (parser_in s) first.there there.0 a b first.made second.made first.run there.1;
       reaches = second.reaches ∙ state-same second.there there.0 there.2;
-      same = made-same es fs first.made second.made first.same second.same;
+      same = one_by_one-join es first.made fs second.made first.same second.same;
     }
 
-pub leads_once : (names : List Reference) (text : List ℕ) (s t u : ControlState) (es fs : List Edit) → Leads names text s es t → Leads names text s fs u → (t ≡ u) × MakeSame es fs
+pub leads_once : (names : List Reference) (text : List ℕ) (s t u : ControlState) (es fs : List Edit) → Leads names text s es t → Leads names text s fs u → (t ≡ u) × JoinTexts es fs
 leads_once names text s t u es fs first second =
     let one = one_run (table names) (parser_in s) first.there second.there text first.made second.made first.run second.run in
-    (first.reaches ∙ (ap state_at one.1 ∙ sym second.reaches), λ tree. first.same tree ∙ (ap (applied_all tree) one.0 ∙ sym (second.same tree)))
+    (first.reaches ∙ (ap state_at one.1 ∙ sym second.reaches), Through es first.made fs first.same (Back fs first.made (subst (JoinTexts fs) (sym one.0) second.same)))
 
 pub leads_valid : (text : List ℕ) (s t : ControlState) (es : List Edit) → Leads built_in text s es t → IsValid s → IsValid t
 leads_valid text s t es run v = subst IsValid (sym run.reaches) (exit_valid s text run.made run.there run.run v)
@@ -65,7 +59,7 @@ leads_valid text s t es run v = subst IsValid (sym run.reaches) (exit_valid s te
 pub leads_exist : (names : List Reference) (text : List ℕ) (s : ControlState) → (es : List Edit) × (t : ControlState) × Leads names text s es t
 leads_exist names text s =
     let there = run_exists names (parser_in s) text in
-    (there.0, state_at there.1, record { made = there.0; there = there.1; run = there.2; reaches = refl; same = λ t. refl })
+    (there.0, state_at there.1, record { made = there.0; there = there.1; run = there.2; reaches = refl; same = Same there.0 })
 
 pub page_built : (names : List Reference) (page : List ℕ) (t : ControlState) (es fs : List Edit) → Leads names page start es t → Ends names t fs → IsTreeOf names page (applied_all document (es ++ fs))
 page_built names page t es fs run end = record {
@@ -74,5 +68,5 @@ page_built names page t es fs run end = record {
   at_end = end.made;
   runs = run.run;
   ends = end-same names run.there end.ends (begins-same names run);
-  builds = made-same es fs run.made end.made run.same end.same document;
+  builds = joined-make_same (es ++ fs) (run.made ++ end.made) (one_by_one-join es run.made fs end.made run.same end.same) document;
 }

@@ -13,6 +13,7 @@ use Rattle.hp_control.specs.declared.edit.Edit.{Edit}
 use Rattle.hp_control.specs.Outcome.{touches_any}
 use Rattle.hp_control.specs.States.{ControlState}
 use Rattle.hp_control.specs.Truth.{rest_of}
+use Rattle.hp_groves.specs.Joining.{Same}
 use Rattle.hp_lexer.proofs.Steady.{table_steady}
 use Rattle.hp_lexer.specs.Table.{table}
 use Rattle.hp_model.proofs.Running.{followed-again, goes-followed, goes-same}
@@ -173,4 +174,4 @@ first_before names s a b n h e = by (first_exists names s a)
         this (inr x) = subst (IsFirst names s a) (x ∙ sym e) f
 
 pub own_leads : (names : List Reference) (s : ControlState) (text : List ℕ) (run : RunsOwn (table names) s (followed_by (parser_in s) text)) → Leads names text s run.edits (state_at run.there)
-own_leads names s text run = record { made = run.edits; there = run.there; run = record { goes = own-goes (table names) s run.goes; rests = run.rests }; reaches = refl; same = λ tree. refl }
+own_leads names s text run = record { made = run.edits; there = run.there; run = record { goes = own-goes (table names) s run.goes; rests = run.rests }; reaches = refl; same = Same run.edits }

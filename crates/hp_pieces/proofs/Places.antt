@@ -9,6 +9,7 @@ use Rattle.hp_control.proofs.StartLemmas.{start_valid}
 use Rattle.hp_control.specs.declared.edit.Edit.{Edit}
 use Rattle.hp_control.specs.States.{ControlState, Fits, IsValid, start}
 use Rattle.hp_control.specs.Tree.{Tree, applied_all, document}
+use Rattle.hp_groves.proofs.Joined.{joined-make_same}
 use Rattle.hp_runs.proofs.Bounded.{pages_fit}
 use Rattle.hp_runs.specs.Pages.{IsTreeOf}
 use Rattle.hp_runs.proofs.Together.{applied-append}
@@ -20,7 +21,7 @@ use Rattle.hp_pieces.proofs.Stays.{waiting_stays}
 pub at_once : (text : List ℕ) (n : ℕ) (s u : ControlState) (t v : Tree) → IsAt text n s t → IsAt text n u v → (s ≡ u) × (t ≡ v)
 at_once text n s u t v a b =
     let once = leads_once built_in (chars (take n text)) start s u a.edits b.edits a.leads b.leads in
-    (once.0, a.builds ∙ (once.1 document ∙ sym b.builds))
+    (once.0, a.builds ∙ (joined-make_same a.edits b.edits once.1 document ∙ sym b.builds))
 
 pub at_start : (text : List ℕ) → IsAt text 0 start document
 at_start text = record { edits = []; leads = subst (λ (cs : List ℕ). Leads built_in cs start [] start) (sym chars-nil) (waiting_stays built_in start refl); builds = refl }

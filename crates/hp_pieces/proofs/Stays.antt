@@ -11,6 +11,7 @@ use Rattle.hp_control.specs.declared.edit.Edit.{Edit}
 use Rattle.hp_control.specs.Apply.{applied, named_edit}
 use Rattle.hp_control.specs.Holds.{Holds}
 use Rattle.hp_control.specs.States.{ControlState, IsValid}
+use Rattle.hp_groves.specs.Joining.{Same}
 use Rattle.hp_lexer.specs.Table.{table}
 use Rattle.hp_model.specs.Runs.{Goes, Parser, Rests, at_lexing, followed_by, goes, here, rests, step, step_by}
 use Rattle.hp_runs.specs.Alike.{SameMove}
@@ -46,7 +47,7 @@ waiting_stays names s w = record {
     rests = no-step names (parser_in s) w;
   };
   reaches = refl;
-  same = λ tree. refl;
+  same = Same [];
 }
 
 pub guess_leads : (f : Guessed) (s : ControlState) → IsSound f → MayStand f.names s → Holds f.assumptions s → Leads f.names (covered_text f) s (edits_over f s) (state_behind f s)

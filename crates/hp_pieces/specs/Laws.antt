@@ -10,8 +10,8 @@ use Rattle.hp_control.specs.declared.edit.Edit.{Edit}
 use Rattle.hp_control.specs.States.{ControlState, IsValid, may_be_ahead, start}
 use Rattle.hp_control.specs.Truth.{rest_of}
 use Rattle.hp_control.specs.Tree.{applied_all, document}
+use Rattle.hp_groves.specs.Joining.{JoinTexts}
 use Rattle.hp_lexer.specs.Table.{table}
-use Rattle.hp_model.specs.AtOnce.{MakeSame}
 use Rattle.hp_model.specs.Handling.{handle}
 use Rattle.hp_model.specs.Runs.{EndsWith, Goes, Parser, followed_by, step}
 use Rattle.hp_runs.specs.Pages.{IsTreeOf, Runs}
@@ -26,9 +26,9 @@ use Rattle.hp_pieces.specs.Waiting.{MayStand, Waits}
 abbrev pub LeadsExist : Type 0
 LeadsExist = (names : List Reference) (text : List ℕ) (s : ControlState) → (es : List Edit) × (t : ControlState) × Leads names text s es t
 
--- and one alone, up to how its edits are spelled
+-- and one alone, but for how the texts of its edits are joined
 abbrev pub LeadsOnce : Type 0
-LeadsOnce = (names : List Reference) (text : List ℕ) (s t u : ControlState) (es fs : List Edit) → Leads names text s es t → Leads names text s fs u → (t ≡ u) × MakeSame es fs
+LeadsOnce = (names : List Reference) (text : List ℕ) (s t u : ControlState) (es fs : List Edit) → Leads names text s es t → Leads names text s fs u → (t ≡ u) × JoinTexts es fs
 
 -- from a valid state it leads to a valid one
 abbrev pub LeadsValid : Type 0
