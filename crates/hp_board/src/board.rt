@@ -1,10 +1,13 @@
 //! The board.
-ghost use Rattle.std.specs.Prelude.{◌≡◌, ◌<◌, ◌≤◌, [], Some, length, slice_set};
+ghost use Rattle.std.specs.Prelude.{◌≡◌, ◌<◌, ◌≤◌, ◌^◌, [], Some, length, replicate, slice_set};
 ghost use Rattle.hp_text.specs.Page.{text_of as page_text};
 ghost use Rattle.hp_control.specs.States.{Fits};
+ghost use Rattle.hp_pieces.specs.At.{IsAt};
+ghost use Rattle.hp_board.specs.declared.journal.Status.TheVariants as status;
+ghost use Rattle.hp_board.specs.Calls.{IsBoardOf, IsDone};
 ghost use Rattle.hp_board.specs.Desk.{IsInOrder, IsKept, SamePage, entry, owed_of, put, rest_of, rest_start, slot_at, status_of, statuses};
 ghost use Rattle.hp_board.specs.FairLaws.{IsFairOn};
-ghost use Rattle.hp_board.specs.Machine.{end_of, kept_by, moved, stepped};
+ghost use Rattle.hp_board.specs.Machine.{end_of, kept_by, moved, replay, stepped};
 ghost use Rattle.hp_board.specs.Origins.{chunk_of_step};
 ghost use Rattle.hp_board.specs.Tallies.{IsRaised};
 
@@ -19,7 +22,6 @@ use std::mem;
 
 /// Which chunk of a page is whose, what was posted, what is committed, and how it came to that. A contract sees it as a `Desk`; what
 /// it keeps is `IsKept` of specs/Desk.antt.
-#[derive(Drop)]
 pub struct Board<'p> {
     pub(crate) page: Page<'p>,
     pub(crate) cuts: Cuts,
@@ -33,6 +35,22 @@ pub struct Board<'p> {
     pub(crate) front: Front<'p>,
     /// For how many entries the journal keeps room, so that no step behind a claim takes memory.
     pub(crate) owed: usize,
+}
+
+impl<'p> Drop for Board<'p> {
+    fn drop(self) {
+        let Board {
+            page: _,
+            cuts: _,
+            workers: _,
+            slots: _,
+            journal: _,
+            done: _,
+            place: _,
+            front: _,
+            owed: _,
+        } = self;
+    }
 }
 
 impl<'p> Model for Board<'p> {
@@ -57,6 +75,31 @@ impl<'p> Board<'p> {
     {
         hp_pieces::pages_at();
         let _done = self.done;
+    }
+
+    /// The front and the journal of a board on which all is done. The tallies are given up.
+    pub fn finish(self, tallies: Vec<Tally>) -> (Front<'p>, Journal)
+        requires done { IsDone self }
+        requires tallies { IsBoardOf self self.text self.cuts tallies.items }
+        ensures at { IsAt self.entry.text (length self.entry.text) result.0.control result.0.tree }
+        ensures front { (result.0.control ≡ self.entry.control) × (result.0.tree ≡ self.entry.tree) }
+        ensures journal { result.1.items ≡ self.entry.journal }
+        ensures replayed { replay (length self.entry.slots) result.1.items ≡ Some (replicate (length self.entry.slots) status.Done) }
+    {
+        self.kept();
+        let _ = tallies;
+        let Board {
+            page: _,
+            cuts: _,
+            workers: _,
+            slots: _,
+            journal,
+            done: _,
+            place: _,
+            front,
+            owed: _,
+        } = self;
+        (front, journal)
     }
 
     /// The number of chunks.

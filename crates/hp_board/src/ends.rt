@@ -62,21 +62,6 @@ impl<'p> Board<'p> {
     {
         self.done == self.chunks()
     }
-
-    /// The front and the journal of a board on which all is done. The tallies are given up.
-    pub fn finish(self, tallies: Vec<Tally>) -> (Front<'p>, Journal)
-        requires done { IsDone self }
-        requires tallies { IsBoardOf self self.text self.cuts tallies.items }
-        ensures at { IsAt self.entry.text (length self.entry.text) result.0.control result.0.tree }
-        ensures front { (result.0.control ≡ self.entry.control) × (result.0.tree ≡ self.entry.tree) }
-        ensures journal { result.1.items ≡ self.entry.journal }
-        ensures replayed { replay (length self.entry.slots) result.1.items ≡ Some (replicate (length self.entry.slots) status.Done) }
-    {
-        self.kept();
-        let _ = tallies;
-        let Board { front, journal, .. } = self;
-        (front, journal)
-    }
 }
 
 /// The slots of an opening board.

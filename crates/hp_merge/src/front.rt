@@ -14,10 +14,18 @@ use std::marker::Model;
 use std::mem;
 
 /// The state and the tree behind the text of a page that was joined so far. A contract sees it as a `Fore`.
-#[derive(Drop)]
 pub struct Front<'p> {
     control: Control,
     tree: Tree<'p>,
+}
+
+impl<'p> Drop for Front<'p> {
+    fn drop(self) {
+        let Front {
+            control: _,
+            tree: _,
+        } = self;
+    }
 }
 
 impl<'p> Model for Front<'p> {
@@ -135,7 +143,7 @@ impl<'p> Front<'p> {
         requires { ending.entry ≡ self.control }
         ensures { IfOk result (λ tree. tree.branches ≡ applied_all self.entry.tree ending.entry.edits) }
     {
-        let Front { tree, .. } = self;
+        let Front { control: _, tree } = self;
         end_tree(alloc, tree, ending)
     }
 }

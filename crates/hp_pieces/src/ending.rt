@@ -6,10 +6,15 @@ use std::marker::Model;
 
 /// The end of input from a known state. A contract sees it as a `Last`, and each value is such an end: `IsEnd` of
 /// specs/Fragments.antt says what that is.
-#[derive(Drop)]
 pub struct Ending<'p> {
     entry: Control,
     edits: Edits<'p>,
+}
+
+impl<'p> Drop for Ending<'p> {
+    fn drop(self) {
+        let Ending { entry: _, edits: _ } = self;
+    }
 }
 
 impl<'p> Model for Ending<'p> {

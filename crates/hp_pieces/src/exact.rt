@@ -6,12 +6,22 @@ use std::marker::Model;
 
 /// The run of the sequential parser over a text from a known state. A contract sees it as a `Known`, and each value is
 /// such a run: `IsRun` of specs/Fragments.antt says what that is.
-#[derive(Drop)]
 pub struct Exact<'p> {
     text: &'p [u8],
     entry: Control,
     exit: Control,
     edits: Edits<'p>,
+}
+
+impl<'p> Drop for Exact<'p> {
+    fn drop(self) {
+        let Exact {
+            text: _,
+            entry: _,
+            exit: _,
+            edits: _,
+        } = self;
+    }
 }
 
 impl<'p> Model for Exact<'p> {
@@ -80,7 +90,7 @@ impl<'p> Exact<'p> {
             entry,
             exit,
             edits,
-            ..
+            text: _,
         } = self;
         (entry, exit, edits)
     }

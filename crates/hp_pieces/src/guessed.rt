@@ -8,7 +8,6 @@ use std::marker::Model;
 /// What a part of a page does to the parser, where some answers about the state before it are true. A contract sees it as the record
 /// of that name, and each value is sound: `IsSound` of specs/Guesses.antt says what that is. Where it is known who guessed it, `IsBy` of
 /// specs/By.antt holds.
-#[derive(Drop)]
 pub struct Guessed<'p> {
     text: &'p [u8],
     covered: u64,
@@ -16,6 +15,19 @@ pub struct Guessed<'p> {
     change: Change,
     edits: Edits<'p>,
     by: Option<By<'p>>,
+}
+
+impl<'p> Drop for Guessed<'p> {
+    fn drop(self) {
+        let Guessed {
+            text: _,
+            covered: _,
+            assumptions: _,
+            change: _,
+            edits: _,
+            by: _,
+        } = self;
+    }
 }
 
 impl<'p> Model for Guessed<'p> {
@@ -70,7 +82,7 @@ impl<'p> Guessed<'p> {
             assumptions,
             change,
             edits,
-            ..
+            by: _,
         } = self;
         Guessed {
             text,
@@ -134,7 +146,14 @@ impl<'p> Guessed<'p> {
         ensures edits { result.1 ≡ self.entry.edits }
         ensures sound { IsSound self.entry }
     {
-        let Guessed { change, edits, .. } = self;
+        let Guessed {
+            text: _,
+            covered: _,
+            assumptions: _,
+            change,
+            edits,
+            by: _,
+        } = self;
         (change, edits)
     }
 
@@ -142,7 +161,14 @@ impl<'p> Guessed<'p> {
     pub fn into_assumptions(self) -> Assumptions
         ensures { result ≡ self.entry.assumptions }
     {
-        let Guessed { assumptions, .. } = self;
+        let Guessed {
+            text: _,
+            covered: _,
+            assumptions,
+            change: _,
+            edits: _,
+            by: _,
+        } = self;
         assumptions
     }
 }
