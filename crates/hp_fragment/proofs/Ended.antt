@@ -29,12 +29,14 @@ use Rattle.hp_control.specs.declared.edit.Ref.{Ref}
 use Rattle.hp_control.specs.declared.edit.Ref.TheVariants.{Fixed, Older, Own}
 use Rattle.hp_control.specs.declared.question.Answer.{Answer}
 use Rattle.hp_control.specs.declared.question.Question.{Question}
+use Rattle.hp_groves.specs.Joining.{JoinTexts, Same, Back, Through}
 use Rattle.hp_lexer.specs.declared.lexer.Asked.TheVariants as asked
 use Rattle.hp_lexer.specs.declared.lexer.Lexer.{Lexer}
 use Rattle.hp_lexer.specs.Places.{text_at}
 use Rattle.hp_lexer.specs.Standing.{stands}
 use Rattle.hp_lexer.specs.Table.{table}
-use Rattle.hp_model.specs.AtOnce.{MakeSame, RunsAtOnce, handle_at_once}
+use Rattle.hp_model.proofs.JoinedTexts.{join-equal}
+use Rattle.hp_model.specs.AtOnce.{RunsAtOnce, handle_at_once}
 use Rattle.hp_model.specs.Handling.{handle}
 use Rattle.hp_model.specs.Runs.{Parser, followed_by, goes, rests, step_by}
 use Rattle.hp_older.specs.Laws.{OwnTrue}
@@ -103,7 +105,7 @@ ran own entry text grows old new says r g = record {
     there = there;
     run = record { goes = own-goes (table built_in) nothing all.ended.goes; rests = record { no_step = λ q fs e. none q fs (sym (ap (step_by there) all.ended.needs) ∙ e) } };
     reaches = ap (λ (l : LexState). record (control_at nothing new) { lex = l }) reaches;
-    same = λ tree. refl;
+    same = Same all.edits;
   };
   amounts = all.amounts;
 }
@@ -153,7 +155,7 @@ told-fixed [] = All-nil IsFixedEdit
 told-fixed (e ∷ es) = All-cons IsFixedEdit (named_edit nothing e) (map (named_edit nothing) es) (edit-fixed e) (told-fixed es)
 
 -- the edits were kept
-kept-same : (x : Sink) (made es : List Edit) → Amounts false x nothing made es → MakeSame (map (named_edit nothing) made) es
+kept-same : (x : Sink) (made es : List Edit) → Amounts false x nothing made es → JoinTexts (map (named_edit nothing) made) es
 kept-same Keeps made es h = h
 kept-same (Grows tree) made es h = absurd h
 
@@ -167,7 +169,7 @@ replayed text entry exit edits p utf8 r is_exit is_edits = record {
     there = r.leads.there;
     run = r.leads.run;
     reaches = is_exit ∙ r.leads.reaches;
-    same = λ tree. ap (applied_all tree) is_edits ∙ (kept-same p.sink p.split.edits r.edits r.amounts tree ∙ r.leads.same tree);
+    same = subst (λ (es : List Edit). JoinTexts es r.leads.made) (sym is_edits) (Through _ _ _ (kept-same p.sink p.split.edits r.edits r.amounts) r.leads.same);
   };
   fixed = subst (All IsFixedEdit) (sym is_edits) (told-fixed p.split.edits);
 }
@@ -186,7 +188,7 @@ ended law ends own old new tokens says over valid inner read runs left handled =
     made = made_after handle c (singles tokens);
     ends = end-same built_in (parser_in (state_of old)) (ends built_in (lexing old.lexer.lex end_of_text 0) c tokens ahead (left 0))
         (record { lexing = record { machine = refl; unread = append-nil old.lexer.lex.ahead }; control = refl });
-    same = λ tree. sym (does.made tree);
+    same = Back _ _ does.made;
   };
   amounts = done.amounts;
 }
@@ -210,7 +212,7 @@ ending_is entry edits old new state none keeps e told = record {
   ends = record {
     made = there.made;
     ends = there.ends;
-    same = λ tree. ap (applied_all tree) told ∙ (kept-same new.sink new.split.edits e.made (e.amounts false [] begun) tree ∙ there.same tree);
+    same = subst (λ (es : List Edit). JoinTexts es there.made) (sym told) (Through _ _ _ (kept-same new.sink new.split.edits e.made (e.amounts false [] begun)) there.same);
   };
   fixed = subst (All IsFixedEdit) (sym told) (told-fixed new.split.edits);
 }
@@ -221,7 +223,7 @@ ending_is entry edits old new state none keeps e told = record {
     begun : Amounts false old.sink nothing old.split.edits []
     begun =
         subst (λ (x : Sink). Amounts false x nothing old.split.edits []) (sym keeps)
-        (λ tree. ap (λ (es : List Edit). applied_all tree (map (named_edit nothing) es)) none)
+        (join-equal (map (named_edit nothing) old.split.edits) [] (ap (map (named_edit nothing)) none))
 
 -- a page's tree grows
 pub growing : (x : Sink) (made es : List Edit) → Amounts true x nothing made es → is_growing x ≡ true
@@ -242,7 +244,7 @@ done-growing page read done r e = growing done.sink done.split.edits (r.edits ++
 
 -- nothing is made yet
 pub kept-empty : Amounts false Keeps nothing [] []
-kept-empty = λ tree. refl
+kept-empty = Same []
 
 -- a page was read
 pub page-read : (entry : ControlState) (bytes text : List ℕ) (p : Stage) → entry ≡ start → bytes ≡ text → RanFrom entry (chars bytes) true p → RanFrom start (chars text) true p

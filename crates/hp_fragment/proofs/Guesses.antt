@@ -22,7 +22,6 @@ use Rattle.hp_control.specs.Holds.{Holds}
 use Rattle.hp_control.specs.Laws.{KeptOnceWhereTrue}
 use Rattle.hp_control.specs.Plan.{Heard, added, added_each, is_asked, kept_pairs, noting}
 use Rattle.hp_control.specs.States.{ControlState, Fits, IsValid, lex_start}
-use Rattle.hp_control.specs.Tree.{applied_all}
 use Rattle.hp_control.specs.declared.change.Change.{Change}
 use Rattle.hp_control.specs.declared.edit.Edit.{Edit}
 use Rattle.hp_control.specs.declared.question.Answer.{Answer}
@@ -32,11 +31,12 @@ use Rattle.hp_control.specs.declared.question.Kept.{Kept}
 use Rattle.hp_control.specs.declared.question.Question.{Question}
 use Rattle.hp_control.specs.declared.question.Question.TheVariants as ask
 use Rattle.hp_lexer.specs.declared.lexer.Asked.TheVariants as asked
+use Rattle.hp_groves.specs.Joining.{JoinTexts}
 use Rattle.hp_lexer.specs.declared.lexer.Lexer.{Lexer}
 use Rattle.hp_lexer.specs.Places.{text_at}
 use Rattle.hp_lexer.specs.Standing.{is_answered, stands}
 use Rattle.hp_lexer.specs.Table.{table}
-use Rattle.hp_model.specs.AtOnce.{MakeSame}
+use Rattle.hp_model.proofs.JoinedTexts.{join-equal}
 use Rattle.hp_model.specs.Runs.{Parser, followed_by, goes, rests, step_by}
 use Rattle.hp_older.specs.Laws.{IsBegun, ViewsBegin}
 use Rattle.hp_older.specs.Over.{IsOver}
@@ -154,7 +154,7 @@ module _ (law : TextBegins) (s : ControlState) (text : List ℕ) (valid : IsVali
         (subst (λ (ahead : List ℕ). HasCome built_in name 0 s (followed_by (record { lexing = standing s.lex.machine 0 0 ahead; control = record s { lex = lex_start } }) text) (stands new (text_at (2 ^ 32) text)) (record s { lex = lex_start }) [])
         (ap (λ (l : LexState). l.ahead) same)
         (law built_in name s (record s { lex = lex_start }) new s.lex.machine text refl refl (lit≤ tt) (sym (ap (λ (l : LexState). l.machine) same) ∙ machine-filled own s refl some)))));
-    amounts = subst (λ (x : Sink). Amounts false x s p.split.edits []) (sym sink) (λ tree. ap (λ (v : Split). applied_all tree (map (named_edit s) v.edits)) split);
+    amounts = subst (λ (x : Sink). Amounts false x s p.split.edits []) (sym sink) (join-equal (map (named_edit s) p.split.edits) [] (ap (λ (v : Split). map (named_edit s) v.edits) split));
   }
     where
       own : LexState
@@ -198,7 +198,7 @@ module _ (law : TextBegins) (s : ControlState) (text : List ℕ) (valid : IsVali
           ∙ (ap (λ (m : Machine). record { machine = m; ahead = p.lexer.lex.ahead }) (sym all.ended.machine)
           ∙ ap (λ (u : List ℕ). record { machine = all.ended.at.machine; ahead = u }) (sym all.ended.unread))
 
-      kept : (x : Sink) → Amounts false x s p.split.edits all.edits → MakeSame (map (named_edit s) p.split.edits) all.edits
+      kept : (x : Sink) → Amounts false x s p.split.edits all.edits → JoinTexts (map (named_edit s) p.split.edits) all.edits
       kept Keeps h = h
       kept (Grows tree) h = absurd h
 

@@ -1,20 +1,22 @@
 -- Trees of runs and of pages are counted.
-use Rattle.std.proofs.Common.{◌≡◌, ℕ, zero, suc, ◌+◌, List, [], ◌++◌, take, length, true, refl, sym, subst, arith, Some}
+use Rattle.std.proofs.Common.{◌≡◌, ℕ, zero, suc, ◌+◌, List, [], ◌++◌, take, length, true, refl, ap, ◌∙◌, sym, subst, arith, Some}
 use Rattle.std.specs.Prelude.{slice_get}
 use Rattle.std.specs.Str.{chars}
 use Rattle.std.proofs.lemmas.List.Elements.{All-nil}
 use Rattle.hp_lexer.specs.Table.{table}
 use Rattle.hp_control.specs.declared.edit.Edit.{Edit}
-use Rattle.hp_control.specs.States.{ControlState, start}
+use Rattle.hp_control.specs.States.{ControlState, IsValid, start}
 use Rattle.hp_control.specs.Tree.{Element, Tree, applied_all, document}
 use Rattle.hp_groves.specs.Grafts.{graft}
 use Rattle.hp_groves.specs.Laws.{HasOnlyWhatIsThere}
 use Rattle.hp_groves.specs.Split.{grove_of, made_by, name_what_is_there, outer_of}
+use Rattle.hp_groves.specs.Joining.{JoinTexts}
+use Rattle.hp_groves.proofs.Joined.{joined-count_same, joined-name_same}
 use Rattle.hp_groves.proofs.Splitting.{counts-on, split-makes_same, stays-there}
 use Rattle.hp_names.specs.References.{Reference}
 use Rattle.hp_names.specs.BuiltIn.{built_in}
-use Rattle.hp_pieces.specs.Running.{Leads}
-use Rattle.hp_growing.specs.Laws.{EndsHaveThere, PlacesCount, RunsCount, RunsSplit, TreesHaveThere}
+use Rattle.hp_pieces.specs.Running.{Ends, Leads}
+use Rattle.hp_growing.specs.Laws.{EndsHaveThere, LastNameThere, LeadsNameThere, LeadsSplit, PlacesCount, RunsCount, RunsSplit, TreesHaveThere}
 use Rattle.hp_growing.specs.Naming.{IsCounted, NamesThere}
 use Rattle.hp_growing.proofs.There.{IsThere, names_then}
 use Rattle.hp_growing.proofs.Making.{Has}
@@ -30,25 +32,46 @@ counted-on next later es t names c =
     record { count = omega arith; there = stays-there t es c.there (subst (λ n. name_what_is_there n es ≡ true) (sym before) names.named) }
 
 -- and the inner ones may be made first
-pub runs-split : RunsSplit
-runs-split rules old new es t way v c =
-    let names = (way_leads rules way (valid-has old.control v)).0 in
+split-on : (next later : ℕ) (es : List Edit) (t : Tree) → NamesThere next es later → IsCounted next t → applied_all t es ≡ applied_all (graft t (grove_of next es)) (outer_of next es)
+split-on next later es t names c =
     subst (λ n. applied_all t es ≡ applied_all (graft t (grove_of n es)) (outer_of n es)) c.count
     (split-makes_same t es c.there (subst (λ n. name_what_is_there n es ≡ true) (sym c.count) names.named))
 
-leads-counted : (names : List Reference) (text : List ℕ) (s u : ControlState) (es : List Edit) (t : Tree) → Leads names text s es u → Has s → IsCounted s.next t → IsCounted u.next (applied_all t es)
-leads-counted names text s u es t f h c =
-    let way = way_leads (table names) f.run.goes h in
-    let tree : IsCounted f.there.control.next (applied_all t f.made) = counted-on s.next f.there.control.next f.made t way.0 c in
-    subst (λ (x : ControlState). IsCounted x.next (applied_all t es)) (sym f.reaches) (subst (IsCounted f.there.control.next) (sym (f.same t)) tree)
+pub runs-split : RunsSplit
+runs-split rules old new es t way v c = split-on old.control.next new.control.next es t (way_leads rules way (valid-has old.control v)).0 c
+
+-- however texts are joined, the same is named and made
+joined-there : (next later : ℕ) (es made : List Edit) → JoinTexts es made → NamesThere next made later → NamesThere next es later
+joined-there next later es made j names = record {
+  named = joined-name_same next es made j ∙ names.named;
+  counted = names.counted ∙ ap (λ n. next + n) (sym (joined-count_same es made j));
+}
+
+-- so a fragment's edits name what is there
+leads-there : (names : List Reference) (text : List ℕ) (s u : ControlState) (es : List Edit) → Leads names text s es u → Has s → NamesThere s.next es u.next
+leads-there names text s u es f h =
+    subst (λ (x : ControlState). NamesThere s.next es x.next) (sym f.reaches) (joined-there s.next f.there.control.next es f.made f.same (way_leads (table names) f.run.goes h).0)
+
+pub leads-name_there : LeadsNameThere
+leads-name_there names text s u es f v = leads-there names text s u es f (valid-has s v)
+
+pub leads-split : LeadsSplit
+leads-split names text s u es t f v c = split-on s.next u.next es t (leads-name_there names text s u es f v) c
+
+-- and those of the end of input
+ends-there : (names : List Reference) (s : ControlState) (es : List Edit) → Ends names s es → IsValid s → (later : ℕ) × NamesThere s.next es later
+ends-there names s es f v =
+    let (later, way) = end_leads (table names) f.ends (valid-has s v) in
+    (later, joined-there s.next later es f.made f.same way)
+
+pub last-name_there : LastNameThere
+last-name_there names s es f v = let (later, way) = ends-there names s es f v in way.named
 
 pub runs-count : RunsCount
-runs-count names text s u es t f v c = leads-counted names text s u es t f (valid-has s v) c
+runs-count names text s u es t f v c = counted-on s.next u.next es t (leads-name_there names text s u es f v) c
 
 pub ends-have_there : EndsHaveThere
-ends-have_there names s es t f v c =
-    let (later, way) = end_leads (table names) f.ends (valid-has s v) in
-    subst HasOnlyWhatIsThere (sym (f.same t)) (counted-on s.next later f.made t way c).there
+ends-have_there names s es t f v c = let (later, way) = ends-there names s es f v in (counted-on s.next later es t way c).there
 
 -- pages begin with the document alone
 start-has : Has start
@@ -68,7 +91,8 @@ document-counted : IsCounted 1 document
 document-counted = record { count = refl; there = document-there }
 
 pub places-count : PlacesCount
-places-count text place s t f = subst (IsCounted s.next) (sym f.builds) (leads-counted built_in (chars (take place text)) start s f.edits document f.leads start-has document-counted)
+places-count text place s t f =
+    subst (IsCounted s.next) (sym f.builds) (counted-on 1 s.next f.edits document (leads-there built_in (chars (take place text)) start s f.edits f.leads start-has) document-counted)
 
 pub trees-have_there : TreesHaveThere
 trees-have_there names page tree f =

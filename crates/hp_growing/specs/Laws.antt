@@ -43,6 +43,19 @@ abbrev pub RunsSplit : Type 0
 RunsSplit = (rules : Rules) (old new : Parser) (es : List Edit) (t : Tree) → Goes (step rules) old es new → IsValid old.control → IsCounted old.control.next t
     → applied_all t es ≡ applied_all (graft t (grove_of old.control.next es)) (outer_of old.control.next es)
 
+-- A fragment's edits are those of the run but for how texts are joined: so from a valid state they name what is there too,
+abbrev pub LeadsNameThere : Type 0
+LeadsNameThere = (names : List Reference) (text : List ℕ) (s u : ControlState) (es : List Edit) → Leads names text s es u → IsValid s → NamesThere s.next es u.next
+
+-- as those of the end of input do,
+abbrev pub LastNameThere : Type 0
+LastNameThere = (names : List Reference) (s : ControlState) (es : List Edit) → Ends names s es → IsValid s → name_what_is_there s.next es ≡ true
+
+-- and its inner edits may be made first, by themselves.
+abbrev pub LeadsSplit : Type 0
+LeadsSplit = (names : List Reference) (text : List ℕ) (s u : ControlState) (es : List Edit) (t : Tree) → Leads names text s es u → IsValid s → IsCounted s.next t
+    → applied_all t es ≡ applied_all (graft t (grove_of s.next es)) (outer_of s.next es)
+
 -- A run leads from a tree that has the elements below the next id to one that has those below the later one,
 abbrev pub RunsCount : Type 0
 RunsCount = (names : List Reference) (text : List ℕ) (s u : ControlState) (es : List Edit) (t : Tree) → Leads names text s es u → IsValid s → IsCounted s.next t → IsCounted u.next (applied_all t es)

@@ -7,6 +7,9 @@ ghost use Rattle.hp_growing.specs.Laws.{
   EndsHaveThere,
   EndsNameThere,
   HandledNamesThere,
+  LastNameThere,
+  LeadsNameThere,
+  LeadsSplit,
   PlacesCount,
   RunsCount,
   RunsNameThere,
@@ -29,6 +32,14 @@ pub fn runs_name_there()
     ensures runs { RunsNameThere }
     ensures ends { EndsNameThere }
     ensures split { RunsSplit }
+{}
+
+/// So do a fragment's edits, which are those of the run but for how texts are joined, and those of the end of input; and the inner edits
+/// of a fragment may be made first, by themselves.
+pub fn fragments_name_there()
+    ensures runs { LeadsNameThere }
+    ensures ends { LastNameThere }
+    ensures split { LeadsSplit }
 {}
 
 /// Where a tree has the elements below the next id, and only they stand in lists of children, so it is behind a run, at each place of a
