@@ -5,8 +5,9 @@ use Rattle.std.proofs.lemmas.Bool.{true≢false, cases_eq, cases_Bool, cond-true
 use Rattle.std.proofs.lemmas.List.{length-map}
 use Rattle.hp_control.specs.Tree.{Item, Branch, is_element, beside, put_before, has_parent, stands_in, branch, no_branch}
 use Rattle.hp_arena.specs.Ring.{Links, Path}
-use Rattle.hp_arena.specs.Nodes.{links_of, stops, inside, is_end, end_from}
+use Rattle.hp_arena.specs.Nodes.{links_of, kind_of, stops, inside, is_end, end_from}
 use Rattle.hp_arena.specs.Shape.{IsTree, IsListed, item_of, branches_of, branch_of, node_of}
+use Rattle.hp_arena.specs.declared.links.Kind.TheVariants.{End}
 use Rattle.hp_arena.specs.declared.links.Node.{Node}
 use Rattle.hp_arena.specs.declared.arena.Element.{Element as ElementOf}
 use Rattle.hp_arena.proofs.Branches.{branch-at}
@@ -126,6 +127,13 @@ any-some p [] i h e = absurd (omega arith)
 any-some p (b ∷ bs) zero h e = or-left (p b) (list_any p bs) e
 any-some p (b ∷ bs) (suc i) h e = or-right (p b) (list_any p bs) (any-some p bs i (omega arith) e)
 
+-- the parent of an element, as the links lead to it
+pub record ParentOf (nodes : List Node) (elements : List ElementOf) (leaves : List Item) (id : ℕ) : Type 0 where
+  pub parent : ℕ
+  pub end_in : end_from nodes (length nodes) (node_of elements id) < length nodes
+  pub end : kind_of nodes (end_from nodes (length nodes) (node_of elements id)) ≡ End parent
+  pub stands : stands_in (branches_of nodes elements leaves) parent id ≡ true
+
 module _ (nodes : List Node) (elements : List ElementOf) (leaves : List Item) (plain : AreLeaves leaves) (t : IsTree nodes elements (length leaves)) (id : ℕ) (h : id < length elements) where
   abbrev own : ℕ
   own = node_of elements id
@@ -194,6 +202,18 @@ module _ (nodes : List Node) (elements : List ElementOf) (leaves : List Item) (p
               | inr e ↦ e ∙ sym (ne_eqb _ _ (λ same. ends-apart nodes elements (length leaves) t there.0 0 there.1.0 some other (sym end ∙ same)))
             ]
       ]
+
+  -- from a node in a list one comes to the end of its parent
+  pub parent-there : (links_of nodes).next own ≢ own → ParentOf nodes elements leaves id
+  parent-there away =
+      let there : IsListed nodes elements own = t.listed own inner-own away in
+      let end : end_from nodes (length nodes) own ≡ node_of elements there.0 + 1 = end-there there.0 there.1.0 there.1.1 in
+      record {
+        parent = there.0;
+        end_in = subst (λ n. n < length nodes) (sym end) (t.end_in there.0 there.1.0);
+        end = ap (kind_of nodes) end ∙ t.end there.0 there.1.0;
+        stands = stands-at there.0 there.1.0 ∙ there.1.1;
+      }
 
 pub end-stop : (nodes : List Node) (n s : ℕ) → stops nodes s ≡ true → end_from nodes n s ≡ s
 unfolding end_from

@@ -208,7 +208,7 @@ module _ (old : List Node) (elements : List ElementOf) (leaves : ℕ) (t : IsTre
       ]
 
   home-kept : (s : ℕ) (kind : Kind) → IsAtHome elements leaves s kind → IsAtHome elements_more leaves s kind
-  home-kept s (End id) h = h
+  home-kept s (End id) h = omega (arith, h, length-append elements (e ∷ []))
   home-kept s (Element id) h = (omega (arith, h.0, length-append elements (e ∷ [])), node-kept id h.0 ∙ h.1)
   home-kept s (Leaf number) h = h
 
@@ -239,7 +239,7 @@ module _ (old : List Node) (elements : List ElementOf) (leaves : ℕ) (t : IsTre
       | inl below ↦ subst (λ k. IsAtHome elements_more leaves s k) (sym (kind-grown old with_element IsAdded-element.grown s below)) (home-kept s (kind_of old s) (t.home s below))
       | inr past ↦ elim (new-node s past h) [
         | inl f ↦ subst (λ k. IsAtHome elements_more leaves s k) (sym (ap (λ n. n.kind) f.1)) (omega (arith, length-append elements (e ∷ [])), node-last ∙ sym f.0)
-        | inr f ↦ subst (λ k. IsAtHome elements_more leaves s k) (sym (ap (λ n. n.kind) f.1)) tt
+        | inr f ↦ subst (λ k. IsAtHome elements_more leaves s k) (sym (ap (λ n. n.kind) f.1)) (omega (arith, length-append elements (e ∷ [])))
       ]
     ];
     leaf_once = λ s r number a b. t.leaf_once s r number (leaf-kept s number a) (leaf-kept r number b);

@@ -25,3 +25,8 @@ pub mod Tagging
 pub mod RootItems
 pub mod Grown
 pub mod LevelLemmas
+pub mod Raised
+pub mod Turning
+pub mod Grafted
+pub mod Raises
+pub mod Behind

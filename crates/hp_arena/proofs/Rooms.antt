@@ -49,7 +49,7 @@ tags-more elements e own all id some h =
           subst (λ i. tag_at (elements ++ e ∷ []) i ≢ None) (sym same) (subst (λ x. x.tag ≢ None) (sym (get_or-append_seam elements e [] no_element)) own)
     ]
 
-doctype-more : (n m : ℕ) (leaf : LeafOf) → n ≤ m → IsDoctypeIn n leaf → IsDoctypeIn m leaf
+pub doctype-more : (n m : ℕ) (leaf : LeafOf) → n ≤ m → IsDoctypeIn n leaf → IsDoctypeIn m leaf
 doctype-more n m (Run run) le h = h
 doctype-more n m (Text runs) le h = h
 doctype-more n m (Comment text) le h = h

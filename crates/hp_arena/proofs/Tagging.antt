@@ -44,7 +44,7 @@ module _ (old : List ElementOf) (id : ℕ) (tag : Option Tag) (h : id < length o
       ]
 
   home : (leaves s : ℕ) (k : Kind) → IsAtHome old leaves s k → IsAtHome new leaves s k
-  home leaves s (End i) at = at
+  home leaves s (End i) at = subst (λ n. i < n) (sym count) at
   home leaves s (Element i) at = (subst (λ n. i < n) (sym count) at.0, same i ∙ at.1)
   home leaves s (Leaf number) at = at
 

@@ -7,3 +7,5 @@ pub mod Readers
 pub mod Room
 pub mod Roots
 pub mod Levels
+pub mod Groves
+pub mod Grafting

@@ -52,7 +52,7 @@ at_of nodes elements (Foster table above) =
 
 -- the numbers in a kind lead to what is there, and an element's node is its own
 abbrev pub IsAtHome : List ElementOf → ℕ → ℕ → Kind → Type 0
-IsAtHome elements leaves s (End id) = Unit {0}
+IsAtHome elements leaves s (End id) = id < length elements
 IsAtHome elements leaves s (Element id) = (id < length elements) × (node_of elements id ≡ s)
 IsAtHome elements leaves s (Leaf number) = number < leaves
 

@@ -1,22 +1,25 @@
 //! The nodes, elements and leaves of a tree, and the edits on them.
 
-ghost use Rattle.std.specs.Prelude.{◌≡◌, ◌≢◌, ◌+◌, ◌<◌, ◌≤◌, length, ◌++◌, [], ◌∷◌, ◌^◌, true, false, IsTrue, ◌↔◌, IfOk, OnOk, OnErr, All, MatchOption, Some, slice_get, slice_set, vec_len, vec_capacity, ℕ};
-ghost use Rattle.hp_control.specs.Edits.{room_of, room_of_all};
+ghost use Rattle.std.specs.Prelude.{◌≡◌, ◌≢◌, ◌+◌, ◌<◌, ◌≤◌, length, ◌++◌, [], ◌∷◌, ◌^◌, true, false, IsTrue, ◌↔◌, IfOk, IfErr, OnOk, OnErr, All, MatchOption, Some, slice_get, slice_set, vec_len, vec_capacity, ℕ};
+ghost use Rattle.hp_control.specs.Edits.{room_of};
 ghost use Rattle.hp_control.specs.Tree.{document, detached, put, put_child, applied, is_there, id_of, is_place, may_be_child, leads_into_document, children_moved, with_tag, with_attributes};
-ghost use Rattle.hp_control.specs.Tree.{branch, IsForest};
+ghost use Rattle.hp_control.specs.Tree.{branch, has_parent, stands_in, IsForest};
 ghost use Rattle.hp_control.specs.Tree as item;
+ghost use Rattle.hp_groves.specs.Grafts.{graft};
+ghost use Rattle.hp_arena.specs.Groves.{behind_document, IsBlank};
 ghost use Rattle.hp_arena.specs.Leaves.{IsCell, leaf_items, kept_doctype};
 ghost use Rattle.hp_arena.specs.Roots.{is_root_table, has_root_table};
 ghost use Rattle.hp_arena.specs.Nodes.{kind_of, IsClosed, end_from};
 ghost use Rattle.hp_arena.specs.Readers.{IsSpot, shown, is_item, HasTag};
 
 use crate::attributes::add_attributes;
+use crate::grafting::{Rise, Sizes, append_elements, append_reserved, raise_lists, widen_for};
 use crate::leaves::{Doctype, Leaf, add_leaf, add_text, alone, text_at};
 use crate::levels::summed_levels;
 use crate::links::{Kind, Node, put_before, splice, unlink};
 use crate::readers::{NodeView, Runs, Spot};
 use crate::room::widen;
-use hp_control::{Child, Edit, Edits, Place, Ref};
+use hp_control::{Child, Edit, Place, Ref};
 use hp_elements::{Attribute, Chain, Tag, Text};
 use std::alloc::{AllocError, Global};
 use std::marker::Model;
@@ -87,14 +90,13 @@ impl<'p> Arena<'p> {
         })
     }
 
-    /// Makes room for these edits. There is no memory also where a list or count of the tree, or the room asked for, is past 2^29.
-    pub fn reserve(&mut self, alloc: Global, edits: &Edits<'p>) -> Result<(), AllocError>
+    /// Makes so much room for edits. There is no memory also where a list or count of the tree, or the room asked for, is past 2^29.
+    pub fn reserve(&mut self, alloc: Global, room: u64) -> Result<(), AllocError>
         ensures branches { self.new.branches ≡ self.old.branches }
-        ensures room { OnOk result (room_of_all edits.now ≤ self.new.spare) }
+        ensures room { OnOk result (room ≤ self.new.spare) }
         ensures kept { self.old.spare ≤ self.new.spare }
         ensures err { OnErr result (self.new ≡ self.old) }
     {
-        let room = edits.room();
         if room <= self.spare as u64 {
             return Ok(());
         }
@@ -383,6 +385,69 @@ impl<'p> Arena<'p> {
 }
 
 impl<'p> Arena<'p> {
+    /// Puts the elements of another tree but its document, in which nothing stands, behind those of this one. At an `Err`, which is want of
+    /// memory, also where a list or count of the tree would be past 2^29, the other tree comes back.
+    #[inline(never)]
+    pub fn graft(&mut self, grove: Arena<'p>) -> Result<(), Arena<'p>>
+        requires blank { IsBlank grove.branches }
+        ensures branches { OnOk result (self.new.branches ≡ graft self.old.branches (behind_document grove.entry.branches)) }
+        ensures spare { OnOk result (self.new.spare ≡ self.old.spare) }
+        ensures err { OnErr result (self.new ≡ self.old) }
+        ensures back { IfErr result (λ back. back ≡ grove.entry) }
+    {
+        let most = (self.nodes.len() + grove.nodes.len())
+            .max(self.elements.len() + grove.elements.len())
+            .max(self.leaves.len() + grove.leaves.len())
+            .max(self.doctypes.len() + grove.doctypes.len())
+            .max(self.used + grove.used);
+        if !is_within(most, self.spare as u64) {
+            return Err(grove);
+        }
+        let more = Sizes {
+            nodes: grove.nodes.len(),
+            elements: grove.elements.len(),
+            leaves: grove.leaves.len(),
+            doctypes: grove.doctypes.len(),
+            cells: grove.cells.len(),
+        };
+        let Ok(()) = widen_for(
+            &mut self.nodes,
+            &mut self.elements,
+            &mut self.leaves,
+            &mut self.doctypes,
+            &mut self.cells,
+            more,
+            self.spare,
+        ) else {
+            return Err(grove);
+        };
+        let rise = Rise {
+            nodes: self.nodes.len() as u32,
+            elements: self.elements.len() as u32 - 1,
+            leaves: self.leaves.len() as u32,
+            doctypes: self.doctypes.len() as u32,
+        };
+        let Arena {
+            mut nodes,
+            mut elements,
+            mut leaves,
+            doctypes,
+            cells,
+            used,
+            spare: _,
+        } = grove;
+        raise_lists(&mut nodes, &mut elements, &mut leaves, doctypes.len(), rise);
+        append_reserved(&mut self.nodes, nodes);
+        append_elements(&mut self.elements, elements);
+        append_reserved(&mut self.leaves, leaves);
+        append_reserved(&mut self.doctypes, doctypes);
+        append_reserved(&mut self.cells, cells);
+        self.used += used;
+        Ok(())
+    }
+}
+
+impl<'p> Arena<'p> {
     /// The number of elements, with the document. Each element has at most one parent, and the document has none.
     pub fn len(&self) -> u32
         ensures count { result ≡ length self.now.branches }
@@ -444,6 +509,24 @@ impl<'p> Arena<'p> {
                 place: at.place + 1,
                 node,
             }),
+        }
+    }
+
+    /// The element in whose list of children an element stands, if it stands in one.
+    #[inline(never)]
+    pub fn parent_of(&self, id: u32) -> Option<u32>
+        requires { id < length self.now.branches }
+        ensures parent { MatchOption result (has_parent self.now.branches id ≡ false) (λ parent. stands_in self.now.branches parent id ≡ true) }
+        ensures forest { IsForest self.now.branches }
+    {
+        let node = self.elements[id as usize].node;
+        if self.nodes[node as usize].next == node {
+            return None;
+        }
+        let end = end_after(&self.nodes, node);
+        match self.nodes[end as usize].kind {
+            Kind::End(parent) => Some(parent),
+            Kind::Element(_) | Kind::Leaf(_) => unreachable!(),
         }
     }
 

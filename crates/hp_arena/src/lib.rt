@@ -3,6 +3,8 @@
 
 mod arena;
 mod attributes;
+mod grafting;
+mod grove;
 mod leaves;
 mod levels;
 mod links;
@@ -11,5 +13,6 @@ mod room;
 mod roots;
 mod tree;
 
+pub use grove::{GraftRefusal, Grove};
 pub use readers::{At, NodeView, Runs, Spot, is_template};
 pub use tree::Tree;

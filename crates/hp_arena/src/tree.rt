@@ -1,12 +1,15 @@
 //! The tree that callers see: its edits and its readers.
 
-ghost use Rattle.std.specs.Prelude.{◌≡◌, ◌+◌, ◌<◌, ◌≤◌, length, map, [], ℕ, IfOk, IfSome, OnOk, OnErr, MatchOption};
+ghost use Rattle.std.specs.Prelude.{◌≡◌, ◌+◌, ◌<◌, ◌≤◌, length, map, [], ℕ, IfErr, IfOk, IfSome, OnOk, OnErr, MatchOption, true, false};
 ghost use Rattle.hp_control.specs.Apply.{named_child, named_edit};
 ghost use Rattle.hp_control.specs.Nothing.{nothing};
 ghost use Rattle.hp_control.specs.Edits.{room_of, room_of_all};
-ghost use Rattle.hp_control.specs.Tree.{document, applied, applied_all, branch, IsForest};
+ghost use Rattle.hp_control.specs.Tree.{document, applied, applied_all, branch, has_parent, stands_in, IsForest};
 ghost use Rattle.hp_control.specs.declared.edit.Child.{Child};
 ghost use Rattle.hp_control.specs.declared.edit.Place.{Place};
+ghost use Rattle.hp_groves.specs.Grafts.{graft};
+ghost use Rattle.hp_arena.specs.Groves.{behind_document, IsBlank};
+ghost use Rattle.hp_arena.specs.Roots.{AreRoots};
 ghost use Rattle.hp_arena.specs.Shape.{attribute_count};
 ghost use Rattle.hp_arena.specs.Readers.{IsAt, IsIn, IsFirstChild, IsShown, HasTag, children, list_of, contents_of, siblings, parent_of, place_of};
 
@@ -66,7 +69,18 @@ impl<'p> Tree<'p> {
         ensures kept { self.old.spare ≤ self.new.spare }
         ensures err { OnErr result (self.new ≡ self.old) }
     {
-        self.arena.reserve(alloc, edits)
+        self.arena.reserve(alloc, edits.room())
+    }
+
+    /// Makes so much room for edits: one for each, and one for each of their attributes. There is no memory also where a list or count of
+    /// the tree, or the room asked for, is past 2^29.
+    pub fn reserve_room(&mut self, alloc: Global, room: u64) -> Result<(), AllocError>
+        ensures branches { self.new.branches ≡ self.old.branches }
+        ensures room { OnOk result (room ≤ self.new.spare) }
+        ensures kept { self.old.spare ≤ self.new.spare }
+        ensures err { OnErr result (self.new ≡ self.old) }
+    {
+        self.arena.reserve(alloc, room)
     }
 
     /// How much room there is for edits: one for each, and one for each of their attributes.
@@ -114,9 +128,9 @@ impl<'p> Tree<'p> {
         }
     }
 
-    /// Makes one edit, told where no older state is below. Nothing is promised of what is left of it.
+    /// Makes one edit, told where no older state is below. It takes no memory. Nothing is promised of what is left of it.
     #[inline(always)]
-    fn make(&mut self, edit: &mut Edit<'p>)
+    pub fn make(&mut self, edit: &mut Edit<'p>)
         requires { room_of edit.old ≤ self.old.spare }
         ensures branches { self.new.branches ≡ applied self.old.branches (named_edit nothing edit.old) }
         ensures spare { self.old.spare ≤ self.new.spare + room_of edit.old }
@@ -223,6 +237,36 @@ impl<'p> Tree<'p> {
 }
 
 impl<'p> Tree<'p> {
+    /// Puts the elements of another tree but its document, in which nothing stands, behind those of this one. There is as much room for
+    /// edits as before. At an `Err`, which is want of memory, also where a list or count of the tree would be past 2^29, the tree is as
+    /// before and the other one comes back.
+    pub(crate) fn graft_tree(&mut self, other: Tree<'p>) -> Result<(), Tree<'p>>
+        requires blank { IsBlank other.branches }
+        ensures branches { OnOk result (self.new.branches ≡ graft self.old.branches (behind_document other.entry.branches)) }
+        ensures spare { OnOk result (self.new.spare ≡ self.old.spare) }
+        ensures err { OnErr result (self.new ≡ self.old) }
+        ensures back { IfErr result (λ back. back ≡ other.entry) }
+    {
+        // `len` hands on that the document is there, whose children stay.
+        let _elements = self.len();
+        let (arena, roots) = other.into_parts();
+        match self.arena.graft(arena) {
+            Ok(()) => Ok(()),
+            Err(arena) => Err(Tree { arena, roots }),
+        }
+    }
+
+    /// The lists, and which elements may stand in the document.
+    fn into_parts(self) -> (Arena<'p>, Roots)
+        ensures arena { result.0 ≡ self.entry }
+        ensures roots { AreRoots result.1 result.0.branches }
+    {
+        let Tree { arena, roots } = self;
+        (arena, roots)
+    }
+}
+
+impl<'p> Tree<'p> {
     /// The number of elements, with the document. Each element has at most one parent, and the document has none.
     pub fn len(&self) -> u32
         ensures count { result ≡ length self.now.branches }
@@ -323,6 +367,16 @@ impl<'p> Tree<'p> {
             Some(spot) => Some(At::Child(spot)),
             None => None,
         }
+    }
+
+    /// The element in whose list of children the element of this id stands, if it stands in one. Each stands in one at most. It takes
+    /// constant time where it stands in none, and else goes by the siblings behind it.
+    pub fn parent_of(&self, id: u32) -> Option<u32>
+        requires { id < length self.now.branches }
+        ensures parent { MatchOption result (has_parent self.now.branches id ≡ false) (λ parent. stands_in self.now.branches parent id ≡ true) }
+        ensures forest { IsForest self.now.branches }
+    {
+        self.arena.parent_of(id)
     }
 
     /// The element whose list of children a reader comes to from there.

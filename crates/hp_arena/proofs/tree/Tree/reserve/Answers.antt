@@ -2,6 +2,3 @@ use Rattle.hp_arena.proofs.tree.Tree.reserve.Goals as goal
 
 pub invariant_of-self : goal.invariant_of-self
 invariant_of-self c = rw c.reserve.ensures.branches c.self.invariant
-
-pub returns-clause-room : goal.returns-clause-room
-returns-clause-room c = c.reserve.ensures.room
