@@ -1,0 +1,8 @@
+pub mod Snoc
+pub mod Parents
+pub mod Outers
+pub mod Marked
+pub mod Rooted
+pub mod Firsts
+pub mod Grown
+pub mod Ways

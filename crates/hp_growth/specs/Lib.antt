@@ -1,0 +1,4 @@
+pub mod Marking
+pub mod Growing
+pub mod Reaching
+pub mod Laws
