@@ -5,3 +5,5 @@ pub mod Rows
 pub mod Handled
 pub mod Runs
 pub mod Places
+pub mod Below
+pub mod Guesses

@@ -1,21 +1,27 @@
 -- The laws of what the edits of a token, of a run and of a page name.
-use Rattle.std.specs.Prelude.{◌≡◌, ℕ, true, List}
+use Rattle.std.specs.Prelude.{◌≡◌, ℕ, ◌⊎◌, true, List, map}
 use Rattle.hp_elements.specs.declared.token.Token.{Token}
 use Rattle.hp_names.specs.References.{Reference}
 use Rattle.hp_tokens.specs.Moves.{Rules}
 use Rattle.hp_control.specs.declared.edit.Edit.{Edit}
-use Rattle.hp_control.specs.States.{ControlState, IsValid}
+use Rattle.hp_control.specs.Apply.{named_edit}
+use Rattle.hp_control.specs.Holds.{Holds}
+use Rattle.hp_control.specs.States.{ControlState, Fits, IsValid, is_rooted}
 use Rattle.hp_control.specs.Tree.{Tree, applied_all}
 use Rattle.hp_groves.specs.Grafts.{graft}
 use Rattle.hp_groves.specs.Laws.{HasOnlyWhatIsThere}
+use Rattle.hp_groves.specs.Naming.{IsBelow}
 use Rattle.hp_groves.specs.Split.{grove_of, name_what_is_there, outer_of}
+use Rattle.hp_growth.specs.Marking.{name_first}
 use Rattle.hp_model.specs.AtOnce.{built_at_once, handle_at_once}
 use Rattle.hp_model.specs.Handling.{handle}
 use Rattle.hp_model.specs.Runs.{EndsWith, Goes, Parser, step}
 use Rattle.hp_model.specs.Turns.{left_by}
 use Rattle.hp_runs.specs.Pages.{IsTreeOf}
 use Rattle.hp_pieces.specs.At.{IsAt}
+use Rattle.hp_pieces.specs.Guesses.{Guessed, IsSound, covered_text, state_behind, tree_behind}
 use Rattle.hp_pieces.specs.Running.{Ends, Leads}
+use Rattle.hp_pieces.specs.Waiting.{MayStand}
 use Rattle.hp_growing.specs.Naming.{IsCounted, NamesThere}
 
 -- From a valid state the edits of a token name what is there,
@@ -71,3 +77,19 @@ PlacesCount = (text : List ℕ) (place : ℕ) (s : ControlState) (t : Tree) → 
 -- and in the tree of a page stands only what is there.
 abbrev pub TreesHaveThere : Type 0
 TreesHaveThere = (names : List Reference) (page : List ℕ) (tree : Tree) → IsTreeOf names page tree → HasOnlyWhatIsThere tree
+
+-- A sound guess is the run over what it covers, and builds on the tree what the run builds:
+pub record BuildsOn (f : Guessed) (s : ControlState) (t : Tree) : Type 0 where
+  pub edits : List Edit
+  pub leads : Leads f.names (covered_text f) s edits (state_behind f s)
+  pub builds : applied_all t edits ≡ tree_behind f s t
+
+-- so it is over each state for which it is right, on a tree that has the elements below the next id.
+abbrev pub GuessBuilds : Type 0
+GuessBuilds = (f : Guessed) (s : ControlState) (t : Tree) → IsSound f → MayStand f.names s → Holds f.assumptions s → IsCounted s.next t → BuildsOn f s t
+
+-- What a fragment's edits name by ids is older, where no id but the document's and the first element's is named, and where that element is
+-- there, or none is made.
+abbrev pub FirstIsBelow : Type 0
+FirstIsBelow = (names : List Reference) (text : List ℕ) (s exit : ControlState) (es : List Edit) → IsValid s → Fits s → Leads names text s (map (named_edit s) es) exit
+    → name_first es ≡ true → (is_rooted s.stack ≡ true) ⊎ (exit.next ≡ s.next) → IsBelow s es

@@ -6,6 +6,8 @@ ghost use Rattle.hp_growing.specs.Laws.{
   AtOnceNamesThere,
   EndsHaveThere,
   EndsNameThere,
+  FirstIsBelow,
+  GuessBuilds,
   HandledNamesThere,
   LastNameThere,
   LeadsNameThere,
@@ -49,4 +51,11 @@ pub fn trees_are_counted()
     ensures ends { EndsHaveThere }
     ensures places { PlacesCount }
     ensures pages { TreesHaveThere }
+{}
+
+/// A sound guess builds on the tree of a state what the run over what it covers builds there; and a fragment's edits name only what is
+/// below it where, of ids, they name no others than the document's and that of the page's first element, which is there or no element is made.
+pub fn guesses_grow()
+    ensures builds { GuessBuilds }
+    ensures below { FirstIsBelow }
 {}

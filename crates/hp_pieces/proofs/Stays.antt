@@ -1,5 +1,5 @@
--- States that wait, and that a sound guess is a run.
-use Rattle.std.proofs.Common.{◌≡◌, ℕ, zero, suc, ◌<◌, Bool, true, false, List, [], cond, map, take, refl, ap, ◌∙◌, sym, subst, arith, append-nil}
+-- States that wait, and that a sound guess is a run, of whose edits the inner ones may be made first.
+use Rattle.std.proofs.Common.{◌≡◌, ℕ, zero, suc, ◌<◌, Bool, true, false, List, [], cond, map, take, refl, ap, ◌∙◌, sym, subst, arith, length, append-nil}
 use Rattle.std.specs.Prelude.{◌==◌}
 use Rattle.std.specs.Str.{chars}
 use Rattle.std.proofs.lemmas.Bool.{both_ways, eq-eqb, eqb-true}
@@ -9,16 +9,22 @@ use Rattle.hp_names.specs.References.{Reference}
 use Rattle.hp_tokens.specs.Moves.{Move, move, needs_more}
 use Rattle.hp_control.specs.declared.edit.Edit.{Edit}
 use Rattle.hp_control.specs.Apply.{applied, named_edit}
-use Rattle.hp_control.specs.Holds.{Holds}
 use Rattle.hp_control.specs.States.{ControlState, IsValid}
+use Rattle.hp_control.specs.Tree.{Tree, applied_all}
+use Rattle.hp_groves.specs.Grafts.{graft}
 use Rattle.hp_groves.specs.Joining.{Same}
+use Rattle.hp_groves.specs.Laws.{HasOnlyWhatIsThere}
+use Rattle.hp_groves.specs.Naming.{own_outer}
+use Rattle.hp_groves.specs.Split.{name_what_is_there}
+use Rattle.hp_groves.proofs.Fragments.{own-makes_same}
 use Rattle.hp_lexer.specs.Table.{table}
 use Rattle.hp_model.specs.Runs.{Goes, Parser, Rests, at_lexing, followed_by, goes, here, rests, step, step_by}
 use Rattle.hp_runs.specs.Alike.{SameMove}
 use Rattle.hp_runs.proofs.Shifting.{move-same}
-use Rattle.hp_pieces.specs.Guesses.{Guessed, IsSound, covered_text, edits_over, state_behind}
+use Rattle.hp_pieces.specs.Guesses.{Grows, Guessed, covered_text}
+use Rattle.hp_pieces.specs.Laws.{GuessGrows}
 use Rattle.hp_pieces.specs.Running.{Leads, parser_in}
-use Rattle.hp_pieces.specs.Waiting.{MayStand, Waits}
+use Rattle.hp_pieces.specs.Waiting.{Waits}
 use Rattle.hp_pieces.proofs.FitRuns.{rests_for_more}
 use Rattle.hp_pieces.proofs.Joining.{begins-same}
 use Rattle.hp_pieces.proofs.SameRuns.{AlikeParsers, turned}
@@ -50,15 +56,39 @@ waiting_stays names s w = record {
   same = Same [];
 }
 
-pub guess_leads : (f : Guessed) (s : ControlState) → IsSound f → MayStand f.names s → Holds f.assumptions s → Leads f.names (covered_text f) s (edits_over f s) (state_behind f s)
-guess_leads f s sound stand holds = by (f.covered == 0) refl
-  where
-    positive : (n : ℕ) → (n == 0) ≡ false → 0 < n
-    positive zero e = absurd (both_ways (0 == 0) e (eq-eqb 0 0 refl))
-    positive (suc n) e = omega arith
+-- a guess over a state, where it is told whether it covers nothing
+record GrowsWhere (f : Guessed) (s : ControlState) (nothing : Bool) : Type 0 where
+  edits : List Edit
+  leads : Leads f.names (covered_text f) s edits (cond nothing s (applied f.change s))
+  makes : (t : Tree) → HasOnlyWhatIsThere t → length t ≡ s.next → name_what_is_there s.next edits ≡ true
+      → applied_all t edits ≡ cond nothing t (applied_all (graft t f.grove) (map (named_edit s) f.outer))
 
-    by : (b : Bool) → (f.covered == 0) ≡ b → Leads f.names (covered_text f) s (cond b [] (map (named_edit s) f.edits)) (cond b s (applied f.change s))
-    by true e =
-        let none : chars (take f.covered f.text) ≡ [] = ap (λ (n : ℕ). chars (take n f.text)) (eqb-true f.covered 0 e) ∙ chars-nil in
-        subst (λ (text : List ℕ). Leads f.names text s [] s) (sym none) (waiting_stays f.names s stand.waits)
-    by false e = sound.sound s stand.valid stand.fits holds (positive f.covered e)
+positive : (n : ℕ) → (n == 0) ≡ false → 0 < n
+positive zero e = absurd (both_ways (0 == 0) e (eq-eqb 0 0 refl))
+positive (suc n) e = omega arith
+
+covers-nothing : (f : Guessed) (s : ControlState) → f.covered ≡ 0 → Waits f.names s → GrowsWhere f s true
+covers-nothing f s e waits =
+    let none : chars (take f.covered f.text) ≡ [] = ap (λ (n : ℕ). chars (take n f.text)) e ∙ chars-nil in
+    record {
+      edits = [];
+      leads = subst (λ (text : List ℕ). Leads f.names text s [] s) (sym none) (waiting_stays f.names s waits);
+      makes = λ t there long names. refl;
+    }
+
+covers-some : (f : Guessed) (s : ControlState) → Grows f.names (covered_text f) s f.grove f.outer (applied f.change s) → GrowsWhere f s false
+covers-some f s g = record {
+  edits = map (named_edit s) g.edits;
+  leads = g.leads;
+  makes = λ t there long names.
+      own-makes_same t s g.edits there long names g.below
+      ∙ ap (λ (grove : Tree). applied_all (graft t grove) (map (named_edit s) (own_outer g.edits))) (sym g.inner)
+      ∙ ap (λ (outer : List Edit). applied_all (graft t f.grove) (map (named_edit s) outer)) (sym g.others);
+}
+
+pub guess_grows : GuessGrows
+guess_grows f s sound stand holds = let g : GrowsWhere f s (f.covered == 0) = by (f.covered == 0) refl in record { edits = g.edits; leads = g.leads; makes = g.makes }
+  where
+    by : (b : Bool) → (f.covered == 0) ≡ b → GrowsWhere f s b
+    by true e = covers-nothing f s (eqb-true f.covered 0 e) stand.waits
+    by false e = covers-some f s (sound.sound s stand.valid stand.fits holds (positive f.covered e))

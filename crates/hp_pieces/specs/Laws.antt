@@ -1,5 +1,5 @@
 -- The laws of runs from known states and of ends of input.
-use Rattle.std.specs.Prelude.{◌≡◌, ℕ, List, [], ◌++◌, true}
+use Rattle.std.specs.Prelude.{◌≡◌, ℕ, List, [], ◌++◌, length, true}
 use Rattle.std.specs.Option.{is_some}
 use Rattle.hp_elements.specs.declared.token.Token.{Token}
 use Rattle.hp_names.specs.BuiltIn.{built_in}
@@ -9,7 +9,9 @@ use Rattle.hp_tokens.specs.Moves.{Lexing, asks_last_tag, move, needs_more}
 use Rattle.hp_control.specs.declared.edit.Edit.{Edit}
 use Rattle.hp_control.specs.States.{ControlState, IsValid, may_be_ahead, start}
 use Rattle.hp_control.specs.Truth.{rest_of}
-use Rattle.hp_control.specs.Tree.{applied_all, document}
+use Rattle.hp_control.specs.Tree.{Tree, applied_all, document}
+use Rattle.hp_groves.specs.Laws.{HasOnlyWhatIsThere}
+use Rattle.hp_groves.specs.Split.{name_what_is_there}
 use Rattle.hp_groves.specs.Joining.{JoinTexts}
 use Rattle.hp_lexer.specs.Table.{table}
 use Rattle.hp_model.specs.Handling.{handle}
@@ -18,7 +20,7 @@ use Rattle.hp_runs.specs.Pages.{IsTreeOf, Runs}
 use Rattle.hp_runs.specs.Tokens.{AllRead}
 use Rattle.hp_runs.specs.Handling.{made_after}
 use Rattle.hp_control.specs.Holds.{Holds}
-use Rattle.hp_pieces.specs.Guesses.{Guessed, IsSound, covered_text, edits_over, state_behind}
+use Rattle.hp_pieces.specs.Guesses.{Guessed, IsSound, covered_text, state_behind, tree_behind}
 use Rattle.hp_pieces.specs.Running.{Ends, Leads, parser_in}
 use Rattle.hp_pieces.specs.Waiting.{MayStand, Waits}
 
@@ -76,6 +78,12 @@ RestingWaits = (names : List Reference) (s : ControlState) → IsValid s → is_
 abbrev pub WaitingStays : Type 0
 WaitingStays = (names : List Reference) (s : ControlState) → Waits names s → Leads names [] s [] s
 
--- A sound guess is the run over what it covers, and where it covers nothing it is that over nothing.
-abbrev pub GuessLeads : Type 0
-GuessLeads = (f : Guessed) (s : ControlState) → IsSound f → MayStand f.names s → Holds f.assumptions s → Leads f.names (covered_text f) s (edits_over f s) (state_behind f s)
+-- A sound guess is the run over what it covers, and where it covers nothing it is that over nothing; on the tree of the state its edits
+-- come to what the inner ones make, put behind the tree, and then the outer ones.
+pub record GrowsOn (f : Guessed) (s : ControlState) : Type 0 where
+  pub edits : List Edit
+  pub leads : Leads f.names (covered_text f) s edits (state_behind f s)
+  pub makes : (t : Tree) → HasOnlyWhatIsThere t → length t ≡ s.next → name_what_is_there s.next edits ≡ true → applied_all t edits ≡ tree_behind f s t
+
+abbrev pub GuessGrows : Type 0
+GuessGrows = (f : Guessed) (s : ControlState) → IsSound f → MayStand f.names s → Holds f.assumptions s → GrowsOn f s

@@ -2,6 +2,7 @@ pub mod Running
 pub mod Waiting
 pub mod Fragments
 pub mod Guesses
+pub mod Parts
 pub mod Texts
 pub mod First
 pub mod Reaching

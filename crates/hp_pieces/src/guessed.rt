@@ -2,6 +2,8 @@
 ghost use Rattle.std.specs.Prelude.{◌≡◌, ◌≤◌, IfSome, None, Some, length};
 
 use crate::by::By;
+use crate::guessed_parts::GuessedParts;
+use hp_arena::Grove;
 use hp_control::{Assumptions, Change, Edits};
 use std::marker::Model;
 
@@ -13,7 +15,8 @@ pub struct Guessed<'p> {
     covered: u64,
     assumptions: Assumptions,
     change: Change,
-    edits: Edits<'p>,
+    grove: Grove<'p>,
+    outer: Edits<'p>,
     by: Option<By<'p>>,
 }
 
@@ -24,7 +27,8 @@ impl<'p> Drop for Guessed<'p> {
             covered: _,
             assumptions: _,
             change: _,
-            edits: _,
+            grove: _,
+            outer: _,
             by: _,
         } = self;
     }
@@ -38,35 +42,38 @@ impl<'p> Model for Guessed<'p> {
 
     ghost Value = { Guessed };
 
-    ghost view = { λ f. record { names = built_in; text = f.text.now; covered = f.covered; assumptions = f.assumptions; change = f.change; edits = f.edits; by = f.by } };
+    ghost view = { λ f. record { names = built_in; text = f.text.now; covered = f.covered; assumptions = f.assumptions; change = f.change; grove = f.grove; outer = f.outer; by = f.by } };
 
-    ghost invariant = { λ f. IsSound (record { names = built_in; text = f.text.now; covered = f.covered; assumptions = f.assumptions; change = f.change; edits = f.edits; by = f.by })
-        × IfSome f.by (IsBy (record { names = built_in; text = f.text.now; covered = f.covered; assumptions = f.assumptions; change = f.change; edits = f.edits; by = f.by })) };
+    ghost invariant = { λ f. IsSound (record { names = built_in; text = f.text.now; covered = f.covered; assumptions = f.assumptions; change = f.change; grove = f.grove; outer = f.outer; by = f.by })
+        × IfSome f.by (IsBy (record { names = built_in; text = f.text.now; covered = f.covered; assumptions = f.assumptions; change = f.change; grove = f.grove; outer = f.outer; by = f.by })) };
 }
 
 impl<'p> Guessed<'p> {
     ghost use Rattle.hp_names.specs.BuiltIn.{built_in};
     ghost use Rattle.hp_pieces.specs.By.{IsBy};
     ghost use Rattle.hp_pieces.specs.Guesses.{IsSound};
+    ghost use Rattle.hp_pieces.specs.Parts.{guess_of};
 
-    /// What was guessed of this text: so much of it is covered, where these answers are true, by this change and these edits. Who
-    /// guessed isn't told.
+    /// What was guessed of this text: so much of it is covered, where these answers are true, by this change, what the inner edits
+    /// make, and the outer edits. Who guessed isn't told.
     pub fn of_guess(
         text: &'p [u8],
         covered: u64,
         assumptions: Assumptions,
         change: Change,
-        edits: Edits<'p>,
+        grove: Grove<'p>,
+        outer: Edits<'p>,
     ) -> Guessed<'p>
-        requires sound { IsSound (record { names = built_in; text = text.now; covered = covered; assumptions = assumptions; change = change; edits = edits; by = None }) }
-        ensures { result ≡ record { names = built_in; text = text.now; covered = covered; assumptions = assumptions; change = change; edits = edits.entry; by = None } }
+        requires sound { IsSound (record { names = built_in; text = text.now; covered = covered; assumptions = assumptions; change = change; grove = grove; outer = outer; by = None }) }
+        ensures { result ≡ record { names = built_in; text = text.now; covered = covered; assumptions = assumptions; change = change; grove = grove.entry; outer = outer.entry; by = None } }
     {
         Guessed {
             text,
             covered,
             assumptions,
             change,
-            edits,
+            grove,
+            outer,
             by: None,
         }
     }
@@ -81,7 +88,8 @@ impl<'p> Guessed<'p> {
             covered,
             assumptions,
             change,
-            edits,
+            grove,
+            outer,
             by: _,
         } = self;
         Guessed {
@@ -89,7 +97,8 @@ impl<'p> Guessed<'p> {
             covered,
             assumptions,
             change,
-            edits,
+            grove,
+            outer,
             by: Some(by),
         }
     }
@@ -125,11 +134,11 @@ impl<'p> Guessed<'p> {
         &self.change
     }
 
-    /// The edits.
-    pub fn edits(&self) -> &Edits<'p>
-        ensures { result.now ≡ self.now.edits }
+    /// The outer edits.
+    pub fn outer(&self) -> &Edits<'p>
+        ensures { result.now ≡ self.now.outer }
     {
-        &self.edits
+        &self.outer
     }
 
     /// Who guessed, where that is known.
@@ -140,21 +149,56 @@ impl<'p> Guessed<'p> {
         self.by
     }
 
-    /// The change and the edits.
-    pub fn into_parts(self) -> (Change, Edits<'p>)
-        ensures change { result.0 ≡ self.entry.change }
-        ensures edits { result.1 ≡ self.entry.edits }
+    /// The parts.
+    pub fn into_parts(self) -> GuessedParts<'p>
+        ensures parts { guess_of result ≡ self.entry }
         ensures sound { IsSound self.entry }
+        ensures said { IfSome self.entry.by (IsBy self.entry) }
     {
         let Guessed {
-            text: _,
-            covered: _,
-            assumptions: _,
+            text,
+            covered,
+            assumptions,
             change,
-            edits,
-            by: _,
+            grove,
+            outer,
+            by,
         } = self;
-        (change, edits)
+        GuessedParts {
+            text,
+            covered,
+            assumptions,
+            change,
+            grove,
+            outer,
+            by,
+        }
+    }
+
+    /// The fragment of these parts.
+    pub(crate) fn of_parts(parts: GuessedParts<'p>) -> Guessed<'p>
+        requires sound { IsSound (guess_of parts) }
+        requires said { IfSome parts.by (IsBy (guess_of parts)) }
+        ensures { result ≡ guess_of parts.entry }
+    {
+        let GuessedParts {
+            text,
+            covered,
+            assumptions,
+            change,
+            grove,
+            outer,
+            by,
+        } = parts;
+        Guessed {
+            text,
+            covered,
+            assumptions,
+            change,
+            grove,
+            outer,
+            by,
+        }
     }
 
     /// The answers that were assumed; what was made is given up.
@@ -166,7 +210,8 @@ impl<'p> Guessed<'p> {
             covered: _,
             assumptions,
             change: _,
-            edits: _,
+            grove: _,
+            outer: _,
             by: _,
         } = self;
         assumptions

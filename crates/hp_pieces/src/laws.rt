@@ -2,7 +2,7 @@
 
 ghost use Rattle.hp_pieces.specs.At.{AtCovers, AtEnd, AtFits, AtGoesOn, AtOnce, AtStart, AtValid};
 ghost use Rattle.hp_pieces.specs.FirstLaws.{FirstBefore, FirstExists, FirstInBytes, FirstOnce, FirstParts, OwnLeads, OwnOrTouches, OwnOverNothing, TouchesInside, WholeIsOwn};
-ghost use Rattle.hp_pieces.specs.Laws.{EndsHandled, EndsRead, GuessLeads, LeadsExist, LeadsJoin, LeadsOnce, LeadsValid, NeverAsked, PageBuilt, RestingWaits, RestsForMore, RunsWait, StartWaits, WaitingStays};
+ghost use Rattle.hp_pieces.specs.Laws.{EndsHandled, EndsRead, GuessGrows, LeadsExist, LeadsJoin, LeadsOnce, LeadsValid, NeverAsked, PageBuilt, RestingWaits, RestsForMore, RunsWait, StartWaits, WaitingStays};
 
 /// From each state there is one run over each text, and it leads from a valid state to a valid one. The run over two texts in a row
 /// is that over the first and then that over the second, from where the first led. The run over a page and the end of input behind
@@ -25,13 +25,14 @@ pub fn ends_of_text()
 {}
 
 /// The state before a page waits for text, and so does each state that a run leads to from a valid one, and each valid one in a
-/// resting state. Over a state that waits the run over nothing stays where it is, and a sound guess is the run over what it covers.
+/// resting state. Over a state that waits the run over nothing stays where it is, and a sound guess is the run over what it covers,
+/// of whose edits the inner ones may be made first, by themselves.
 pub fn states_wait()
     ensures start { StartWaits }
     ensures runs { RunsWait }
     ensures resting { RestingWaits }
     ensures stays { WaitingStays }
-    ensures guess { GuessLeads }
+    ensures guess { GuessGrows }
 {}
 
 /// From each older state there is one place up to which a fragment of a text can reach. Of the text before the first group that

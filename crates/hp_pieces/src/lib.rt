@@ -6,6 +6,7 @@ mod ending;
 mod exact;
 mod fragment;
 mod guessed;
+mod guessed_parts;
 mod laws;
 mod tokens;
 
@@ -14,5 +15,6 @@ pub use ending::Ending;
 pub use exact::Exact;
 pub use fragment::Fragment;
 pub use guessed::Guessed;
+pub use guessed_parts::GuessedParts;
 pub use laws::{ends_of_text, firsts, pages_at, runs_between, states_wait};
 pub use tokens::of_page;

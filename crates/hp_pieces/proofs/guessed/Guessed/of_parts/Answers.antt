@@ -1,0 +1,8 @@
+use Rattle.std.proofs.Common.{refl}
+use Rattle.hp_pieces.proofs.guessed.Guessed.of_parts.Goals as goal
+
+pub invariant_of-result : goal.invariant_of-result
+invariant_of-result c = (c.requires.sound, c.requires.said)
+
+pub returns : goal.returns
+returns c = refl
