@@ -13,7 +13,7 @@ use Rattle.hp_control.specs.States.{AreIds, ControlState, Fits, IsId, IsValid, e
 use Rattle.hp_control.specs.Walks.{cleared_by}
 use Rattle.hp_names.specs.BuiltIn.{built_in}
 use Rattle.hp_names.specs.References.{Reference}
-use Rattle.hp_pieces.specs.Guesses.{Guessed, IsSound, covered_text}
+use Rattle.hp_pieces.specs.Guesses.{Grows, Guessed, IsSound, covered_text}
 use Rattle.hp_pieces.specs.Laws.{LeadsValid}
 use Rattle.hp_pieces.specs.Running.{Leads}
 use Rattle.hp_merge.specs.Parts.{AreCounted, IsFormCounted}
@@ -51,8 +51,9 @@ form_counted c s valid t = form_below c.form s (s.next + c.made) t valid.form
 -- a sound guess over a state that fits leads to a valid one
 pub valid_behind : LeadsValid → (g : Guessed) (s : ControlState) → IsSound g → g.names ≡ built_in → IsValid s → Fits s → Holds g.assumptions s → 0 < g.covered → IsValid (applied g.change s)
 valid_behind law g s sound names valid fits holds covers =
-    law (covered_text g) s (applied g.change s) (map (named_edit s) g.edits)
-    (subst (λ (ns : List Reference). Leads ns (covered_text g) s (map (named_edit s) g.edits) (applied g.change s)) names (sound.sound s valid fits holds covers)) valid
+    let grows : Grows g.names (covered_text g) s g.grove g.outer (applied g.change s) = sound.sound s valid fits holds covers in
+    law (covered_text g) s (applied g.change s) (map (named_edit s) grows.edits)
+    (subst (λ (ns : List Reference). Leads ns (covered_text g) s (map (named_edit s) grows.edits) (applied g.change s)) names grows.leads) valid
 
 -- that many ids can be counted, so told
 pub counted_so : (c d : Change) (s : ControlState) (next : ℕ) → c ≡ d → next ≡ s.next → IsValid (applied d s) → s.next + d.made < 2 ^ 64 → AreCounted next c

@@ -7,10 +7,12 @@ use Rattle.std.proofs.lemmas.Str.{IsCharBoundary-from_rest, IsCharBoundary-from_
 use Rattle.hp_names.specs.BuiltIn.{built_in}
 use Rattle.hp_names.specs.References.{Reference}
 use Rattle.hp_control.specs.States.{ControlState, start}
-use Rattle.hp_control.specs.Tree.{document}
-use Rattle.hp_pieces.specs.At.{AtCovers, AtStart, AtValid}
-use Rattle.hp_pieces.specs.Guesses.{edits_over, state_behind}
-use Rattle.hp_pieces.specs.Laws.{GuessLeads, RunsWait}
+use Rattle.hp_control.specs.declared.edit.Edit.{Edit}
+use Rattle.hp_control.specs.Tree.{Tree, applied_all, document}
+use Rattle.hp_growing.specs.Laws.{BuildsOn, GuessBuilds, PlacesCount}
+use Rattle.hp_pieces.specs.At.{AtCovers, AtStart, AtValid, IsAt}
+use Rattle.hp_pieces.specs.Guesses.{state_behind, tree_behind}
+use Rattle.hp_pieces.specs.Laws.{RunsWait}
 use Rattle.hp_pieces.specs.Running.{Leads}
 use Rattle.hp_pieces.specs.Waiting.{MayStand, Waits}
 use Rattle.hp_pieces.specs.declared.fragment.Fragment.TheVariants.{Exact, Guessed}
@@ -38,19 +40,29 @@ stands_behind text n m (Exact known) utf8 from low sound is =
 stands_behind text n m (Guessed g) utf8 from low sound is =
     (begins text g.text n m g.covered utf8 from is sound.0.within (IsUtf8-take g.text g.covered sound.0.utf8 sound.0.boundary), reaches text g.text n m g.covered is sound.0.within low)
 
-pub goes_on : AtCovers → AtStart → AtValid → RunsWait → GuessLeads → GoesOn
-goes_on covers begun valid waits guess text n m f (Exact known) at fits utf8 from low sound entry is =
+-- a tree that is that one, at the same place
+at_tree : (text : List ℕ) (n : ℕ) (s : ControlState) (made is : Tree) → made ≡ is → IsAt text n s made → IsAt text n s is
+at_tree text n s made is same at = subst (λ (t : Tree). IsAt text n s t) same at
+
+-- what leads over the covered text leads over that part of the page's
+leads_on : (names : List Reference) (text part : List ℕ) (n m k : ℕ) (s u : ControlState) (es : List Edit) → part ≡ slice_range text n m → names ≡ built_in
+    → Leads names (chars (take k part)) s es u → Leads built_in (chars (take k (slice_range text n m))) s es u
+leads_on names text part n m k s u es is named leads =
+    subst (λ (bytes : List ℕ). Leads built_in (chars (take k bytes)) s es u) is (subst (λ (ns : List Reference). Leads ns (chars (take k part)) s es u) named leads)
+
+pub goes_on : AtCovers → AtStart → AtValid → RunsWait → PlacesCount → GuessBuilds → GoesOn
+goes_on covers begun valid waits places builds text n m f (Exact known) at fits utf8 from low sound entry is =
     let all : take (length known.text) known.text ≡ known.text = take_all (length known.text) known.text (omega arith) in
     covers text n m (length known.text) f.control known.exit f.tree known.edits at utf8 from (reaches text known.text n m (length known.text) is (omega arith) low)
     (subst (λ (s : ControlState). Leads built_in (chars (take (length known.text) (slice_range text n m))) s known.edits known.exit) entry
     (subst (λ (bytes : List ℕ). Leads built_in (chars bytes) known.entry known.edits known.exit) (sym all ∙ ap (take (length known.text)) is) sound.leads))
-goes_on covers begun valid waits guess text n m f (Guessed g) at fits utf8 from low sound holds is =
+goes_on covers begun valid waits places builds text n m f (Guessed g) at fits utf8 from low sound holds is =
     let may : MayStand g.names f.control = record {
       valid = valid text n f.control f.tree at;
       fits = fits;
       waits = subst (λ (names : List Reference). Waits names f.control) (sym sound.1) (waits (chars (take n text)) start f.control at.edits at.leads (valid text 0 start document (begun text)));
     } in
-    covers text n m g.covered f.control (state_behind g f.control) f.tree (edits_over g f.control) at utf8 from (reaches text g.text n m g.covered is sound.0.within low)
-    (subst (λ (bytes : List ℕ). Leads built_in (chars (take g.covered bytes)) f.control (edits_over g f.control) (state_behind g f.control)) is
-    (subst (λ (names : List Reference). Leads names (chars (take g.covered g.text)) f.control (edits_over g f.control) (state_behind g f.control)) sound.1
-    (guess g f.control sound.0 may holds)))
+    let on : BuildsOn g f.control f.tree = builds g f.control f.tree sound.0 may holds (places text n f.control f.tree at) in
+    at_tree text (n + g.covered) (state_behind g f.control) (applied_all f.tree on.edits) (tree_behind g f.control f.tree) on.builds
+    (covers text n m g.covered f.control (state_behind g f.control) f.tree on.edits at utf8 from (reaches text g.text n m g.covered is sound.0.within low)
+    (leads_on g.names text g.text n m g.covered f.control (state_behind g f.control) on.edits is sound.1 on.leads))

@@ -1,19 +1,20 @@
 //! How a fragment is joined: what may want memory comes first, and where there is none all stays as it was.
-ghost use Rattle.std.specs.Prelude.{◌≡◌, ◌<◌, map, IfOk, IfErr, OnOk, OnErr};
+ghost use Rattle.std.specs.Prelude.{◌≡◌, ◌<◌, ◌≤◌, map, IfOk, IfErr, OnOk, OnErr};
 ghost use Rattle.hp_control.specs.Apply.{applied, named_edit};
 ghost use Rattle.hp_control.specs.Holds.{Holds};
 ghost use Rattle.hp_control.specs.States.{Fits};
 ghost use Rattle.hp_control.specs.Tree.{applied_all};
+ghost use Rattle.hp_groves.specs.Grafts.{graft};
 
 use crate::checking::is_sound_guess;
-use crate::laying::lay;
+use crate::laying::{lay, take_off};
 use crate::making::{make_fixed, make_over};
 use crate::parts::Parts;
 use crate::settling::settle;
-use hp_arena::Tree;
-use hp_control::Control;
+use hp_arena::{GraftRefusal, Tree};
+use hp_control::{Change, Control, Edits};
 use hp_elements::NoMemory;
-use hp_pieces::{Ending, Exact, Guessed};
+use hp_pieces::{Ending, Exact, Guessed, GuessedParts};
 use std::alloc::Global;
 
 /// Makes the edits of what is exact, and answers the state behind it. At an `Err`, which is want of memory, the tree is as before
@@ -52,8 +53,8 @@ pub(crate) fn end_tree<'p>(
     Ok(tree)
 }
 
-/// Makes the edits of a guess over this state, and answers the state behind it. At an `Err`, which is want of memory, the tree is as
-/// before, and the state and the guess come back.
+/// Joins a guess to this state and its tree, and answers the state behind it: what its inner edits made is put behind the tree, and then
+/// its outer edits are made. At an `Err`, which is want of memory, the tree is as before, and the state and the guess come back.
 pub(crate) fn joined_to<'p>(
     alloc: Global,
     control: Control,
@@ -64,7 +65,7 @@ pub(crate) fn joined_to<'p>(
     requires holds { Holds guess.assumptions control }
     requires covers { 0 < guess.covered }
     ensures control { IfOk result (λ behind. behind ≡ applied guess.entry.change control) }
-    ensures tree { OnOk result (tree.new.branches ≡ applied_all tree.old.branches (map (named_edit control) guess.entry.edits)) }
+    ensures tree { OnOk result (tree.new.branches ≡ applied_all (graft tree.old.branches guess.entry.grove) (map (named_edit control) guess.entry.outer)) }
     ensures kept { OnErr result (tree.new.branches ≡ tree.old.branches) }
     ensures back { IfErr result (λ back. (back.0 ≡ control) × (back.1 ≡ guess.entry)) }
 {
@@ -74,21 +75,62 @@ pub(crate) fn joined_to<'p>(
     let Some(next) = control.next.checked_add(guess.change().made) else {
         return Err((control, guess));
     };
-    if tree.reserve(alloc, guess.edits()).is_err() {
+    if tree.reserve(alloc, guess.outer()).is_err() {
         return Err((control, guess));
     }
     let mut parts = Parts::of(control);
-    if lay(alloc, guess.change(), &mut parts).is_err() {
+    let Ok(pending) = lay(alloc, guess.change(), &mut parts) else {
         return Err((parts.together(), guess));
+    };
+    match graft(alloc, tree, guess) {
+        Ok((change, outer)) => {
+            let above = change.stack.len();
+            make_over(alloc, tree, outer, &parts.stack, above, parts.next);
+            Ok(settle(change, next, pending, parts).together())
+        }
+        Err(guess) => {
+            take_off(guess.change(), &mut parts);
+            Err((parts.together(), guess))
+        }
     }
-    let (change, edits) = guess.into_parts();
-    make_over(
-        alloc,
-        tree,
-        edits,
-        &parts.stack,
-        change.stack.len(),
-        parts.next,
-    );
-    Ok(settle(change, next, parts).together())
+}
+
+/// Puts what the inner edits of a guess made behind the tree, and answers the change and the outer edits. At an `Err`, which is want of
+/// memory, the tree is as before and the guess comes back.
+fn graft<'p>(
+    alloc: Global,
+    tree: &mut Tree<'p>,
+    guess: Guessed<'p>,
+) -> Result<(Change, Edits<'p>), Guessed<'p>>
+    ensures change { IfOk result (λ rest. rest.0 ≡ guess.entry.change) }
+    ensures outer { IfOk result (λ rest. rest.1 ≡ guess.entry.outer) }
+    ensures tree { OnOk result (tree.new.branches ≡ graft tree.old.branches guess.entry.grove) }
+    ensures room { OnOk result (tree.old.spare ≤ tree.new.spare) }
+    ensures kept { OnErr result (tree.new ≡ tree.old) }
+    ensures back { IfErr result (λ back. back ≡ guess.entry) }
+{
+    let GuessedParts {
+        text,
+        covered,
+        assumptions,
+        change,
+        grove,
+        outer,
+        by,
+    } = guess.into_parts();
+    match tree.graft(alloc, grove) {
+        Ok(()) => Ok((change, outer)),
+        Err(GraftRefusal { grove }) => {
+            let parts = GuessedParts {
+                text,
+                covered,
+                assumptions,
+                change,
+                grove,
+                outer,
+                by,
+            };
+            Err(parts.together())
+        }
+    }
 }

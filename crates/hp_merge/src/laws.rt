@@ -9,4 +9,6 @@ pub fn fronts_go_on()
 {
     hp_pieces::pages_at();
     hp_pieces::states_wait();
+    hp_growing::trees_are_counted();
+    hp_growing::guesses_grow();
 }

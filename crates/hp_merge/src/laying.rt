@@ -1,11 +1,11 @@
 //! What a chunk keeps of its own, copied with its ids counted on, and put on top of the older ones.
-ghost use Rattle.std.specs.Prelude.{◌≡◌, ◌+◌, ◌<◌, ◌^◌, ◌∷◌, ◌++◌, All, map, OnOk, OnErr};
+ghost use Rattle.std.specs.Prelude.{◌≡◌, ◌+◌, ◌<◌, ◌^◌, ◌∷◌, ◌++◌, All, map, IfOk, OnOk, OnErr};
 ghost use Rattle.hp_control.specs.Apply.{shifted, shifted_entry, IsShiftable};
-ghost use Rattle.hp_merge.specs.Parts.{laid, laid_list, laid_others, AreCounted};
+ghost use Rattle.hp_merge.specs.Parts.{laid, laid_others, taken_off, AreCounted, IsPending, StandOnTop};
 
 use crate::parts::Parts;
 use hp_control::{Change, FormattingEntry, OpenElement, OpenElements, Stack, put_listed, put_open};
-use hp_elements::{Mode, NoMemory};
+use hp_elements::{Mode, NoMemory, Text};
 use std::alloc::Global;
 
 /// Puts the template modes on top of the older ones. At an `Err`, which is want of memory, these are as before.
@@ -99,9 +99,42 @@ fn lay_entry(
     Ok(())
 }
 
-/// Puts all that a chunk keeps of its own on top of the older ones, which stay for now. At an `Err`, which is want of memory, the
-/// parts are as before.
-pub(crate) fn lay(alloc: Global, change: &Change, parts: &mut Parts) -> Result<(), NoMemory>
+/// Puts all that a chunk keeps of its own on top of the older ones, which stay for now, and answers its pending table characters behind
+/// the older ones. At an `Err`, which is want of memory, the parts are as before.
+pub(crate) fn lay(
+    alloc: Global,
+    change: &Change,
+    parts: &mut Parts,
+) -> Result<Option<Text<'static>>, NoMemory>
+    requires counted { AreCounted parts.old.next change.now }
+    ensures pending { IfOk result (IsPending change.now.pending parts.old.pending) }
+    ensures ok { OnOk result (parts.new ≡ laid change.now parts.old) }
+    ensures err { OnErr result (parts.new ≡ parts.old) }
+{
+    let pending = pending_over(alloc, &change.pending, &parts.pending)?;
+    lay_stacks(alloc, change, parts)?;
+    Ok(pending)
+}
+
+/// The older pending table characters and then the own ones, where there are any of these.
+fn pending_over(
+    alloc: Global,
+    own: &Text<'static>,
+    older: &Text<'static>,
+) -> Result<Option<Text<'static>>, NoMemory>
+    ensures { IfOk result (IsPending own.now older.now) }
+{
+    if own.is_empty() {
+        return Ok(None);
+    }
+    let mut pending = older.copy(alloc)?;
+    pending.push_str(alloc, own.as_str())?;
+    Ok(Some(pending))
+}
+
+/// Puts the template modes, elements and formatting entries on top of the older ones. At an `Err`, which is want of memory, the parts
+/// are as before.
+fn lay_stacks(alloc: Global, change: &Change, parts: &mut Parts) -> Result<(), NoMemory>
     requires counted { AreCounted parts.old.next change.now }
     ensures ok { OnOk result (parts.new ≡ laid change.now parts.old) }
     ensures err { OnErr result (parts.new ≡ parts.old) }
@@ -121,27 +154,19 @@ fn lay_others(alloc: Global, change: &Change, parts: &mut Parts) -> Result<(), N
     ensures err { OnErr result (parts.new ≡ parts.old) }
 {
     lay_elements(alloc, &change.stack, parts.next, &mut parts.stack)?;
-    if lay_list(alloc, change, parts).is_err() {
+    if lay_entries(alloc, &change.formatting, parts.next, &mut parts.formatting).is_err() {
         parts.stack.drop_top(change.stack.len());
         return Err(NoMemory);
     }
     Ok(())
 }
 
-/// The same of the formatting entries and the pending table characters.
-fn lay_list(alloc: Global, change: &Change, parts: &mut Parts) -> Result<(), NoMemory>
-    requires counted { AreCounted parts.old.next change.now }
-    ensures ok { OnOk result (parts.new ≡ laid_list change.now parts.old) }
-    ensures err { OnErr result (parts.new ≡ parts.old) }
+/// Takes what a chunk keeps of its own off again.
+pub(crate) fn take_off(change: &Change, parts: &mut Parts)
+    requires stand { StandOnTop change.now parts.old }
+    ensures { parts.new ≡ taken_off change.now parts.old }
 {
-    lay_entries(alloc, &change.formatting, parts.next, &mut parts.formatting)?;
-    if parts
-        .pending
-        .push_str(alloc, change.pending.as_str())
-        .is_err()
-    {
-        parts.formatting.drop_top(change.formatting.len());
-        return Err(NoMemory);
-    }
-    Ok(())
+    parts.templates.drop_top(change.templates.len());
+    parts.stack.drop_top(change.stack.len());
+    parts.formatting.drop_top(change.formatting.len());
 }

@@ -2,15 +2,22 @@
 ghost use Rattle.std.specs.Prelude.{◌≡◌, ◌+◌, ◌<◌, ◌≤◌, ◌^◌, ◌++◌, ◌&&◌, not, take, drop, length};
 ghost use Rattle.hp_control.specs.Apply.{lex_after};
 ghost use Rattle.hp_control.specs.Walks.{cleared, cleared_by};
-ghost use Rattle.hp_merge.specs.Parts.{settled, form_over, IsFormCounted};
+ghost use Rattle.hp_merge.specs.Parts.{settled, form_over, IsFormCounted, IsPending};
 
 use crate::parts::Parts;
 use hp_control::{Change, FormChange, FormattingEntry, OpenElements, Stack};
+use hp_elements::Text;
 use hp_tokens::{LexState, Machine};
 
-/// Takes off what the chunk took off, and sets what it set.
-pub(crate) fn settle(change: Change, next: u64, parts: Parts) -> Parts
+/// Takes off what the chunk took off, and sets what it set. The pending table characters are told, where the chunk has any of its own.
+pub(crate) fn settle(
+    change: Change,
+    next: u64,
+    pending: Option<Text<'static>>,
+    parts: Parts,
+) -> Parts
     requires next { next ≡ parts.next + change.made }
+    requires pending { IsPending change.pending parts.pending pending }
     requires form { IsFormCounted parts.next change.form }
     requires stack { length change.stack ≤ length parts.stack }
     requires list { length change.formatting ≤ length parts.formatting }
@@ -31,7 +38,7 @@ pub(crate) fn settle(change: Change, next: u64, parts: Parts) -> Parts
         form: form_after(change.form, parts.form, parts.next),
         frameset_ok: is_still_ok(parts.frameset_ok, change.frameset_off),
         quirks: parts.quirks,
-        pending: parts.pending,
+        pending: pending.unwrap_or(parts.pending),
         skip_lf: change.skip_lf,
         next,
     }
