@@ -38,6 +38,8 @@ use Rattle.hp_asked.specs.Laws.{ReadingsAlike, RightAtStart, RightBefore, RightS
 use Rattle.hp_asked.specs.Right.{IsRight, RightFrom, seeker_at}
 use Rattle.hp_asked.specs.Singly.{IsRightSingly}
 use Rattle.hp_older.specs.Laws.{ViewsBegin}
+use Rattle.hp_pieces.specs.By.{IsBy, chunk_of, says_by}
+use Rattle.hp_pieces.specs.declared.by.By.{By}
 use Rattle.hp_pieces.specs.First.{IsFirst, restless, touched, whole}
 use Rattle.hp_pieces.specs.FirstLaws.{FirstInBytes, FirstOnce, TouchesInside}
 use Rattle.hp_pieces.specs.Guesses.{Guessed}
@@ -48,7 +50,7 @@ use Rattle.hp_runs.specs.Touching.{RunsOwn, TouchesFrom}
 use Rattle.hp_views.specs.BeginLaws.{IsResting}
 use Rattle.hp_views.specs.Begins.{Begins, begins}
 use Rattle.hp_fragment.proofs.Guesses.{begins-over, heard-first, ok-same, pairs, some-same, way_over}
-use Rattle.hp_pieces.specs.Reaching.{ReachesIn}
+use Rattle.hp_pieces.specs.Reaching.{IsSaid, ReachesFirst, ReachesIn}
 use Rattle.hp_fragment.specs.Guessing.{CrossesAt, HasBegun, IsReached}
 use Rattle.hp_fragment.specs.Reading.{AreRight, Crosses, GoesToEnd, HasRead, HasReadAll, IfCrossed, Stage, control_at}
 use Rattle.hp_fragment.specs.declared.sink.Sink.TheVariants.{Keeps}
@@ -205,3 +207,17 @@ pub nothing-before : FirstOnce → FirstInBytes → ReadingsAlike → RightSingl
     → CrossesAt built_in says front again → (kept : List Kept) → Reaches kept 0 text says
 nothing-before once in_bytes alike singly before says text front at again utf8 crosses is_front long crosses_front kept = λ s may right.
     absurd (front-uncrossed once in_bytes alike singly before says text front at utf8 crosses is_front long s may right again crosses_front)
+
+-- What is made of a whole text is a guess by these answers,
+pub reached-first : (says : Question → Answer) (text : List ℕ) (f : Guessed) → IsReached says text text f → IsSaid says f × ReachesFirst says f
+reached-first says text f is = (is.0.said, subst (λ (front : List ℕ). ReachesIn front says f) (sym is.0.whole) is.1)
+
+-- so it is one by whoever says them of a chunk with that text,
+pub reached-by : (by : By) (f : Guessed) → IsReached (says_by by) (chunk_of by) (chunk_of by) f → IsBy f by
+reached-by by f is = record { text = is.0.whole; said = is.0.said; reaches = (reached-first (says_by by) (chunk_of by) f is).1 }
+
+-- and stays so once that is told.
+pub told-first : (says : Question → Answer) (f later : Guessed) (by : By) → later ≡ record f { by = Some by } → IsSaid says f × ReachesFirst says f → IsSaid says later × ReachesFirst says later
+told-first says f later by is h =
+    subst (λ (x : Guessed). IsSaid says x × ReachesFirst says x) (sym is)
+    (record { more = h.0.more; first = h.0.first; said = h.0.said }, h.1)

@@ -1,8 +1,8 @@
 -- What a parser behind a guess has made is true of each older state of which the answers are true.
-use Rattle.std.proofs.Common.{◌≡◌, ℕ, ◌^◌, ◌<◌, List, [], ◌∷◌, ◌++◌, map, length, Bool, true, false, refl, ap, ◌∙◌, sym, subst, lit≤, arith, ◌≤◌, Option, None, Some}
+use Rattle.std.proofs.Common.{◌≡◌, ◌⊎◌, inl, inr, ℕ, ◌^◌, ◌<◌, List, [], ◌∷◌, ◌++◌, map, length, Bool, true, false, refl, ap, ◌∙◌, sym, subst, lit≤, arith, ◌≤◌, Option, None, Some}
 use Rattle.std.specs.Prelude.{All, IsTrue, Result, Ok, take, if◌then◌else◌}
 use Rattle.std.specs.Option.{is_some, unwrap_or}
-use Rattle.std.specs.Str.{IsUtf8, chars}
+use Rattle.std.specs.Str.{IsCharBoundary, IsUtf8, chars}
 use Rattle.std.proofs.lemmas.List.Elements.{All-cons, All-nil}
 use Rattle.std.proofs.lemmas.List.{length-take}
 use Rattle.std.proofs.lemmas.Str.{IsCharBoundary-from_take, IsCharBoundary-start}
@@ -16,12 +16,12 @@ use Rattle.hp_tokens.specs.declared.lexing.LexState.{LexState}
 use Rattle.hp_tokens.specs.declared.machine.Machine.{Machine}
 use Rattle.hp_control.specs.Agree.{AllTrue}
 use Rattle.hp_control.specs.Apply.{applied, lex_after, named_edit}
-use Rattle.hp_control.specs.Faithful.{Page, Split, state_over, with_page}
+use Rattle.hp_control.specs.Faithful.{IsBase, IsOpen, Page, Split, StandsOn, state_over, with_page}
 use Rattle.hp_control.specs.Guessing.{AreSaid, Guessing, heard_by}
 use Rattle.hp_control.specs.Holds.{Holds}
 use Rattle.hp_control.specs.Laws.{KeptOnceWhereTrue}
 use Rattle.hp_control.specs.Plan.{Heard, added, added_each, is_asked, kept_pairs, noting}
-use Rattle.hp_control.specs.States.{ControlState, Fits, IsValid, lex_start}
+use Rattle.hp_control.specs.States.{ControlState, Fits, IsValid, is_rooted, lex_start}
 use Rattle.hp_control.specs.declared.change.Change.{Change}
 use Rattle.hp_control.specs.declared.edit.Edit.{Edit}
 use Rattle.hp_control.specs.declared.question.Answer.{Answer}
@@ -32,6 +32,9 @@ use Rattle.hp_control.specs.declared.question.Question.{Question}
 use Rattle.hp_control.specs.declared.question.Question.TheVariants as ask
 use Rattle.hp_lexer.specs.declared.lexer.Asked.TheVariants as asked
 use Rattle.hp_groves.specs.Joining.{JoinTexts}
+use Rattle.hp_groves.specs.Naming.{own_grove, own_outer}
+use Rattle.hp_growing.specs.Laws.{FirstIsBelow}
+use Rattle.hp_growth.specs.Marking.{name_first}
 use Rattle.hp_lexer.specs.declared.lexer.Lexer.{Lexer}
 use Rattle.hp_lexer.specs.Places.{text_at}
 use Rattle.hp_lexer.specs.Standing.{is_answered, stands}
@@ -39,8 +42,8 @@ use Rattle.hp_lexer.specs.Table.{table}
 use Rattle.hp_model.proofs.JoinedTexts.{join-equal}
 use Rattle.hp_model.specs.Runs.{Parser, followed_by, goes, rests, step_by}
 use Rattle.hp_older.specs.Laws.{IsBegun, ViewsBegin}
-use Rattle.hp_older.specs.Over.{IsOver}
-use Rattle.hp_pieces.specs.Guesses.{IsSound}
+use Rattle.hp_older.specs.Over.{IsOver, before_html, of_chunk, of_known}
+use Rattle.hp_pieces.specs.Guesses.{Grows as GrowsTo, Guessed, IsSound}
 use Rattle.hp_pieces.specs.Running.{Leads, parser_in}
 use Rattle.hp_runs.proofs.Own.{own-goes}
 use Rattle.hp_runs.specs.Coming.{HasCome, TextBegins}
@@ -49,7 +52,7 @@ use Rattle.hp_views.specs.Begins.{Begins, begins, ended}
 use Rattle.hp_fragment.proofs.Asking.{noted-then}
 use Rattle.hp_fragment.proofs.Ended.{some-is}
 use Rattle.hp_pieces.specs.Reaching.{IsSaid}
-use Rattle.hp_fragment.specs.Guessing.{HasBegun, IsGuessOf}
+use Rattle.hp_fragment.specs.Guessing.{HasBegun, IsGuessOf, made_by}
 use Rattle.hp_fragment.specs.Making.{Amounts}
 use Rattle.hp_fragment.specs.Reading.{GoesToEnd, HasRead, HasReadAll, IsReady, Stage, Way, control_at}
 use Rattle.hp_fragment.specs.declared.sink.Sink.{Sink}
@@ -202,6 +205,16 @@ module _ (law : TextBegins) (s : ControlState) (text : List ℕ) (valid : IsVali
       kept Keeps h = h
       kept (Grows tree) h = absurd h
 
+-- a view on no page stands over a state in which html is open,
+rooted-below : (s : ControlState) (v : Split) → StandsOn s v → v.page ≡ None → is_rooted s.stack ≡ true
+rooted-below s v stands unpaged = let open_there : IsOpen v.change s = subst (λ (page : Option Page). IsBase page v.change s) unpaged stands.base in open_there.rooted
+
+-- or it has made no element
+rooted-or-none : (s : ControlState) (v : Split) → IsOver s v → v.page ≡ None → (is_rooted s.stack ≡ true) ⊎ ((applied v.change s).next ≡ s.next)
+rooted-or-none s v (of_chunk k) unpaged = inl (rooted-below s v k.stands unpaged)
+rooted-or-none s v (before_html k) unpaged = let none : v.change.made ≡ 0 = ap (λ (c : Change). c.made) k.unchanged in inr (omega (arith, none))
+rooted-or-none s v (of_known k) unpaged = inl (rooted-below s v k.stands unpaged)
+
 pub some-same : (xs ys : List Kept) → Some xs ≡ Some ys → xs ≡ ys
 some-same xs ys e = cc
 
@@ -216,9 +229,8 @@ front-within : (text front : List ℕ) → front ≡ take (length front) text �
 front-within text front is = omega (arith, ap length is, length-take (length front) text)
 
 -- what is kept of these questions is what is said
-pairs-are-said : (says : Question → Answer) (text : List ℕ) (covered : ℕ) (qs : List Question) (kept : List Kept) (change : Change) (edits : List Edit) → kept ≡ added_each [] (kept_pairs says (ask.Entry ∷ qs))
-    → IsSaid says (record { names = built_in; text = text; covered = covered; assumptions = kept; change = change; edits = edits; by = None })
-pairs-are-said says text covered qs kept change edits is =
+pairs-are-said : (says : Question → Answer) (qs : List Question) (f : Guessed) → f.assumptions ≡ added_each [] (kept_pairs says (ask.Entry ∷ qs)) → IsSaid says f
+pairs-are-said says qs f is =
     let entry : Kept = record { question = ask.Entry; answer = says ask.Entry } in
     let first = first-stays entry [] (kept_pairs says qs) in record {
       more = first.0;
@@ -236,11 +248,11 @@ module _ {P : Type 0} (says : P → Question → Answer) (predictor : P) (guess 
   says-stay = ap (λ (h : Heard). h.says) heard-first
 
   -- where nothing is read
-  pub nothing-guessed : (text : List ℕ) (change : Change) (edits : List Edit) → IsGuessOf (says predictor) text (record { names = built_in; text = text; covered = 0; assumptions = below.kept; change = change; edits = edits; by = None })
-  nothing-guessed text change edits = record {
-    names = refl;
-    whole = refl;
-    said = pairs-are-said (says predictor) text 0 [] below.kept change edits (some-same below.kept (added_each [] (kept_pairs (says predictor) (ask.Entry ∷ []))) (ap (λ (h : Heard). h.kept) heard-first));
+  pub nothing-guessed : (text : List ℕ) (f : Guessed) → f.names ≡ built_in → f.text ≡ text → f.assumptions ≡ below.kept → IsGuessOf (says predictor) text f
+  nothing-guessed text f names whole kept = record {
+    names = names;
+    whole = whole;
+    said = pairs-are-said (says predictor) [] f (kept ∙ some-same below.kept (added_each [] (kept_pairs (says predictor) (ask.Entry ∷ []))) (ap (λ (h : Heard). h.kept) heard-first));
   }
 
 pub ok-same : (a b : Answer) → Path (Result Answer Crossing) (Ok a) (Ok b) → a ≡ b
@@ -263,12 +275,12 @@ begun-front {P} says predictor guess below v rest after_cr m original skip_lf l 
     first : heard_by says below ≡ first_asked (says predictor)
     first = heard-first says predictor guess below v (answer.Resting rest after_cr m original skip_lf) new b
 
-pub nothing-sound : (text : List ℕ) (kept : List Kept) (change : Change) (edits : List Edit) → IsUtf8 text → IsSound (record { names = built_in; text = text; covered = 0; assumptions = kept; change = change; edits = edits; by = None })
-nothing-sound text kept change edits utf8 = record {
+pub nothing-sound : (f : Guessed) → IsUtf8 f.text → f.covered ≡ 0 → IsSound f
+nothing-sound f utf8 none = record {
   utf8 = utf8;
-  within = omega arith;
-  boundary = IsCharBoundary-start text utf8;
-  sound = λ s valid fits holds some. absurd (none_positive some);
+  within = omega (arith, none);
+  boundary = subst (IsCharBoundary f.text) (sym none) (IsCharBoundary-start f.text utf8);
+  sound = λ s valid fits holds some. absurd (none_positive (subst (λ (n : ℕ). 0 < n) none some));
 }
 
 -- the lexer may be called
@@ -290,28 +302,39 @@ module _ (old new : Stage) (b : HasBegun old.lexer old.heard old.split) (g : Goe
       all : new.heard ≡ noting (none_heard old.heard.says) (ask.Entry ∷ g.asked)
       all = noted-then (none_heard old.heard.says) old.heard new.heard (ask.Entry ∷ []) g.asked first g.noted
 
-  pub covered-said : (text : List ℕ) (covered : ℕ) (change : Change) (edits : List Edit) → IsGuessOf old.heard.says text (record { names = built_in; text = text; covered = covered; assumptions = kept; change = change; edits = edits; by = None })
-  covered-said text covered change edits = record { names = refl; whole = refl; said = pairs-are-said old.heard.says text covered g.asked kept change edits pairs }
+  pub covered-said : (text : List ℕ) (f : Guessed) → f.names ≡ built_in → f.text ≡ text → f.assumptions ≡ kept → IsGuessOf old.heard.says text f
+  covered-said text f names whole same = record { names = names; whole = whole; said = pairs-are-said old.heard.says g.asked f (same ∙ pairs) }
 
-  leads-over : TextBegins → ViewsBegin → KeptOnceWhereTrue → (s : ControlState) (text : List ℕ) → IsValid s → Fits s → old.input ≡ text_at (2 ^ 32) text → old.sink ≡ Keeps → Holds kept s
-      → Leads built_in text s (map (named_edit s) new.split.edits) (applied (ended new.lexer.lex (is_some new.lexer.lex.machine.last_tag) new.split.change) s)
-  leads-over law views once s text valid fits input sink holds =
-      ends-over law s text valid new (g.reads (way_over s text) all.1 (begins-over law s text valid b.rest b.after_cr b.mode b.original b.skip_lf old begun b.lexer input b.split sink))
+  grows-over : TextBegins → ViewsBegin → KeptOnceWhereTrue → FirstIsBelow → (s : ControlState) (text : List ℕ) → IsValid s → Fits s → old.input ≡ text_at (2 ^ 32) text → old.sink ≡ Keeps → Holds kept s → name_first new.split.edits ≡ true
+      → GrowsTo built_in text s (own_grove new.split.edits) (own_outer new.split.edits) (applied (ended new.lexer.lex (is_some new.lexer.lex.machine.last_tag) new.split.change) s)
+  grows-over law views once below s text valid fits input sink holds first = record {
+    edits = new.split.edits;
+    leads = leads;
+    below = below built_in text s (applied (ended new.lexer.lex (is_some new.lexer.lex.machine.last_tag) new.split.change) s) new.split.edits valid fits leads first (rooted-or-none s new.split all.over (all.unpaged refl));
+    inner = refl;
+    others = refl;
+  }
     where
-      all : AllTrue s old.heard.says (ask.Entry ∷ g.asked)
-      all = ((once s old.heard.says [] (ask.Entry ∷ g.asked) tt).1 (subst (λ (ks : List Kept). Holds ks s) pairs holds)).1
+      true_there : AllTrue s old.heard.says (ask.Entry ∷ g.asked)
+      true_there = ((once s old.heard.says [] (ask.Entry ∷ g.asked) tt).1 (subst (λ (ks : List Kept). Holds ks s) pairs holds)).1
 
       begun : IsBegun s (begins (answer.Resting b.rest b.after_cr b.mode b.original b.skip_lf))
-      begun = views s (answer.Resting b.rest b.after_cr b.mode b.original b.skip_lf) valid fits (all.0 ∙ b.told) tt
+      begun = views s (answer.Resting b.rest b.after_cr b.mode b.original b.skip_lf) valid fits (true_there.0 ∙ b.told) tt
+
+      all : HasReadAll (way_over s text) new
+      all = g.reads (way_over s text) true_there.1 (begins-over law s text valid b.rest b.after_cr b.mode b.original b.skip_lf old begun b.lexer input b.split sink)
+
+      leads : Leads built_in text s (map (named_edit s) new.split.edits) (applied (ended new.lexer.lex (is_some new.lexer.lex.machine.last_tag) new.split.change) s)
+      leads = ends-over law s text valid new all
 
   -- so what is made is sound
-  pub covered-sound : TextBegins → ViewsBegin → KeptOnceWhereTrue → (text front : List ℕ) → IsUtf8 text → IsUtf8 front → front ≡ take (length front) text → old.input ≡ text_at (2 ^ 32) (chars front) → old.sink ≡ Keeps
-      → IsSound (record { names = built_in; text = text; covered = length front; assumptions = kept; change = ended new.lexer.lex (is_some new.lexer.lex.machine.last_tag) new.split.change; edits = new.split.edits; by = None })
-  covered-sound law views once text front utf8 own is_front input sink = record {
+  pub covered-sound : TextBegins → ViewsBegin → KeptOnceWhereTrue → FirstIsBelow → (text front : List ℕ) → IsUtf8 text → IsUtf8 front → front ≡ take (length front) text → old.input ≡ text_at (2 ^ 32) (chars front) → old.sink ≡ Keeps → name_first new.split.edits ≡ true
+      → IsSound (made_by text (length front) kept (ended new.lexer.lex (is_some new.lexer.lex.machine.last_tag) new.split.change) new.split.edits)
+  covered-sound law views once below text front utf8 own is_front input sink first = record {
     utf8 = utf8;
     within = front-within text front is_front;
     boundary = IsCharBoundary-from_take text (length front) utf8 (front-within text front is_front) (subst IsUtf8 is_front own);
     sound = λ s valid fits holds some.
-        subst (λ (bytes : List ℕ). Leads built_in (chars bytes) s (map (named_edit s) new.split.edits) (applied (ended new.lexer.lex (is_some new.lexer.lex.machine.last_tag) new.split.change) s)) is_front
-        (leads-over law views once s (chars front) valid fits input sink holds);
+        subst (λ (bytes : List ℕ). GrowsTo built_in (chars bytes) s (own_grove new.split.edits) (own_outer new.split.edits) (applied (ended new.lexer.lex (is_some new.lexer.lex.machine.last_tag) new.split.change) s)) is_front
+        (grows-over law views once below s (chars front) valid fits input sink holds first);
   }

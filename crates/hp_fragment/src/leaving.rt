@@ -3,7 +3,8 @@ ghost use Rattle.std.specs.Prelude.{◌≡◌};
 
 use crate::parsing::Parsing;
 use crate::sink::Sink;
-use hp_control::{Change, Control, Edits, Guess, Nothing, Predictor};
+use hp_control::{Assumptions, Change, Control, Edits, Guess, Nothing, Predictor};
+use hp_growth::Growing;
 use hp_lexer::Lexer;
 use hp_predict::Prescan;
 use hp_tokens::LexState;
@@ -31,6 +32,18 @@ pub(crate) fn leave_guess<P: Predictor + Drop>(parsing: Parsing<'_, Guess<P>>) {
 pub(crate) fn leave_control(control: Control) {
     let Control { lex, .. } = control;
     leave_lex(lex);
+}
+
+/// Gives back a change, and the answers that were kept with it.
+pub(crate) fn leave_change(change: Change, kept: Assumptions) {
+    let Change { lex, .. } = change;
+    leave_lex(lex);
+    let _ = kept;
+}
+
+/// Gives back what edits come to.
+pub(crate) fn leave_growing(growing: Growing<'_>) {
+    let _ = growing;
 }
 
 /// Gives back edits.

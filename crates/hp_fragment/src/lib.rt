@@ -5,6 +5,7 @@ mod at_end;
 mod at_text;
 mod blanks;
 mod by_kind;
+mod grown;
 mod known;
 mod laws;
 mod leaving;

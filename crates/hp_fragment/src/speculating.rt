@@ -1,17 +1,19 @@
 //! The run over a chunk behind a guessed state.
-ghost use Rattle.std.specs.Prelude.{◌≡◌, false, length, take, IfOk, slice_range};
+ghost use Rattle.std.specs.Prelude.{◌≡◌, true, false, length, take, IfOk, slice_range};
 ghost use Rattle.std.specs.Str.{IsCharBoundary};
 ghost use Rattle.hp_text.specs.Page.{text_of as page_text};
 ghost use Rattle.hp_elements.specs.declared.token.Rest.TheVariants.{Data};
 ghost use Rattle.hp_names.specs.BuiltIn.{built_in};
 ghost use Rattle.hp_tokens.specs.Advancing.{rest_state};
 ghost use Rattle.hp_control.specs.Guessing.{heard_by};
+ghost use Rattle.hp_growth.specs.Marking.{name_first};
 ghost use Rattle.hp_pieces.specs.Guesses.{IsSound};
 ghost use Rattle.hp_pieces.specs.Texts.{text_of};
 ghost use Rattle.hp_views.specs.View.{split_of};
 ghost use Rattle.hp_fragment.specs.Guessing.{made_of, CrossesAt, HasBegun, IsGuessBy, IsReached, IsTried};
 
 use crate::NoMemory;
+use crate::grown::grown_guess;
 use crate::leaving::{leave_guess, leave_sink};
 use crate::parsing::Parsing;
 use crate::reading::read_to_end;
@@ -89,7 +91,7 @@ fn guess_before<'p, P: Predictor + Copy + Drop>(
         Tried::Reached(guessed) => Ok(guessed),
         Tried::Crossed { .. } => {
             let (view, _) = View::guessed(alloc, Guess::new(predictor))?;
-            Ok(cover_nothing(text, view))
+            cover_nothing(alloc, text, view)
         }
     }
 }
@@ -124,7 +126,7 @@ fn try_front<'p, P: Predictor + Copy + Drop>(
             let lexer = Lexer::at_rest(rest, after_cr);
             read_front(alloc, text, front, lexer, view)
         }
-        _ => Ok(Tried::Reached(cover_nothing(text, view))),
+        _ => Ok(Tried::Reached(cover_nothing(alloc, text, view)?)),
     }
 }
 
@@ -143,6 +145,7 @@ fn read_front<'p, P: Predictor + Drop>(
     hp_asked::answers_are_right();
     hp_asked::readings_alike();
     hp_control::laws::answers_tell();
+    hp_growing::guesses_grow();
     hp_older::view_begins();
     hp_pieces::firsts();
     hp_runs::comes_on();
@@ -153,7 +156,10 @@ fn read_front<'p, P: Predictor + Drop>(
         sink: Sink::Keeps,
     };
     match read_to_end(alloc, &mut parsing) {
-        Ok(()) => Ok(Tried::Reached(cover(text, front.len() as u64, parsing))),
+        Ok(()) => {
+            let guessed = cover(alloc, text, front.len() as u64, parsing)?;
+            Ok(Tried::Reached(guessed))
+        }
         Err(Refusal::Crossed(_)) => {
             let at = parsing.lexer.rested.saturating_sub(ORIGIN);
             leave_guess(parsing);
@@ -168,12 +174,13 @@ fn read_front<'p, P: Predictor + Drop>(
 
 /// What a parser that read the front of a text has made of the guess.
 fn cover<'p, P: Predictor + Drop>(
+    alloc: Global,
     text: &'p str,
     covered: u64,
     parsing: Parsing<'p, Guess<P>>,
-) -> Guessed<'p>
-    requires sound { IsSound (made_of text.now covered parsing.lexer.lex parsing.view) }
-    ensures { result ≡ made_of text.now covered parsing.entry.lexer.lex parsing.entry.view }
+) -> Result<Guessed<'p>, NoMemory>
+    requires sound { name_first parsing.view.edits ≡ true → IsSound (made_of text.now covered parsing.lexer.lex parsing.view) }
+    ensures { IfOk result (λ guessed. guessed ≡ made_of text.now covered parsing.entry.lexer.lex parsing.entry.view) }
 {
     let Parsing {
         lexer,
@@ -185,14 +192,18 @@ fn cover<'p, P: Predictor + Drop>(
     let Lexer { lex, .. } = lexer;
     let is_set = lex.machine.last_tag.is_some();
     let (change, kept, edits) = view.into_change(lex, is_set);
-    Guessed::of_guess(text.as_bytes(), covered, kept, change, edits)
+    grown_guess(alloc, text, covered, kept, change, edits)
 }
 
 /// A guess of which nothing was read.
-fn cover_nothing<'p, P: Predictor + Drop>(text: &'p str, view: View<'p, Guess<P>>) -> Guessed<'p>
-    ensures { result ≡ made_of text.now 0 (rest_state Data false) view.entry }
+fn cover_nothing<'p, P: Predictor + Drop>(
+    alloc: Global,
+    text: &'p str,
+    view: View<'p, Guess<P>>,
+) -> Result<Guessed<'p>, NoMemory>
+    ensures { IfOk result (λ guessed. guessed ≡ made_of text.now 0 (rest_state Data false) view.entry) }
 {
     let lex = LexState::at_rest(Rest::Data, false);
     let (change, kept, edits) = view.into_change(lex, false);
-    Guessed::of_guess(text.as_bytes(), 0, kept, change, edits)
+    grown_guess(alloc, text, 0, kept, change, edits)
 }

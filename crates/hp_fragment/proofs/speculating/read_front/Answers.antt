@@ -6,13 +6,13 @@ use Rattle.hp_fragment.proofs.speculating.read_front.Goals as goal
 
 pub cover-requires : goal.cover-requires
 cover-requires g c = record {
-  sound = covered-sound _ _ c.requires.begun c.in-Ok.ensures.reads _ refl c.comes_on.ensures.text_begins c.view_begins.ensures.guessed c.answers_tell.ensures.once c.args.text.now c.args.front.now c.utf8.text c.utf8.front c.requires.front c.of_str.ensures refl;
+  sound = λ first. covered-sound _ _ c.requires.begun c.in-Ok.ensures.reads _ refl c.comes_on.ensures.text_begins c.view_begins.ensures.guessed c.answers_tell.ensures.once c.guesses_grow.ensures.below c.args.text.now c.args.front.now c.utf8.text c.utf8.front c.requires.front c.of_str.ensures refl first;
 }
 
-pub returns-in-Ok : goal.returns-in-Ok
-returns-in-Ok g c =
-    subst (IsReached (g.P.Predictor.says c.args.view.below.predictor) c.args.text.now c.args.front.now) (sym c.cover.ensures) (
-      covered-said _ _ c.requires.begun c.in-Ok.ensures.reads _ refl c.args.text.now _ _ _,
+pub returns-in_ok-guessed-in-Ok : goal.returns-in_ok-guessed-in-Ok
+returns-in_ok-guessed-in-Ok g c =
+    subst (IsReached (g.P.Predictor.says c.args.view.below.predictor) c.args.text.now c.args.front.now) (sym c.in_ok-guessed-in-Ok.ensures) (
+      covered-said _ _ c.requires.begun c.in-Ok.ensures.reads _ refl c.args.text.now _ refl refl refl,
       whole-reaches c.readings_alike.ensures.alike c.answers_are_right.ensures.start c.comes_on.ensures.text_begins c.view_begins.ensures.guessed c.answers_tell.ensures.once _ _ c.requires.begun c.in-Ok.ensures.reads c.args.front.now _ refl c.utf8.front c.of_str.ensures refl,
     )
 
