@@ -1,0 +1,72 @@
+//! What a guess carries of a list that stands within its chunk.
+use crate::chunks::{in_two, page_of};
+use hp_fragment::speculate_by;
+use hp_pieces::Fragment;
+use hp_predict::GuessKind;
+use std::alloc::Global;
+use std::mem;
+use std::process::Abort;
+
+/// How much a guess carries.
+#[derive(Clone, Copy)]
+struct Carried {
+    /// The elements that its inner edits make.
+    elements: u32,
+    outer: usize,
+    /// The own elements that stay open.
+    open: usize,
+    /// The own formatting entries that stay.
+    listed: usize,
+    assumed: usize,
+}
+
+/// What a guess carries.
+fn carried_by(rt: &impl Abort, fragment: Fragment<'_>) -> Carried {
+    match fragment {
+        Fragment::Guessed(guess) => {
+            let parts = guess.into_parts();
+            let carried = Carried {
+                elements: parts.grove.len(),
+                outer: parts.outer.len(),
+                open: parts.change.stack.len(),
+                listed: parts.change.formatting.len(),
+                assumed: parts.assumptions.as_slice().len(),
+            };
+            mem::forget(parts);
+            carried
+        }
+        Fragment::Exact(_) => panic!(rt; "the chunk is guessed"),
+    }
+}
+
+/// What the guess of a list of so many items behind `<div>` carries.
+fn carried_of_list(rt: &impl Abort, alloc: Global, items: usize) -> Carried {
+    let mut text = String::new(alloc);
+    text.push_str("<div><ul>").expect(rt, "there is memory");
+    for _item in 0..items {
+        text.push_str("<li>x").expect(rt, "there is memory");
+    }
+    text.push_str("</ul>").expect(rt, "there is memory");
+    let page = page_of(rt, text.as_str());
+    let cuts = in_two(rt, alloc, page, 5);
+    assert!(rt; cuts.chunks() == 2);
+    let guess = speculate_by(alloc, cuts.chunk(page, 1), GuessKind::Prescan);
+    let carried = carried_by(rt, guess.expect(rt, "there is memory"));
+    mem::forget(cuts);
+    mem::forget(text);
+    carried
+}
+
+#[test]
+fn a_list_is_one_outer_edit(rt: HostRuntime) {
+    let few = carried_of_list(&rt, rt.alloc(), 2);
+    let many = carried_of_list(&rt, rt.alloc(), 1000);
+    assert_eq!(&rt; few.elements, 3);
+    assert_eq!(&rt; many.elements, 1001);
+    for carried in [few, many] {
+        assert_eq!(&rt; carried.outer, 1);
+        assert_eq!(&rt; carried.open, 0);
+        assert_eq!(&rt; carried.listed, 0);
+        assert_eq!(&rt; carried.assumed, few.assumed);
+    }
+}
