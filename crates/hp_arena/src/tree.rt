@@ -18,9 +18,11 @@ use crate::readers::{At, NodeView, is_template};
 use crate::roots::Roots;
 use hp_control::{Child, Edit, Edits, Place, Ref};
 use hp_elements::{Chain, Known, Name, Namespace, Tag, Text};
+use hp_steps::Steps;
 use std::alloc::{AllocError, Global};
 use std::marker::Model;
 use std::mem;
+use std::sync::ledger::Ledger;
 
 /// How many edits the next batch has room for before it takes memory.
 const BATCH: usize = 256;
@@ -90,8 +92,19 @@ impl<'p> Tree<'p> {
         self.arena.spare()
     }
 
-    /// Makes one edit. It takes no memory.
-    pub fn apply(&mut self, edit: Edit<'p>)
+    /// Makes one edit, by one step. It takes no memory.
+    pub fn apply<L: Ledger>(&mut self, edit: Edit<'p>, steps: &mut Steps<L>)
+        requires { room_of edit ≤ self.old.spare }
+        ensures branches { self.new.branches ≡ applied self.old.branches edit.entry }
+        ensures spare { self.old.spare ≤ self.new.spare + room_of edit.entry }
+        ensures steps { steps.new ≡ steps.old + 1 }
+    {
+        steps.tick();
+        self.apply_one(edit)
+    }
+
+    /// The same by no count.
+    fn apply_one(&mut self, edit: Edit<'p>)
         requires { room_of edit ≤ self.old.spare }
         ensures branches { self.new.branches ≡ applied self.old.branches edit.entry }
         ensures spare { self.old.spare ≤ self.new.spare + room_of edit.entry }
@@ -189,7 +202,7 @@ impl<'p> Tree<'p> {
     {
         child.tell();
         let child = mem::replace(child, Child::Element(Ref::Fixed(0)));
-        self.apply(Edit::Put {
+        self.apply_one(Edit::Put {
             child,
             place: Place::Into(Ref::Fixed(parent)),
         });
@@ -232,7 +245,7 @@ impl<'p> Tree<'p> {
         let other = Edit::Detach {
             node: Ref::Fixed(0),
         };
-        self.apply(mem::replace(edit, other));
+        self.apply_one(mem::replace(edit, other));
     }
 }
 

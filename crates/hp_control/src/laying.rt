@@ -5,7 +5,9 @@ ghost use Rattle.hp_control.specs.Apply.{shifted, shifted_entry, IsShiftable};
 use crate::element::{FormattingEntry, OpenElement};
 use crate::stack::Stack;
 use hp_elements::NoMemory;
+use hp_steps::Steps;
 use std::alloc::{AllocFailed, Global};
+use std::sync::ledger::Ledger;
 
 impl OpenElement {
     /// The same element once more, its id counted from this one on.
@@ -38,16 +40,19 @@ impl FormattingEntry {
     }
 }
 
-/// Puts an entry on top of the list of formatting elements. At an `Err`, which comes only for want of memory, the list is as before
-/// and the entry comes back.
-pub fn put_listed(
+/// Puts an entry on top of the list of formatting elements, by one step. At an `Err`, which comes only for want of memory, the list is
+/// as before and the entry comes back.
+pub fn put_listed<L: Ledger>(
     alloc: Global,
     formatting: &mut Stack<FormattingEntry>,
     entry: FormattingEntry,
+    steps: &mut Steps<L>,
 ) -> Result<(), AllocFailed<FormattingEntry>>
     ensures ok { OnOk result (formatting.new ≡ entry ∷ formatting.old) }
     ensures err { OnErr result (formatting.new ≡ formatting.old) }
     ensures returned { IfErr result (λ failed. failed.value ≡ entry) }
+    ensures steps { steps.new ≡ steps.old + 1 }
 {
+    steps.tick();
     formatting.push(alloc, entry)
 }

@@ -9,8 +9,10 @@ use crate::element::OpenElement;
 use crate::kinds::is_within;
 use crate::stack::Stack;
 use hp_elements::{Kinds, Known, List, Name, Namespace, NoMemory, Point, SetName};
+use hp_steps::Steps;
 use std::alloc::{AllocFailed, Global};
 use std::marker::Model;
+use std::sync::ledger::Ledger;
 
 /// Where a walk down a stack ends: at a goal, at a stop, or below the last element.
 #[derive(Clone, Copy)]
@@ -305,9 +307,25 @@ impl OpenElements {
     }
 }
 
-/// Puts an element on top of the stack. At an `Err`, which comes only for want of memory, the stack is as before and the element
-/// comes back.
-pub fn put_open(
+/// Puts an element on top of the stack, by one step. At an `Err`, which comes only for want of memory, the stack is as before and the
+/// element comes back.
+pub fn put_open<L: Ledger>(
+    alloc: Global,
+    stack: &mut OpenElements,
+    element: OpenElement,
+    steps: &mut Steps<L>,
+) -> Result<(), AllocFailed<OpenElement>>
+    ensures ok { OnOk result (stack.new ≡ element ∷ stack.old) }
+    ensures err { OnErr result (stack.new ≡ stack.old) }
+    ensures returned { IfErr result (λ failed. failed.value ≡ element) }
+    ensures steps { steps.new ≡ steps.old + 1 }
+{
+    steps.tick();
+    put_on_top(alloc, stack, element)
+}
+
+/// The same by no count.
+fn put_on_top(
     alloc: Global,
     stack: &mut OpenElements,
     element: OpenElement,

@@ -1,5 +1,5 @@
 //! Whether an answer is the true one.
-ghost use Rattle.std.specs.Prelude.{◌≡◌, ◌↔◌, IsTrue, [], drop, slice_get};
+ghost use Rattle.std.specs.Prelude.{◌≡◌, ◌↔◌, ◌+◌, IsTrue, [], drop, slice_get};
 ghost use Rattle.std.specs.Str.{chars};
 ghost use Rattle.std.specs.Option.{unwrap_or};
 ghost use Rattle.hp_control.specs.Truth.{answer_of, yes_or_no, depth_answer, IfSomeIs, pointer_answer, element_answer, entry_answer, rest_of, kind_of, top_has_entry, listed_answer};
@@ -18,7 +18,9 @@ use crate::walks::{
     reach_from, run_from, scope_from,
 };
 use hp_elements::{Known, Mode, Name, Rest};
+use hp_steps::Steps;
 use hp_tokens::LexState;
+use std::sync::ledger::Ledger;
 
 /// Whether the answer says so.
 fn is_yes_or_no(yes: bool, answer: &Answer) -> bool
@@ -255,8 +257,22 @@ fn is_last_tag(lex: &LexState, answer: &Answer) -> bool
     }
 }
 
-/// Whether the answer is the true one, read in the full state. It takes no memory.
-pub fn truth(control: &Control, question: &Question, answer: &Answer) -> bool
+/// Whether the answer is the true one, read in the full state. It takes no memory, and one step.
+pub fn truth<L: Ledger>(
+    control: &Control,
+    question: &Question,
+    answer: &Answer,
+    steps: &mut Steps<L>,
+) -> bool
+    ensures told { IsTrue result ↔ (answer_of control.now question.now ≡ answer.now) }
+    ensures steps { steps.new ≡ steps.old + 1 }
+{
+    steps.tick();
+    is_true(control, question, answer)
+}
+
+/// The same by no count.
+fn is_true(control: &Control, question: &Question, answer: &Answer) -> bool
     ensures { IsTrue result ↔ (answer_of control.now question.now ≡ answer.now) }
 {
     let stack = &control.stack;

@@ -2,7 +2,7 @@ use Rattle.std.proofs.Common.{◌≡◌, ap, ◌∙◌}
 use Rattle.hp_control.specs.Standings.{elements_of, summary_from, summary_of}
 use Rattle.hp_control.proofs.SummaryLemmas.{summaries_first}
 use Rattle.hp_control.proofs.StandingLemmas.{told_pushed}
-use Rattle.hp_control.proofs.open_elements.put_open.Goals as goal
+use Rattle.hp_control.proofs.open_elements.put_on_top.Goals as goal
 
 pub invariant_of-stack : goal.invariant_of-stack
 invariant_of-stack c =
