@@ -1,20 +1,20 @@
 -- What edits come to, with one edit more.
-use Rattle.std.proofs.Common.{◌≡◌, ℕ, zero, suc, ◌+◌, ◌<◌, true, false, List, [], ◌∷◌, ◌++◌, get_or, set, length, drop, refl, sym, ap, ◌∙◌, subst, arith, append_assoc, add-one, length-append}
+use Rattle.std.proofs.Common.{◌≡◌, ℕ, zero, suc, ◌+◌, ◌<◌, true, false, List, [], ◌∷◌, ◌++◌, get_or, set, length, drop, map, refl, sym, ap, ◌∙◌, subst, arith, append_assoc, add-one, length-append}
 use Rattle.std.specs.Prelude.{◌||◌}
+use Rattle.std.specs.List.{list_all}
 use Rattle.std.proofs.Math.Seq.{drop-cons}
-use Rattle.std.proofs.lemmas.Bool.{cond-false, cond-true}
+use Rattle.std.proofs.lemmas.Bool.{and_from, cond-false, cond-true}
 use Rattle.std.proofs.lemmas.List.{append-nil, drop-set-lt}
 use Rattle.hp_control.specs.declared.edit.Edit.{Edit}
 use Rattle.hp_control.specs.declared.edit.Edit.TheVariants.{NewElement, Put, Detach, MoveChildren, AddMissing}
 use Rattle.hp_control.specs.Tree.{Tree, applied}
 use Rattle.hp_groves.specs.Laws.{CountsOn}
-use Rattle.hp_groves.specs.Naming.{own_outer}
+use Rattle.hp_groves.specs.Naming.{own_outer, refs}
 use Rattle.hp_groves.specs.Split.{Hand, after_inner, after_outer, is_among, is_outer, made, moved, parents_touched}
 use Rattle.hp_growth.specs.Growing.{Grown, Grows, IsGrown, IsRooted, hand_of, own_edit}
-use Rattle.hp_growth.specs.Marking.{mark, marks_made, names_made, untouched}
+use Rattle.hp_growth.specs.Marking.{is_first, mark, marks_made, name_first, untouched}
 use Rattle.hp_growth.specs.Reaching.{IsInnerPut, IsOuterPut, reaches}
 use Rattle.hp_growth.specs.declared.marks.Mark.{Mark}
-use Rattle.hp_growth.proofs.Firsts.{first-more}
 use Rattle.hp_growth.proofs.Outers.{inner-own, reaches-outer}
 use Rattle.hp_growth.proofs.Rooted.{rooted-applied}
 use Rattle.hp_growth.proofs.Snoc.{hand-grows, outer-grows}
@@ -41,7 +41,7 @@ length-made (Detach node) = refl
 length-made (MoveChildren from to) = refl
 length-made (AddMissing node more) = refl
 
-module _ (e : Edit) (old new : Grown) (count : ℕ) (r : IsRooted old.grove count) (names : names_made count e ≡ true) where
+module _ (e : Edit) (old new : Grown) (count : ℕ) (r : IsRooted old.grove count) where
   reaches-at_hand : (es : List Edit) → IsGrown es old → reaches old.grove old.marks (own_edit e) ≡ is_outer 1 (hand_of es) (own_edit e)
   reaches-at_hand es g =
       ap (λ t. reaches t old.marks (own_edit e)) g.grove
@@ -58,7 +58,6 @@ module _ (e : Edit) (old new : Grown) (count : ℕ) (r : IsRooted old.grove coun
         outer = p.outer ∙ g.outer ∙ sym none;
         children = λ k. ap (λ (h : Hand). h.children (suc k)) hand ∙ g.children k ∙ ap (λ (m : Mark). m.children) (sym (ap (λ ms. mark ms k) p.marks ∙ mark-made old.marks e k));
         parent = λ k. ap (λ (h : Hand). h.parent (suc k)) hand ∙ g.parent k ∙ ap (λ (m : Mark). m.parent) (sym (ap (λ ms. mark ms k) p.marks ∙ mark-made old.marks e k));
-        first = first-more count es e g.first names;
       }
 
   -- an outer edit
@@ -79,7 +78,6 @@ module _ (e : Edit) (old new : Grown) (count : ℕ) (r : IsRooted old.grove coun
             ap (λ (h : Hand). h.parent (suc k)) hand
             ∙ ap (λ b. b || is_among (moved (own_edit e)) (suc k)) (g.parent k)
             ∙ sym (p.marks.parent k);
-        first = first-more count es e g.first names;
       }
 
 -- behind an inner edit there are as many marks as own elements
@@ -100,16 +98,35 @@ leads-first start edits = record { leads = λ new g. g }
 grows-then : (old now new : Grown) (e : Edit) (rest : List Edit) → Grows old (e ∷ []) now → Grows now rest new → Grows old (e ∷ rest) new
 grows-then old now new e rest f g = λ es h. subst (λ xs. IsGrown xs new) (append_assoc es (e ∷ []) rest) (g (es ++ e ∷ []) (f es h))
 
--- the next one was put, and something is left in its place
-pub leads-on : (start : Grown) (edits items : List Edit) (i : ℕ) (d left : Edit) (old now : Grown) → Leads start edits (drop i items) old → i < length items → Grows old (get_or items i d ∷ []) now
-    → Leads start edits (drop (i + 1) (set items i left)) now
-leads-on start edits items i d left old now x h f =
-    let next : drop i items ≡ get_or items i d ∷ drop (i + 1) items = rw add-one (drop-cons items i d h) in
-    let rest : drop (i + 1) (set items i left) ≡ drop (i + 1) items = drop-set-lt (i + 1) items i left (omega arith) in
-    record {
-      leads = λ new g.
-          x.leads new (subst (λ xs. Grows old xs new) (sym next) (grows-then old now new (get_or items i d) (drop (i + 1) items) f (subst (λ xs. Grows now xs new) rest g)));
-    }
+leads-on : (start : Grown) (edits rest more : List Edit) (e : Edit) (old now : Grown) → Leads start edits rest old → rest ≡ e ∷ more → Grows old (e ∷ []) now → Leads start edits more now
+leads-on start edits rest more e old now x next f = record { leads = λ new g. x.leads new (subst (λ xs. Grows old xs new) (sym next) (grows-then old now new e more f g)) }
 
 pub leads-last : (start : Grown) (edits rest : List Edit) (now : Grown) → Leads start edits rest now → rest ≡ [] → Grows start edits now
 leads-last start edits rest now x none = x.leads now (λ es h. subst (λ xs. IsGrown xs now) (sym (ap (λ xs. es ++ xs) none ∙ append-nil es)) h)
+
+-- the next item is taken, and something is left in its place
+taken-next : (items : List Edit) (i : ℕ) (d left : Edit) → i < length items → drop i items ≡ get_or items i d ∷ drop (i + 1) (set items i left)
+taken-next items i d left h =
+    let next : drop i items ≡ get_or items i d ∷ drop (i + 1) items = rw add-one (drop-cons items i d h) in
+    let rest : drop (i + 1) (set items i left) ≡ drop (i + 1) items = drop-set-lt (i + 1) items i left (omega arith) in
+    next ∙ ap (λ xs. get_or items i d ∷ xs) (sym rest)
+
+-- so it is where each edit is told in another way
+pub leads-told : (tell : Edit → Edit) (start : Grown) (edits items : List Edit) (i : ℕ) (d left told : Edit) (old now : Grown) → Leads start edits (map tell (drop i items)) old → i < length items
+    → told ≡ tell (get_or items i d) → Grows old (told ∷ []) now → Leads start edits (map tell (drop (i + 1) (set items i left))) now
+leads-told tell start edits items i d left told old now x h t f =
+    leads-on start edits (map tell (drop i items)) (map tell (drop (i + 1) (set items i left))) (tell (get_or items i d)) old now x (ap (map tell) (taken-next items i d left h)) (subst (λ e. Grows old (e ∷ []) now) t f)
+
+-- of what is left it is known that only the document and the first element are told by ids where it is known of all
+pub record LeadsFirst (start : Grown) (edits rest : List Edit) (now : Grown) : Type 0 where
+  pub leads : Leads start edits rest now
+  pub first : name_first rest ≡ true → name_first edits ≡ true
+
+pub leads-named : (start : Grown) (edits items : List Edit) (i : ℕ) (d left : Edit) (old now : Grown) → LeadsFirst start edits (drop i items) old → i < length items
+    → list_all is_first (refs (get_or items i d)) ≡ true → Grows old (get_or items i d ∷ []) now → LeadsFirst start edits (drop (i + 1) (set items i left)) now
+leads-named start edits items i d left old now x h named f =
+    let next = taken-next items i d left h in
+    record {
+      leads = leads-on start edits (drop i items) (drop (i + 1) (set items i left)) (get_or items i d) old now x.leads next f;
+      first = λ rest. x.first (ap name_first next ∙ and_from (list_all is_first (refs (get_or items i d))) (name_first (drop (i + 1) (set items i left))) named rest);
+    }

@@ -3,6 +3,5 @@ pub mod Parents
 pub mod Outers
 pub mod Marked
 pub mod Rooted
-pub mod Firsts
 pub mod Grown
 pub mod Ways

@@ -1,10 +1,10 @@
 -- What a fragment's edits come to, one after the other.
-use Rattle.std.specs.Prelude.{◌≡◌, ℕ, suc, true, if◌then◌else◌, List, [], ◌∷◌, ◌++◌, length}
+use Rattle.std.specs.Prelude.{◌≡◌, ℕ, suc, if◌then◌else◌, List, [], ◌∷◌, ◌++◌, length}
 use Rattle.hp_control.specs.declared.edit.Edit.{Edit}
 use Rattle.hp_control.specs.Tree.{Tree, branch, no_branch}
 use Rattle.hp_groves.specs.Naming.{edit_by, own_at, own_outer}
 use Rattle.hp_groves.specs.Split.{Hand, after_inner, after_outer, empty_hand, is_outer}
-use Rattle.hp_growth.specs.Marking.{mark, name_first}
+use Rattle.hp_growth.specs.Marking.{mark}
 use Rattle.hp_growth.specs.declared.marks.Mark.{Mark}
 
 -- the edit with own elements told by ids, from 1 on, and all that is older by 0
@@ -37,7 +37,6 @@ pub record IsGrown (es : List Edit) (g : Grown) : Type 0 where
   pub outer : g.outer ≡ own_outer es
   pub children : (number : ℕ) → (hand_of es).children (suc number) ≡ (mark g.marks number).children
   pub parent : (number : ℕ) → (hand_of es).parent (suc number) ≡ (mark g.marks number).parent
-  pub first : name_first es ≡ true
 
 -- what a fragment's edits come to leads to what they come to with these more
 abbrev pub Grows : Grown → List Edit → Grown → Type 0

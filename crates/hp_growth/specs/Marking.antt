@@ -53,9 +53,9 @@ marks_made (Detach node) = []
 marks_made (MoveChildren from to) = []
 marks_made (AddMissing node more) = []
 
--- the element is older, or among so many own ones; of the older ones only the document and the page's first element are told by ids
+-- the element is older, or among so many own ones
 abbrev pub is_made : ℕ → Ref → Bool
-is_made count (Fixed id) = nat_le id 1
+is_made count (Fixed id) = true
 is_made count (Older depth) = true
 is_made count (Own number) = nat_lt number count
 
@@ -77,7 +77,7 @@ names_made count (Detach node) = is_made count node
 names_made count (MoveChildren from to) = is_made count from && is_made count to
 names_made count (AddMissing node more) = is_made count node
 
--- so it is told of each element that these edits name
+-- Of the older elements that these edits name only the document and the page's first element are told by ids.
 abbrev pub is_first : Ref → Bool
 is_first (Fixed id) = nat_le id 1
 is_first (Older depth) = true

@@ -1,15 +1,16 @@
 //! A fragment's edits as they come.
 
-ghost use Rattle.std.specs.Prelude.{◌≡◌, ◌≤◌, [], ◌∷◌, ◌++◌, length, true, false, List, IfOk, OnOk, OnErr};
+ghost use Rattle.std.specs.Prelude.{◌≡◌, ◌≤◌, [], ◌∷◌, ◌++◌, length, map, true, false, List, IfOk, OnOk, OnErr};
 ghost use Rattle.hp_control.specs.declared.edit.Edit.{Edit as EditOf};
 ghost use Rattle.hp_groves.specs.Naming.{own_grove, own_outer};
 ghost use Rattle.hp_growth.specs.Growing.{Grows, IsGrown, own_edit};
-ghost use Rattle.hp_growth.specs.Marking.{names_made};
+ghost use Rattle.hp_growth.specs.Marking.{name_first, names_made};
 ghost use Rattle.hp_growth.specs.Reaching.{IsInnerPut, IsOuterPut, reaches};
+ghost use Rattle.hp_growth.specs.Telling.{own_told};
 
 use crate::edits_split_one_by_one;
 use crate::marks::Marks;
-use crate::naming::tell;
+use crate::naming::{names_first, tell, tell_own};
 use crate::reaching::{Way, way_of};
 use crate::touched::touched_by;
 use crate::touching::touch;
@@ -62,8 +63,7 @@ impl<'p> Growing<'p> {
     }
 
     /// Takes one edit more. At an `Err` all is as before. It is want of memory, also where there would be too many own elements for a tree,
-    /// or where the edit names an own element that isn't made yet, or an id past that of the page's first element; no parser's edits do.
-    /// Nothing is promised of what is left of the edit.
+    /// or where the edit names an own element that isn't made yet. Nothing is promised of what is left of the edit.
     #[inline(always)]
     pub fn put(&mut self, alloc: Global, edit: &mut Edit<'p>) -> Result<(), AllocError>
         ensures ok { OnOk result (Grows self.old (edit.old ∷ []) self.new) }
@@ -76,22 +76,58 @@ impl<'p> Growing<'p> {
         }
     }
 
-    /// Takes all edits, in order, and leaves none. At an `Err`, which is want of memory as that of `put`, also at an edit that names what
-    /// that refuses, some may have been taken, and the others are dropped.
+    /// Takes all edits of a guess, in order, and leaves none. At an `Err`, which is want of memory as that of `put`, some may have been
+    /// taken, and the others are dropped; so it is at an edit that names by id another older element than the document and the page's
+    /// first one.
     pub fn put_all(&mut self, alloc: Global, edits: &mut Edits<'p>) -> Result<(), AllocError>
         ensures ok { OnOk result (Grows self.old edits.old self.new) }
+        ensures first { OnOk result (name_first edits.old ≡ true) }
         ensures left { OnOk result (edits.new ≡ []) }
     {
-        let mut batch = Vec::with_capacity(alloc, BATCH)?;
-        edits.take_into(&mut batch);
+        let mut batch = take(alloc, edits)?;
         self.put_each(alloc, &mut batch)
     }
 
-    /// Takes these edits, in order. Nothing is promised of what is left of them.
+    /// Takes all edits of a run over a known state, in order, and leaves none. They tell each element by its id, and own elements have the
+    /// ids from `next` on. At an `Err`, which is want of memory as that of `put`, some may have been taken, and the others are dropped.
+    pub fn put_all_told(
+        &mut self,
+        alloc: Global,
+        next: u64,
+        edits: &mut Edits<'p>,
+    ) -> Result<(), AllocError>
+        ensures ok { OnOk result (Grows self.old (map (own_told next) edits.old) self.new) }
+        ensures left { OnOk result (edits.new ≡ []) }
+    {
+        let mut batch = take(alloc, edits)?;
+        self.put_each_told(alloc, next, &mut batch)
+    }
+
+    /// Takes these edits of a guess, in order. Nothing is promised of what is left of them.
     fn put_each(&mut self, alloc: Global, edits: &mut [Edit<'p>]) -> Result<(), AllocError>
-        ensures { OnOk result (Grows self.old edits.old self.new) }
+        ensures ok { OnOk result (Grows self.old edits.old self.new) }
+        ensures first { OnOk result (name_first edits.old ≡ true) }
     {
         for edit in edits.iter_mut() {
+            if !names_first(edit) {
+                return Err(AllocError);
+            }
+            self.put(alloc, edit)?;
+        }
+        Ok(())
+    }
+
+    /// Takes these edits, in order, where own elements have the ids from `next` on. Nothing is promised of what is left of them.
+    fn put_each_told(
+        &mut self,
+        alloc: Global,
+        next: u64,
+        edits: &mut [Edit<'p>],
+    ) -> Result<(), AllocError>
+        ensures { OnOk result (Grows self.old (map (own_told next) edits.old) self.new) }
+    {
+        for edit in edits.iter_mut() {
+            tell_own(edit, next);
             self.put(alloc, edit)?;
         }
         Ok(())
@@ -143,6 +179,16 @@ impl<'p> Growing<'p> {
         } = self;
         (Grove::behind_document(grove), outer)
     }
+}
+
+/// All edits, in order; none is left.
+fn take<'p>(alloc: Global, edits: &mut Edits<'p>) -> Result<Vec<Edit<'p>>, AllocError>
+    ensures taken { IfOk result (λ batch. batch.items ≡ edits.old) }
+    ensures left { OnOk result (edits.new ≡ []) }
+{
+    let mut batch = Vec::with_capacity(alloc, BATCH)?;
+    edits.take_into(&mut batch);
+    Ok(batch)
 }
 
 /// Makes so much room for edits, or more.

@@ -1,14 +1,27 @@
 //! Own elements told by ids: an own element has the id after its number, and the id 0 stands for what is older.
 
 ghost use Rattle.std.specs.Prelude.{◌≡◌, ◌≤◌, true};
+ghost use Rattle.std.specs.List.{list_all};
 ghost use Rattle.hp_control.specs.Apply.{named_edit};
 ghost use Rattle.hp_control.specs.Nothing.{nothing};
 ghost use Rattle.hp_control.specs.Tree.{id_of};
-ghost use Rattle.hp_groves.specs.Naming.{child_by, own_at, place_by};
+ghost use Rattle.hp_groves.specs.Naming.{child_by, child_refs, own_at, place_by, place_refs, refs};
 ghost use Rattle.hp_growth.specs.Growing.{own_edit};
-ghost use Rattle.hp_growth.specs.Marking.{is_child_made, is_made, is_place_made, names_made};
+ghost use Rattle.hp_growth.specs.Marking.{is_child_made, is_first, is_made, is_place_made, names_made};
+ghost use Rattle.hp_growth.specs.Telling.{own_from, own_told};
 
 use hp_control::{Child, Edit, Place, Ref};
+
+/// Whether an element is older, or among so many own ones.
+#[inline(always)]
+pub(crate) fn is_made(node: Ref, count: u32) -> bool
+    ensures { result ≡ is_made count node }
+{
+    match node {
+        Ref::Own(number) => number < count as u64,
+        Ref::Fixed(_) | Ref::Older(_) => true,
+    }
+}
 
 /// The id of an element, of which there are so many own ones.
 #[inline(always)]
@@ -76,4 +89,101 @@ fn tell_node(node: &mut Ref, count: u32)
     ensures { node.new ≡ own_at 1 node.old }
 {
     *node = Ref::Fixed(own_id(*node, count) as u64);
+}
+
+/// Tells elements by number that have an id from `next` on.
+#[inline(always)]
+pub(crate) fn tell_own(edit: &mut Edit<'_>, next: u64)
+    ensures { edit.new ≡ own_told next edit.old }
+{
+    if let Edit::Put { place, .. } = edit {
+        tell_own_place(place, next);
+    }
+    match edit {
+        Edit::NewElement { .. } => {}
+        Edit::Put { child, .. } => tell_own_child(child, next),
+        Edit::Detach { node } => tell_own_node(node, next),
+        Edit::MoveChildren { from, to } => {
+            tell_own_node(from, next);
+            tell_own_node(to, next);
+        }
+        Edit::AddMissing { node, .. } => tell_own_node(node, next),
+    }
+}
+
+#[inline(always)]
+fn tell_own_child(child: &mut Child<'_>, next: u64)
+    ensures { child.new ≡ child_by (own_from next) child.old }
+{
+    match child {
+        Child::Element(node) => tell_own_node(node, next),
+        Child::Text(_) | Child::Comment(_) | Child::Doctype(_) => {}
+    }
+}
+
+#[inline(always)]
+fn tell_own_place(place: &mut Place, next: u64)
+    ensures { place.new ≡ place_by (own_from next) place.old }
+{
+    match place {
+        Place::Into(parent) => tell_own_node(parent, next),
+        Place::Foster { table, above } => {
+            tell_own_node(table, next);
+            tell_own_node(above, next);
+        }
+    }
+}
+
+#[inline(always)]
+fn tell_own_node(node: &mut Ref, next: u64)
+    ensures { node.new ≡ own_from next node.old }
+{
+    if let Ref::Fixed(id) = *node
+        && id >= next
+    {
+        *node = Ref::Own(id - next);
+    }
+}
+
+/// Whether the edit names by ids no other elements than the document and the page's first one.
+#[inline(always)]
+pub(crate) fn names_first(edit: &Edit<'_>) -> bool
+    ensures { result ≡ list_all is_first (refs edit.now) }
+{
+    match edit {
+        Edit::NewElement { .. } => true,
+        Edit::Put { child, place } => is_child_first(child) && is_place_first(*place),
+        Edit::Detach { node } | Edit::AddMissing { node, .. } => is_first(*node),
+        Edit::MoveChildren { from, to } => is_first(*from) && is_first(*to),
+    }
+}
+
+#[inline(always)]
+fn is_child_first(child: &Child<'_>) -> bool
+    ensures { result ≡ list_all is_first (child_refs child.now) }
+{
+    match child {
+        Child::Element(node) => is_first(*node),
+        Child::Text(_) | Child::Comment(_) | Child::Doctype(_) => true,
+    }
+}
+
+#[inline(always)]
+fn is_place_first(place: Place) -> bool
+    ensures { result ≡ list_all is_first (place_refs place) }
+{
+    match place {
+        Place::Into(parent) => is_first(parent),
+        Place::Foster { table, above } => is_first(table) && is_first(above),
+    }
+}
+
+#[inline(always)]
+fn is_first(node: Ref) -> bool
+    ensures { result ≡ is_first node }
+{
+    match node {
+        Ref::Fixed(id) => id <= 1,
+        Ref::Older(_) | Ref::Own(_) => true,
+    }
 }

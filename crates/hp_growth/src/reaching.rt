@@ -1,7 +1,7 @@
 //! Which edits reach what is older or was touched. The usual edit of own elements is told by a few marks: where the children of none were
 //! touched, no parent is looked up.
 
-ghost use Rattle.std.specs.Prelude.{◌≡◌, ◌==◌, ◌≤◌, length, nat_le, true};
+ghost use Rattle.std.specs.Prelude.{◌≡◌, ◌==◌, ◌≤◌, length, true};
 ghost use Rattle.std.specs.List.{list_any};
 ghost use Rattle.hp_control.specs.Tree.{id_of};
 ghost use Rattle.hp_groves.specs.Naming.{child_by, own_at, place_by};
@@ -11,13 +11,14 @@ ghost use Rattle.hp_growth.specs.Marking.{children_touched, is_child_made, is_ma
 ghost use Rattle.hp_growth.specs.Reaching.{both, child_reaches, is_tied, place_reaches, reaches, way};
 
 use crate::marks::Marks;
+use crate::naming::{is_made, own_id};
 use hp_arena::Tree;
 use hp_control::{Child, Edit, Place, Ref};
 
 /// Which way an edit goes, or a part of one.
 #[derive(Clone, Copy)]
 pub(crate) enum Way {
-    /// It names an own element that isn't made yet, or an id past that of the page's first element.
+    /// It names an own element that isn't made yet.
     Refused,
     /// It reaches what is older or was touched.
     Outer,
@@ -26,6 +27,14 @@ pub(crate) enum Way {
 }
 
 impl Way {
+    /// The way of what names only what it can, and reaches so far or doesn't.
+    #[inline(always)]
+    fn of_reach(reaches: bool) -> Way
+        ensures { result ≡ way true reaches }
+    {
+        if reaches { Way::Outer } else { Way::Inner }
+    }
+
     /// The way of two parts together.
     #[inline(always)]
     fn and(self, other: Way) -> Way
@@ -90,19 +99,10 @@ fn way_of_place(grove: &Tree<'_>, marks: &Marks, place: Place) -> Way
 fn way_of_parent(marks: &Marks, node: Ref) -> Way
     ensures { result ≡ way (is_made (length marks.now) node) (children_touched marks.now (id_of (own_at 1 node))) }
 {
-    match node {
-        Ref::Own(number) => {
-            if number >= marks.len() as u64 {
-                Way::Refused
-            } else if marks.children_touched(number as u32 + 1) {
-                Way::Outer
-            } else {
-                Way::Inner
-            }
-        }
-        Ref::Older(_) => Way::Outer,
-        Ref::Fixed(id) => way_of_id(id),
+    if !is_made(node, marks.len()) {
+        return Way::Refused;
     }
+    Way::of_reach(marks.children_touched(own_id(node, marks.len())))
 }
 
 /// The way of an edit that takes an element from where it stands, or looks where that is.
@@ -111,19 +111,10 @@ fn way_of_moved(grove: &Tree<'_>, marks: &Marks, node: Ref) -> Way
     requires { IsRooted grove.now.branches (length marks.now) }
     ensures { result ≡ way (is_made (length marks.now) node) (is_tied grove.now.branches marks.now (id_of (own_at 1 node))) }
 {
-    match node {
-        Ref::Own(number) => {
-            if number >= marks.len() as u64 {
-                Way::Refused
-            } else if is_tied(grove, marks, number as u32 + 1) {
-                Way::Outer
-            } else {
-                Way::Inner
-            }
-        }
-        Ref::Older(_) => Way::Outer,
-        Ref::Fixed(id) => way_of_id(id),
+    if !is_made(node, marks.len()) {
+        return Way::Refused;
     }
+    Way::of_reach(is_tied(grove, marks, own_id(node, marks.len())))
 }
 
 /// The way of an edit that changes an element itself.
@@ -131,25 +122,10 @@ fn way_of_moved(grove: &Tree<'_>, marks: &Marks, node: Ref) -> Way
 fn way_of_changed(marks: &Marks, node: Ref) -> Way
     ensures { result ≡ way (is_made (length marks.now) node) (id_of (own_at 1 node) == 0) }
 {
-    match node {
-        Ref::Own(number) => {
-            if number >= marks.len() as u64 {
-                Way::Refused
-            } else {
-                Way::Inner
-            }
-        }
-        Ref::Older(_) => Way::Outer,
-        Ref::Fixed(id) => way_of_id(id),
+    if !is_made(node, marks.len()) {
+        return Way::Refused;
     }
-}
-
-/// The way of an edit that names an older element by its id: none but the document and the page's first element are told so.
-#[inline(always)]
-fn way_of_id(id: u64) -> Way
-    ensures { result ≡ way (nat_le id 1) true }
-{
-    if id <= 1 { Way::Outer } else { Way::Refused }
+    Way::of_reach(own_id(node, marks.len()) == 0)
 }
 
 /// Whether the parent of an element was touched, or the children among which it stands.

@@ -6,27 +6,35 @@ use hp_elements::{Chain, Known, Name, Namespace, Tag, Text};
 use std::alloc::Global;
 use std::process::Abort;
 
-/// An edit of a fragment, with own elements by number.
+/// An edit of a fragment.
 #[derive(Clone, Copy)]
 enum Step {
     New,
-    Put(u64, Place),
+    Put(Ref, Place),
     Text(Place),
-    Detach(u64),
-    MoveChildren(u64, u64),
+    Detach(Ref),
+    MoveChildren(Ref, Ref),
 }
+
+const OWN_0: Ref = Ref::Own(0);
+
+const OWN_1: Ref = Ref::Own(1);
+
+const OWN_2: Ref = Ref::Own(2);
+
+const OWN_3: Ref = Ref::Own(3);
 
 const OLDER: Place = Place::Into(Ref::Older(0));
 
-const IN_0: Place = Place::Into(Ref::Own(0));
+const IN_0: Place = Place::Into(OWN_0);
 
-const IN_1: Place = Place::Into(Ref::Own(1));
+const IN_1: Place = Place::Into(OWN_1);
 
-const IN_2: Place = Place::Into(Ref::Own(2));
+const IN_2: Place = Place::Into(OWN_2);
 
 const BEFORE_1: Place = Place::Foster {
-    table: Ref::Own(1),
-    above: Ref::Own(0),
+    table: OWN_1,
+    above: OWN_0,
 };
 
 /// The edits, then for each own element the number of its parent and what stands first in it, and the outer edits.
@@ -37,12 +45,12 @@ const CASES: &[Case] = &[
     (
         &[
             Step::New,
-            Step::Put(0, OLDER),
+            Step::Put(OWN_0, OLDER),
             Step::New,
-            Step::Put(1, IN_0),
+            Step::Put(OWN_1, IN_0),
             Step::Text(IN_1),
             Step::New,
-            Step::Put(2, IN_0),
+            Step::Put(OWN_2, IN_0),
             Step::Text(IN_2),
         ],
         "-e 0t 0t ",
@@ -52,16 +60,16 @@ const CASES: &[Case] = &[
     (
         &[
             Step::New,
-            Step::Put(0, OLDER),
+            Step::Put(OWN_0, OLDER),
             Step::New,
-            Step::Put(1, IN_0),
+            Step::Put(OWN_1, IN_0),
             Step::New,
-            Step::Put(2, IN_1),
+            Step::Put(OWN_2, IN_1),
             Step::Text(IN_2),
-            Step::Put(2, IN_0),
+            Step::Put(OWN_2, IN_0),
             Step::New,
-            Step::MoveChildren(2, 3),
-            Step::Put(3, IN_2),
+            Step::MoveChildren(OWN_2, OWN_3),
+            Step::Put(OWN_3, IN_2),
         ],
         "-e 0- 0e 2t ",
         "p",
@@ -70,9 +78,9 @@ const CASES: &[Case] = &[
     (
         &[
             Step::New,
-            Step::Put(0, OLDER),
+            Step::Put(OWN_0, OLDER),
             Step::New,
-            Step::Put(1, IN_0),
+            Step::Put(OWN_1, IN_0),
             Step::Text(BEFORE_1),
         ],
         "-t 0- ",
@@ -82,10 +90,10 @@ const CASES: &[Case] = &[
     (
         &[
             Step::New,
-            Step::Put(0, OLDER),
-            Step::Detach(0),
+            Step::Put(OWN_0, OLDER),
+            Step::Detach(OWN_0),
             Step::New,
-            Step::Put(0, IN_1),
+            Step::Put(OWN_0, IN_1),
             Step::Text(IN_1),
             Step::Text(IN_0),
         ],
@@ -93,6 +101,22 @@ const CASES: &[Case] = &[
         "pdpp",
     ),
 ];
+
+/// `<ul><li>x<li>x</ul>` in the element 4, told by ids: own elements have those from 5 on.
+const TOLD: Case = (
+    &[
+        Step::New,
+        Step::Put(Ref::Fixed(5), Place::Into(Ref::Fixed(4))),
+        Step::New,
+        Step::Put(Ref::Fixed(6), Place::Into(Ref::Fixed(5))),
+        Step::Text(Place::Into(Ref::Fixed(6))),
+        Step::New,
+        Step::Put(Ref::Fixed(7), Place::Into(Ref::Fixed(5))),
+        Step::Text(Place::Into(Ref::Fixed(7))),
+    ],
+    "-e 0t 0t ",
+    "p",
+);
 
 fn edit(step: Step) -> Edit<'static> {
     match step {
@@ -103,22 +127,29 @@ fn edit(step: Step) -> Edit<'static> {
                 attributes: Chain::new(),
             },
         },
-        Step::Put(number, place) => Edit::Put {
-            child: Child::Element(Ref::Own(number)),
+        Step::Put(node, place) => Edit::Put {
+            child: Child::Element(node),
             place,
         },
         Step::Text(place) => Edit::Put {
             child: Child::Text(Text::new()),
             place,
         },
-        Step::Detach(number) => Edit::Detach {
-            node: Ref::Own(number),
-        },
-        Step::MoveChildren(from, to) => Edit::MoveChildren {
-            from: Ref::Own(from),
-            to: Ref::Own(to),
-        },
+        Step::Detach(node) => Edit::Detach { node },
+        Step::MoveChildren(from, to) => Edit::MoveChildren { from, to },
     }
+}
+
+fn edits(rt: &impl Abort, alloc: Global, steps: &[Step]) -> Edits<'static> {
+    let mut out: Edits<'static> = Edits::new();
+    for step in steps {
+        out.push(alloc, edit(*step)).expect(rt, "there is memory");
+    }
+    out
+}
+
+fn start(rt: &impl Abort, alloc: Global) -> Growing<'static> {
+    Growing::start(alloc).expect(rt, "there is memory")
 }
 
 fn parent_letter(parent: Option<u32>) -> char {
@@ -185,10 +216,7 @@ fn assert_split(rt: &impl Abort, alloc: Global, growing: Growing<'static>, case:
 #[test]
 fn edits_split_as_they_come(rt: HostRuntime) {
     for case in CASES {
-        let mut growing: Growing<'static> = Growing::start(rt.alloc()).expect(
-            &rt,
-            "there is memory",
-        );
+        let mut growing = start(&rt, rt.alloc());
         for step in case.0 {
             growing
                 .put(rt.alloc(), &mut edit(*step))
@@ -201,16 +229,8 @@ fn edits_split_as_they_come(rt: HostRuntime) {
 #[test]
 fn edits_split_all_together(rt: HostRuntime) {
     for case in CASES {
-        let mut growing: Growing<'static> = Growing::start(rt.alloc()).expect(
-            &rt,
-            "there is memory",
-        );
-        let mut edits: Edits<'static> = Edits::new();
-        for step in case.0 {
-            edits
-                .push(rt.alloc(), edit(*step))
-                .expect(&rt, "there is memory");
-        }
+        let mut growing = start(&rt, rt.alloc());
+        let mut edits = edits(&rt, rt.alloc(), case.0);
         growing
             .put_all(rt.alloc(), &mut edits)
             .expect(&rt, "there is memory");
@@ -220,27 +240,28 @@ fn edits_split_all_together(rt: HostRuntime) {
 }
 
 #[test]
+fn edits_told_by_ids_split_alike(rt: HostRuntime) {
+    let mut growing = start(&rt, rt.alloc());
+    let mut edits = edits(&rt, rt.alloc(), TOLD.0);
+    growing
+        .put_all_told(rt.alloc(), 5, &mut edits)
+        .expect(&rt, "there is memory");
+    assert!(&rt; edits.is_empty());
+    assert_split(&rt, rt.alloc(), growing, &TOLD);
+}
+
+#[test]
 fn elements_that_no_fragment_names_are_refused(rt: HostRuntime) {
-    let mut growing: Growing<'static> = Growing::start(rt.alloc()).expect(&rt, "there is memory");
+    let mut growing = start(&rt, rt.alloc());
     assert!(&rt;
         growing
-            .put(rt.alloc(), &mut edit(Step::Put(0, OLDER)))
+            .put(rt.alloc(), &mut edit(Step::Put(OWN_0, OLDER)))
             .is_err()
     );
-    assert!(&rt;
-        growing
-            .put(
-                rt.alloc(),
-                &mut edit(Step::Text(Place::Into(Ref::Fixed(1))))
-            )
-            .is_ok()
-    );
-    assert!(&rt;
-        growing
-            .put(
-                rt.alloc(),
-                &mut edit(Step::Text(Place::Into(Ref::Fixed(2))))
-            )
-            .is_err()
-    );
+    for (id, taken) in [(1, true), (2, false)] {
+        let step = Step::Text(Place::Into(Ref::Fixed(id)));
+        assert!(&rt; growing.put(rt.alloc(), &mut edit(step)).is_ok());
+        let mut guessed = edits(&rt, rt.alloc(), &[step]);
+        assert_eq!(&rt; growing.put_all(rt.alloc(), &mut guessed).is_ok(), taken);
+    }
 }
