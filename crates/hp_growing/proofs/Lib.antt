@@ -7,3 +7,4 @@ pub mod Runs
 pub mod Places
 pub mod Below
 pub mod Guesses
+pub mod Known

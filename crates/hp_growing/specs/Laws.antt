@@ -1,24 +1,27 @@
 -- The laws of what the edits of a token, of a run and of a page name.
-use Rattle.std.specs.Prelude.{◌≡◌, ℕ, ◌⊎◌, true, List, map}
+use Rattle.std.specs.Prelude.{◌≡◌, ℕ, ◌⊎◌, true, All, List, map}
 use Rattle.hp_elements.specs.declared.token.Token.{Token}
 use Rattle.hp_names.specs.References.{Reference}
 use Rattle.hp_tokens.specs.Moves.{Rules}
 use Rattle.hp_control.specs.declared.edit.Edit.{Edit}
 use Rattle.hp_control.specs.Apply.{named_edit}
+use Rattle.hp_control.specs.Edits.{IsFixedEdit}
 use Rattle.hp_control.specs.Holds.{Holds}
 use Rattle.hp_control.specs.States.{ControlState, Fits, IsValid, is_rooted}
 use Rattle.hp_control.specs.Tree.{Tree, applied_all}
 use Rattle.hp_groves.specs.Grafts.{graft}
 use Rattle.hp_groves.specs.Laws.{HasOnlyWhatIsThere}
-use Rattle.hp_groves.specs.Naming.{IsBelow}
+use Rattle.hp_groves.specs.Naming.{IsBelow, own_grove, own_outer}
 use Rattle.hp_groves.specs.Split.{grove_of, name_what_is_there, outer_of}
 use Rattle.hp_growth.specs.Marking.{name_first}
+use Rattle.hp_growth.specs.Telling.{own_told}
 use Rattle.hp_model.specs.AtOnce.{built_at_once, handle_at_once}
 use Rattle.hp_model.specs.Handling.{handle}
 use Rattle.hp_model.specs.Runs.{EndsWith, Goes, Parser, step}
 use Rattle.hp_model.specs.Turns.{left_by}
 use Rattle.hp_runs.specs.Pages.{IsTreeOf}
 use Rattle.hp_pieces.specs.At.{IsAt}
+use Rattle.hp_pieces.specs.Growth.{Grows, grown_tree}
 use Rattle.hp_pieces.specs.Guesses.{Guessed, IsSound, covered_text, state_behind, tree_behind}
 use Rattle.hp_pieces.specs.Running.{Ends, Leads}
 use Rattle.hp_pieces.specs.Waiting.{MayStand}
@@ -87,6 +90,16 @@ pub record BuildsOn (f : Guessed) (s : ControlState) (t : Tree) : Type 0 where
 -- so it is over each state for which it is right, on a tree that has the elements below the next id.
 abbrev pub GuessBuilds : Type 0
 GuessBuilds = (f : Guessed) (s : ControlState) (t : Tree) → IsSound f → MayStand f.names s → Holds f.assumptions s → IsCounted s.next t → BuildsOn f s t
+
+-- A run that comes to a grove and outer edits builds on the tree of its state what these build there.
+abbrev pub GrownBuilds : Type 0
+GrownBuilds = (names : List Reference) (text : List ℕ) (s exit : ControlState) (grove : Tree) (outer : List Edit) (t : Tree) → (g : Grows names text s grove outer exit) → IsValid s → IsCounted s.next t
+    → applied_all t (map (named_edit s) g.edits) ≡ grown_tree grove outer s t
+
+-- The edits of a run, told by ids, come to these where they are told over its state.
+abbrev pub RunGrows : Type 0
+RunGrows = (names : List Reference) (text : List ℕ) (s exit : ControlState) (es : List Edit) → IsValid s → All IsFixedEdit es → Leads names text s es exit
+    → Grows names text s (own_grove (map (own_told s.next) es)) (own_outer (map (own_told s.next) es)) exit
 
 -- What a fragment's edits name by ids is older, where no id but the document's and the first element's is named, and where that element is
 -- there, or none is made.

@@ -7,12 +7,14 @@ ghost use Rattle.hp_growing.specs.Laws.{
   EndsHaveThere,
   EndsNameThere,
   FirstIsBelow,
+  GrownBuilds,
   GuessBuilds,
   HandledNamesThere,
   LastNameThere,
   LeadsNameThere,
   LeadsSplit,
   PlacesCount,
+  RunGrows,
   RunsCount,
   RunsNameThere,
   RunsSplit,
@@ -55,7 +57,11 @@ pub fn trees_are_counted()
 
 /// A sound guess builds on the tree of a state what the run over what it covers builds there; and a fragment's edits name only what is
 /// below it where, of ids, they name no others than the document's and that of the page's first element, which is there or no element is made.
+/// A run over a known state comes to a grove and outer edits too, where its own elements are counted from the state's next id on; and
+/// whatever a run comes to builds on the tree of its state what the run builds.
 pub fn guesses_grow()
     ensures builds { GuessBuilds }
     ensures below { FirstIsBelow }
+    ensures grown { GrownBuilds }
+    ensures run { RunGrows }
 {}

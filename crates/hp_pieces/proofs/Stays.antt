@@ -21,7 +21,8 @@ use Rattle.hp_lexer.specs.Table.{table}
 use Rattle.hp_model.specs.Runs.{Goes, Parser, Rests, at_lexing, followed_by, goes, here, rests, step, step_by}
 use Rattle.hp_runs.specs.Alike.{SameMove}
 use Rattle.hp_runs.proofs.Shifting.{move-same}
-use Rattle.hp_pieces.specs.Guesses.{Grows, Guessed, covered_text}
+use Rattle.hp_pieces.specs.Growth.{Grows}
+use Rattle.hp_pieces.specs.Guesses.{Guessed, covered_text}
 use Rattle.hp_pieces.specs.Laws.{GuessGrows}
 use Rattle.hp_pieces.specs.Running.{Leads, parser_in}
 use Rattle.hp_pieces.specs.Waiting.{Waits}

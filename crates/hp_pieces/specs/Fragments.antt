@@ -5,20 +5,23 @@ use Rattle.hp_names.specs.BuiltIn.{built_in}
 use Rattle.hp_control.specs.declared.edit.Edit.{Edit}
 use Rattle.hp_control.specs.Edits.{IsFixedEdit}
 use Rattle.hp_control.specs.States.{ControlState}
-use Rattle.hp_pieces.specs.Running.{Ends, Leads}
+use Rattle.hp_control.specs.Tree.{Tree}
+use Rattle.hp_pieces.specs.Growth.{Grows}
+use Rattle.hp_pieces.specs.Running.{Ends}
 
--- a text in bytes, the state before it, the state behind it, and the edits
+-- A text in bytes, the state before it, the state behind it, what its inner edits make, and its outer edits. Own elements are counted from
+-- the entry's next id on.
 pub record Known : Type 0 where
   pub text : List ℕ
   pub entry : ControlState
   pub exit : ControlState
-  pub edits : List Edit
+  pub grove : Tree
+  pub outer : List Edit
 
--- It is the run over the code points of the text. The edits tell each node by its id.
+-- It is the run over the code points of the text.
 pub record IsRun (known : Known) : Type 0 where
   pub utf8 : IsUtf8 known.text
-  pub leads : Leads built_in (chars known.text) known.entry known.edits known.exit
-  pub fixed : All IsFixedEdit known.edits
+  pub grows : Grows built_in (chars known.text) known.entry known.grove known.outer known.exit
 
 -- the state where the input ends, and the edits
 pub record Last : Type 0 where

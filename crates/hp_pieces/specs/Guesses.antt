@@ -1,17 +1,15 @@
 -- What callers see of a fragment over an older state that isn't known, and what the type keeps.
-use Rattle.std.specs.Prelude.{◌≡◌, ℕ, ◌<◌, ◌≤◌, ◌==◌, if◌then◌else◌, List, Option, length, map, take, IsUtf8}
+use Rattle.std.specs.Prelude.{ℕ, ◌<◌, ◌≤◌, ◌==◌, if◌then◌else◌, List, Option, length, take, IsUtf8}
 use Rattle.std.specs.Str.{chars, IsCharBoundary}
 use Rattle.hp_names.specs.References.{Reference}
 use Rattle.hp_control.specs.declared.change.Change.{Change}
 use Rattle.hp_control.specs.declared.edit.Edit.{Edit}
 use Rattle.hp_control.specs.declared.question.Kept.{Kept}
-use Rattle.hp_control.specs.Apply.{applied, named_edit}
+use Rattle.hp_control.specs.Apply.{applied}
 use Rattle.hp_control.specs.Holds.{Holds}
 use Rattle.hp_control.specs.States.{ControlState, Fits, IsValid}
-use Rattle.hp_control.specs.Tree.{Tree, applied_all}
-use Rattle.hp_groves.specs.Grafts.{graft}
-use Rattle.hp_groves.specs.Naming.{IsBelow, own_grove, own_outer}
-use Rattle.hp_pieces.specs.Running.{Leads}
+use Rattle.hp_control.specs.Tree.{Tree}
+use Rattle.hp_pieces.specs.Growth.{Grows, grown_tree}
 use Rattle.hp_pieces.specs.declared.by.By.{By}
 
 -- A text in bytes and how many of them are covered, the answers that are assumed of the older state, what is changed over it, what its
@@ -30,14 +28,6 @@ pub record Guessed : Type 0 where
 abbrev pub covered_text : Guessed → List ℕ
 covered_text f = chars (take f.covered f.text)
 
--- Over s the run over the text leads to that state, and of its edits this is what the inner ones make, and these are the outer ones.
-pub record Grows (names : List Reference) (text : List ℕ) (s : ControlState) (grove : Tree) (outer : List Edit) (exit : ControlState) : Type 0 where
-  pub edits : List Edit
-  pub leads : Leads names text s (map (named_edit s) edits) exit
-  pub below : IsBelow s edits
-  pub inner : grove ≡ own_grove edits
-  pub others : outer ≡ own_outer edits
-
 -- Over each valid state of which what is assumed is true, the change, what the inner edits make, and the outer edits are those of the run
 -- over what is covered.
 pub record IsSound (f : Guessed) : Type 0 where
@@ -52,4 +42,4 @@ state_behind f s = if f.covered == 0 then s else applied f.change s
 
 -- what it makes of the tree of such a state: what its inner edits make stands behind the tree, and then come the outer edits
 abbrev pub tree_behind : Guessed → ControlState → Tree → Tree
-tree_behind f s t = if f.covered == 0 then t else applied_all (graft t f.grove) (map (named_edit s) f.outer)
+tree_behind f s t = if f.covered == 0 then t else grown_tree f.grove f.outer s t

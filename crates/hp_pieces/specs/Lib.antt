@@ -1,5 +1,6 @@
 pub mod Running
 pub mod Waiting
+pub mod Growth
 pub mod Fragments
 pub mod Guesses
 pub mod Parts

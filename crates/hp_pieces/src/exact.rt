@@ -1,53 +1,43 @@
 //! The run over a text from a known state.
-ghost use Rattle.std.specs.Prelude.{◌≡◌, ◌≤◌};
+ghost use Rattle.std.specs.Prelude.{◌≡◌};
 
+use crate::exact_parts::ExactParts;
 use hp_control::{Control, Edits};
 use std::marker::Model;
 
 /// The run of the sequential parser over a text from a known state. A contract sees it as a `Known`, and each value is
 /// such a run: `IsRun` of specs/Fragments.antt says what that is.
 pub struct Exact<'p> {
-    text: &'p [u8],
-    entry: Control,
-    exit: Control,
-    edits: Edits<'p>,
+    parts: ExactParts<'p>,
 }
 
 impl<'p> Drop for Exact<'p> {
     fn drop(self) {
-        let Exact {
-            text: _,
-            entry: _,
-            exit: _,
-            edits: _,
-        } = self;
+        let Exact { parts: _ } = self;
     }
 }
 
 impl<'p> Model for Exact<'p> {
     ghost use Rattle.hp_pieces.specs.Fragments.{Known, IsRun};
+    ghost use Rattle.hp_pieces.specs.Parts.{run_of};
 
     ghost Value = { Known };
 
-    ghost view = { λ f. record { text = f.text.now; entry = f.entry; exit = f.exit; edits = f.edits } };
+    ghost view = { λ f. run_of f.parts };
 
-    ghost invariant = { λ f. IsRun (record { text = f.text.now; entry = f.entry; exit = f.exit; edits = f.edits }) };
+    ghost invariant = { λ f. IsRun (run_of f.parts) };
 }
 
 impl<'p> Exact<'p> {
     ghost use Rattle.hp_pieces.specs.Fragments.{IsRun};
+    ghost use Rattle.hp_pieces.specs.Parts.{run_of};
 
-    /// The run over this text, from the entry to the exit, with these edits.
-    pub fn of_run(text: &'p [u8], entry: Control, exit: Control, edits: Edits<'p>) -> Exact<'p>
-        requires run { IsRun (record { text = text.now; entry = entry; exit = exit; edits = edits }) }
-        ensures { result ≡ record { text = text.now; entry = entry; exit = exit; edits = edits.entry } }
+    /// The fragment of these parts.
+    pub(crate) fn of_parts(parts: ExactParts<'p>) -> Exact<'p>
+        requires run { IsRun (run_of parts) }
+        ensures { result ≡ run_of parts.entry }
     {
-        Exact {
-            text,
-            entry,
-            exit,
-            edits,
-        }
+        Exact { parts }
     }
 
     /// The text, in bytes.
@@ -55,43 +45,36 @@ impl<'p> Exact<'p> {
         ensures text { result.now ≡ self.now.text }
         ensures run { IsRun self.now }
     {
-        self.text
+        self.parts.text
     }
 
     /// The state before the text.
     pub fn entry(&self) -> &Control
         ensures { result.now ≡ self.now.entry }
     {
-        &self.entry
+        &self.parts.entry
     }
 
     /// The state behind the text.
     pub fn exit(&self) -> &Control
         ensures { result.now ≡ self.now.exit }
     {
-        &self.exit
+        &self.parts.exit
     }
 
-    /// The edits.
-    pub fn edits(&self) -> &Edits<'p>
-        ensures { result.now ≡ self.now.edits }
+    /// The outer edits.
+    pub fn outer(&self) -> &Edits<'p>
+        ensures { result.now ≡ self.now.outer }
     {
-        &self.edits
+        &self.parts.outer
     }
 
-    /// The states before and behind the text, and the edits.
-    pub fn into_parts(self) -> (Control, Control, Edits<'p>)
-        ensures entry { result.0 ≡ self.entry.entry }
-        ensures exit { result.1 ≡ self.entry.exit }
-        ensures edits { result.2 ≡ self.entry.edits }
+    /// The parts.
+    pub fn into_parts(self) -> ExactParts<'p>
+        ensures parts { run_of result ≡ self.entry }
         ensures run { IsRun self.entry }
     {
-        let Exact {
-            entry,
-            exit,
-            edits,
-            text: _,
-        } = self;
-        (entry, exit, edits)
+        let Exact { parts } = self;
+        parts
     }
 }

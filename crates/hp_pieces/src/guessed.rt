@@ -11,41 +11,26 @@ use std::marker::Model;
 /// of that name, and each value is sound: `IsSound` of specs/Guesses.antt says what that is. Where it is known who guessed it, `IsBy` of
 /// specs/By.antt holds.
 pub struct Guessed<'p> {
-    text: &'p [u8],
-    covered: u64,
-    assumptions: Assumptions,
-    change: Change,
-    grove: Grove<'p>,
-    outer: Edits<'p>,
-    by: Option<By<'p>>,
+    parts: GuessedParts<'p>,
 }
 
 impl<'p> Drop for Guessed<'p> {
     fn drop(self) {
-        let Guessed {
-            text: _,
-            covered: _,
-            assumptions: _,
-            change: _,
-            grove: _,
-            outer: _,
-            by: _,
-        } = self;
+        let Guessed { parts: _ } = self;
     }
 }
 
 impl<'p> Model for Guessed<'p> {
     ghost use Rattle.std.specs.Prelude.{IfSome};
-    ghost use Rattle.hp_names.specs.BuiltIn.{built_in};
     ghost use Rattle.hp_pieces.specs.By.{IsBy};
     ghost use Rattle.hp_pieces.specs.Guesses.{Guessed, IsSound};
+    ghost use Rattle.hp_pieces.specs.Parts.{guess_of};
 
     ghost Value = { Guessed };
 
-    ghost view = { λ f. record { names = built_in; text = f.text.now; covered = f.covered; assumptions = f.assumptions; change = f.change; grove = f.grove; outer = f.outer; by = f.by } };
+    ghost view = { λ f. guess_of f.parts };
 
-    ghost invariant = { λ f. IsSound (record { names = built_in; text = f.text.now; covered = f.covered; assumptions = f.assumptions; change = f.change; grove = f.grove; outer = f.outer; by = f.by })
-        × IfSome f.by (IsBy (record { names = built_in; text = f.text.now; covered = f.covered; assumptions = f.assumptions; change = f.change; grove = f.grove; outer = f.outer; by = f.by })) };
+    ghost invariant = { λ f. IsSound (guess_of f.parts) × IfSome f.parts.by (IsBy (guess_of f.parts)) };
 }
 
 impl<'p> Guessed<'p> {
@@ -67,7 +52,7 @@ impl<'p> Guessed<'p> {
         requires sound { IsSound (record { names = built_in; text = text.now; covered = covered; assumptions = assumptions; change = change; grove = grove; outer = outer; by = None }) }
         ensures { result ≡ record { names = built_in; text = text.now; covered = covered; assumptions = assumptions; change = change; grove = grove.entry; outer = outer.entry; by = None } }
     {
-        Guessed {
+        let parts = GuessedParts {
             text,
             covered,
             assumptions,
@@ -75,7 +60,8 @@ impl<'p> Guessed<'p> {
             grove,
             outer,
             by: None,
-        }
+        };
+        Guessed { parts }
     }
 
     /// The same, where it is told who guessed.
@@ -83,24 +69,9 @@ impl<'p> Guessed<'p> {
         requires by { IsBy self by }
         ensures { result ≡ record self.entry { by = Some by.entry } }
     {
-        let Guessed {
-            text,
-            covered,
-            assumptions,
-            change,
-            grove,
-            outer,
-            by: _,
-        } = self;
-        Guessed {
-            text,
-            covered,
-            assumptions,
-            change,
-            grove,
-            outer,
-            by: Some(by),
-        }
+        let Guessed { mut parts } = self;
+        parts.by = Some(by);
+        Guessed { parts }
     }
 
     /// The text, in bytes.
@@ -109,7 +80,7 @@ impl<'p> Guessed<'p> {
         ensures names { self.now.names ≡ built_in }
         ensures sound { IsSound self.now }
     {
-        self.text
+        self.parts.text
     }
 
     /// How many bytes of the text are covered, from the front on.
@@ -117,28 +88,28 @@ impl<'p> Guessed<'p> {
         ensures covered { result ≡ self.now.covered }
         ensures within { result ≤ length self.now.text }
     {
-        self.covered
+        self.parts.covered
     }
 
     /// The answers that are assumed.
     pub fn assumptions(&self) -> &Assumptions
         ensures { result.now ≡ self.now.assumptions }
     {
-        &self.assumptions
+        &self.parts.assumptions
     }
 
     /// What changes of the state below it.
     pub fn change(&self) -> &Change
         ensures { result.now ≡ self.now.change }
     {
-        &self.change
+        &self.parts.change
     }
 
     /// The outer edits.
     pub fn outer(&self) -> &Edits<'p>
         ensures { result.now ≡ self.now.outer }
     {
-        &self.outer
+        &self.parts.outer
     }
 
     /// Who guessed, where that is known.
@@ -146,7 +117,7 @@ impl<'p> Guessed<'p> {
         ensures by { result ≡ self.now.by }
         ensures said { IfSome self.now.by (IsBy self.now) }
     {
-        self.by
+        self.parts.by
     }
 
     /// The parts.
@@ -155,24 +126,8 @@ impl<'p> Guessed<'p> {
         ensures sound { IsSound self.entry }
         ensures said { IfSome self.entry.by (IsBy self.entry) }
     {
-        let Guessed {
-            text,
-            covered,
-            assumptions,
-            change,
-            grove,
-            outer,
-            by,
-        } = self;
-        GuessedParts {
-            text,
-            covered,
-            assumptions,
-            change,
-            grove,
-            outer,
-            by,
-        }
+        let Guessed { parts } = self;
+        parts
     }
 
     /// The fragment of these parts.
@@ -181,39 +136,14 @@ impl<'p> Guessed<'p> {
         requires said { IfSome parts.by (IsBy (guess_of parts)) }
         ensures { result ≡ guess_of parts.entry }
     {
-        let GuessedParts {
-            text,
-            covered,
-            assumptions,
-            change,
-            grove,
-            outer,
-            by,
-        } = parts;
-        Guessed {
-            text,
-            covered,
-            assumptions,
-            change,
-            grove,
-            outer,
-            by,
-        }
+        Guessed { parts }
     }
 
     /// The answers that were assumed; what was made is given up.
     pub fn into_assumptions(self) -> Assumptions
         ensures { result ≡ self.entry.assumptions }
     {
-        let Guessed {
-            text: _,
-            covered: _,
-            assumptions,
-            change: _,
-            grove: _,
-            outer: _,
-            by: _,
-        } = self;
-        assumptions
+        let Guessed { parts } = self;
+        parts.assumptions
     }
 }

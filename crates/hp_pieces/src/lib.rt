@@ -4,6 +4,7 @@
 mod by;
 mod ending;
 mod exact;
+mod exact_parts;
 mod fragment;
 mod guessed;
 mod guessed_parts;
@@ -13,6 +14,7 @@ mod tokens;
 pub use by::By;
 pub use ending::Ending;
 pub use exact::Exact;
+pub use exact_parts::ExactParts;
 pub use fragment::Fragment;
 pub use guessed::Guessed;
 pub use guessed_parts::GuessedParts;
