@@ -1,5 +1,5 @@
 -- Own ids, counted on from that of the state below, where the state that a change makes is valid.
-use Rattle.std.proofs.Common.{◌≡◌, ℕ, zero, suc, ◌+◌, ◌<◌, ◌≤◌, ◌^◌, List, [], ◌∷◌, ◌++◌, All, map, drop, length, sym, subst, arith}
+use Rattle.std.proofs.Common.{◌≡◌, ℕ, zero, suc, ◌+◌, ◌<◌, ◌^◌, List, [], ◌∷◌, ◌++◌, All, map, drop, sym, subst, arith}
 use Rattle.std.specs.Prelude.{IfSome}
 use Rattle.hp_control.specs.declared.change.Change.{Change}
 use Rattle.hp_control.specs.declared.change.FormChange.{FormChange}
@@ -13,7 +13,8 @@ use Rattle.hp_control.specs.States.{AreIds, ControlState, Fits, IsId, IsValid, e
 use Rattle.hp_control.specs.Walks.{cleared_by}
 use Rattle.hp_names.specs.BuiltIn.{built_in}
 use Rattle.hp_names.specs.References.{Reference}
-use Rattle.hp_pieces.specs.Guesses.{Grows, Guessed, IsSound, covered_text}
+use Rattle.hp_pieces.specs.Growth.{Grows}
+use Rattle.hp_pieces.specs.Guesses.{Guessed, IsSound, covered_text}
 use Rattle.hp_pieces.specs.Laws.{LeadsValid}
 use Rattle.hp_pieces.specs.Running.{Leads}
 use Rattle.hp_merge.specs.Parts.{AreCounted, IsFormCounted}

@@ -1,16 +1,18 @@
 -- A front at a place of a page's text goes on by a fragment of what follows.
-use Rattle.std.proofs.Common.{◌≡◌, ℕ, ◌+◌, ◌-◌, ◌≤◌, List, length, take, drop, sym, ap, subst, ◌∙◌, arith}
+use Rattle.std.proofs.Common.{◌≡◌, ℕ, ◌+◌, ◌-◌, ◌≤◌, List, length, map, take, drop, sym, ap, subst, ◌∙◌, arith}
 use Rattle.std.specs.Prelude.{slice_range}
 use Rattle.std.specs.Str.{chars, IsCharBoundary, IsUtf8}
-use Rattle.std.proofs.lemmas.List.{length-take, length-drop, take-take, take_all}
+use Rattle.std.proofs.lemmas.List.{length-take, take-take, take_all}
 use Rattle.std.proofs.lemmas.Str.{IsCharBoundary-from_rest, IsCharBoundary-from_take, IsUtf8-drop, IsUtf8-take}
 use Rattle.hp_names.specs.BuiltIn.{built_in}
 use Rattle.hp_names.specs.References.{Reference}
 use Rattle.hp_control.specs.States.{ControlState, start}
 use Rattle.hp_control.specs.declared.edit.Edit.{Edit}
+use Rattle.hp_control.specs.Apply.{named_edit}
 use Rattle.hp_control.specs.Tree.{Tree, applied_all, document}
-use Rattle.hp_growing.specs.Laws.{BuildsOn, GuessBuilds, PlacesCount}
+use Rattle.hp_growing.specs.Laws.{BuildsOn, GrownBuilds, GuessBuilds, PlacesCount}
 use Rattle.hp_pieces.specs.At.{AtCovers, AtStart, AtValid, IsAt}
+use Rattle.hp_pieces.specs.Growth.{Grows, grown_tree}
 use Rattle.hp_pieces.specs.Guesses.{state_behind, tree_behind}
 use Rattle.hp_pieces.specs.Laws.{RunsWait}
 use Rattle.hp_pieces.specs.Running.{Leads}
@@ -50,13 +52,16 @@ leads_on : (names : List Reference) (text part : List ℕ) (n m k : ℕ) (s u : 
 leads_on names text part n m k s u es is named leads =
     subst (λ (bytes : List ℕ). Leads built_in (chars (take k bytes)) s es u) is (subst (λ (ns : List Reference). Leads ns (chars (take k part)) s es u) named leads)
 
-pub goes_on : AtCovers → AtStart → AtValid → RunsWait → PlacesCount → GuessBuilds → GoesOn
-goes_on covers begun valid waits places builds text n m f (Exact known) at fits utf8 from low sound entry is =
+pub goes_on : AtCovers → AtStart → AtValid → RunsWait → PlacesCount → GuessBuilds → GrownBuilds → GoesOn
+goes_on covers begun valid waits places builds grown text n m f (Exact known) at fits utf8 from low sound entry is =
     let all : take (length known.text) known.text ≡ known.text = take_all (length known.text) known.text (omega arith) in
-    covers text n m (length known.text) f.control known.exit f.tree known.edits at utf8 from (reaches text known.text n m (length known.text) is (omega arith) low)
-    (subst (λ (s : ControlState). Leads built_in (chars (take (length known.text) (slice_range text n m))) s known.edits known.exit) entry
-    (subst (λ (bytes : List ℕ). Leads built_in (chars bytes) known.entry known.edits known.exit) (sym all ∙ ap (take (length known.text)) is) sound.leads))
-goes_on covers begun valid waits places builds text n m f (Guessed g) at fits utf8 from low sound holds is =
+    let grows : Grows built_in (chars known.text) f.control known.grove known.outer known.exit =
+    subst (λ (s : ControlState). Grows built_in (chars known.text) s known.grove known.outer known.exit) entry sound.grows in
+    at_tree text (n + length known.text) known.exit (applied_all f.tree (map (named_edit f.control) grows.edits)) (grown_tree known.grove known.outer f.control f.tree)
+    (grown built_in (chars known.text) f.control known.exit known.grove known.outer f.tree grows (valid text n f.control f.tree at) (places text n f.control f.tree at))
+    (covers text n m (length known.text) f.control known.exit f.tree (map (named_edit f.control) grows.edits) at utf8 from (reaches text known.text n m (length known.text) is (omega arith) low)
+    (subst (λ (bytes : List ℕ). Leads built_in (chars bytes) f.control (map (named_edit f.control) grows.edits) known.exit) (sym all ∙ ap (take (length known.text)) is) grows.leads))
+goes_on covers begun valid waits places builds grown text n m f (Guessed g) at fits utf8 from low sound holds is =
     let may : MayStand g.names f.control = record {
       valid = valid text n f.control f.tree at;
       fits = fits;

@@ -1,14 +1,11 @@
 -- Which of the answers that are assumed are true of a state, one after the other.
 use Rattle.std.proofs.Common.{◌≡◌, ℕ, ◌+◌, ◌<◌, List, [], ◌∷◌, ◌++◌, All, length, take, get_or, subst, sym, ap, ◌∙◌}
-use Rattle.std.specs.Prelude.{Some, slice_get}
-use Rattle.std.proofs.lemmas.List.{take_all, take_more}
+use Rattle.std.proofs.lemmas.List.{take_more}
 use Rattle.std.proofs.lemmas.List.Elements.{All-push}
-use Rattle.std.proofs.lemmas.Option.{slice_get_read}
 use Rattle.hp_control.specs.declared.question.Kept.{Kept}
 use Rattle.hp_control.specs.Holds.{Holds}
 use Rattle.hp_control.specs.States.{ControlState}
 use Rattle.hp_control.specs.Truth.{answer_of}
-use Rattle.hp_merge.specs.Checked.{IsFirstFalse}
 
 abbrev IsTrueOf : ControlState → Kept → Type 0
 IsTrueOf s pair = answer_of s pair.question ≡ pair.answer

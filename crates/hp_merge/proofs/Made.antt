@@ -1,12 +1,11 @@
 -- Edits that are told over a known state, in a tree.
-use Rattle.std.proofs.Common.{◌≡◌, ℕ, zero, suc, ◌<◌, ◌^◌, ◌+◌, List, [], ◌∷◌, All, length, map, drop, refl, sym, ap, ap₂, ◌∙◌, subst, arith}
+use Rattle.std.proofs.Common.{◌≡◌, ℕ, zero, suc, ◌<◌, ◌^◌, ◌+◌, List, [], ◌∷◌, All, length, map, refl, sym, ap, ap₂, ◌∙◌, subst, arith}
 use Rattle.hp_control.specs.declared.edit.Edit.{Edit}
 use Rattle.hp_control.specs.declared.element.OpenElement.{OpenElement}
 use Rattle.hp_control.specs.Apply.{named_edit}
 use Rattle.hp_control.specs.Edits.{IsFixedEdit, room_of_all}
-use Rattle.hp_control.specs.Nothing.{nothing}
 use Rattle.hp_control.specs.States.{ControlState}
-use Rattle.hp_control.specs.Telling.{FixedMeansSame, NamedOver, ToldMakesSame, ToldOnce, ToldRoom, below, named_edit_over, told_over}
+use Rattle.hp_control.specs.Telling.{FixedMeansSame, NamedOver, ToldMakesSame, ToldRoom, below, named_edit_over, told_over}
 use Rattle.hp_control.specs.Tree.{Tree, applied_all}
 use Rattle.hp_control.proofs.TellingLemmas.{named_over}
 
@@ -19,16 +18,14 @@ pub told_room_all : ToldRoom → (stack : List OpenElement) (next : ℕ) (es : L
 told_room_all law stack next [] = refl
 told_room_all law stack next (e ∷ es) = ap₂ (λ a b. a + b) (law stack next e) (told_room_all law stack next es)
 
-told_once_all : ToldOnce → (stack : List OpenElement) (next : ℕ) (es : List Edit) → map (named_edit nothing) (map (told_over stack next) es) ≡ map (told_over stack next) es
-told_once_all law stack next [] = refl
-told_once_all law stack next (e ∷ es) = ap₂ (λ a b. a ∷ b) (law stack next e) (told_once_all law stack next es)
+pub told_length : (stack : List OpenElement) (next : ℕ) (es : List Edit) → length (map (told_over stack next) es) ≡ length es
+told_length stack next [] = refl
+told_length stack next (e ∷ es) = ap suc (told_length stack next es)
 
 -- a tree whose elements are counted, once the edits that were told are made in it
-pub told_made : ToldOnce → ToldMakesSame → (stack : List OpenElement) (next : ℕ) (t new : Tree) (es : List Edit)
-    → new ≡ applied_all t (map (named_edit nothing) (map (told_over stack next) es)) → length new < 2 ^ 64 → new ≡ applied_all t (map (named_edit_over stack next) es)
-told_made once same stack next t new es made counted =
-    let told : new ≡ applied_all t (map (told_over stack next) es) = made ∙ ap (applied_all t) (told_once_all once stack next es) in
-    told ∙ same (below stack next) t es (subst (λ (x : Tree). length x < 2 ^ 64) told counted)
+pub told_applied : ToldMakesSame → (stack : List OpenElement) (next : ℕ) (t new : Tree) (es : List Edit)
+    → new ≡ applied_all t (map (told_over stack next) es) → length new < 2 ^ 64 → new ≡ applied_all t (map (named_edit_over stack next) es)
+told_applied same stack next t new es made counted = made ∙ same (below stack next) t es (subst (λ (x : Tree). length x < 2 ^ 64) made counted)
 
 -- what is told over a state's stack is told over the state
 named_over_all : NamedOver → (s : ControlState) (es : List Edit) → map (named_edit_over s.stack s.next) es ≡ map (named_edit s) es

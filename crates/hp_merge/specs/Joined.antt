@@ -1,6 +1,7 @@
 -- What a fragment makes of the front.
 use Rattle.hp_control.specs.States.{ControlState}
-use Rattle.hp_control.specs.Tree.{Tree, applied_all}
+use Rattle.hp_control.specs.Tree.{Tree}
+use Rattle.hp_pieces.specs.Growth.{grown_tree}
 use Rattle.hp_pieces.specs.Guesses.{state_behind, tree_behind}
 use Rattle.hp_pieces.specs.declared.fragment.Fragment.{Fragment}
 use Rattle.hp_pieces.specs.declared.fragment.Fragment.TheVariants.{Exact, Guessed}
@@ -13,7 +14,7 @@ exit_over s (Guessed f) = state_behind f s
 
 -- what it makes of the tree of this state
 abbrev pub tree_over : ControlState → Fragment → Tree → Tree
-tree_over s (Exact known) t = applied_all t known.edits
+tree_over s (Exact known) t = grown_tree known.grove known.outer s t
 tree_over s (Guessed f) t = tree_behind f s t
 
 abbrev pub joined : Fore → Fragment → Fore

@@ -3,5 +3,6 @@ pub mod Fore
 pub mod Sound
 pub mod Joined
 pub mod Checked
+pub mod Cost
 pub mod Parts
 pub mod Laws

@@ -1,11 +1,13 @@
 //! Whether a fragment may be joined to a state.
-ghost use Rattle.std.specs.Prelude.{◌≡◌, MatchOption};
+ghost use Rattle.std.specs.Prelude.{◌≡◌, ◌+◌, ◌≤◌, MatchOption, length};
 ghost use Rattle.hp_control.specs.Holds.{Holds};
 ghost use Rattle.hp_names.specs.BuiltIn.{built_in};
 ghost use Rattle.hp_pieces.specs.Guesses.{IsSound};
 
 use hp_control::{Answer, Control, Kept, Question, truth};
 use hp_pieces::{Fragment, Guessed};
+use hp_steps::Steps;
+use std::sync::ledger::Ledger;
 
 /// What comes of looking at a fragment over a known state.
 #[derive(Clone, Copy)]
@@ -22,6 +24,7 @@ pub enum Checked<'f> {
 }
 
 ghost use Rattle.hp_merge.specs.Checked.{IsChecked, IsFirstFalse};
+ghost use Rattle.hp_merge.specs.Cost.{check_cost};
 ghost use Rattle.hp_merge.specs.Sound.{IsSoundFragment};
 
 /// Each fragment is sound over the built-in names: this hands the fact to whoever has one.
@@ -44,9 +47,14 @@ pub(crate) fn is_sound_guess(guessed: &Guessed<'_>)
     let _text = guessed.text();
 }
 
-/// What comes of looking at a fragment over this state. It takes no memory.
-pub(crate) fn check<'f>(control: &Control, fragment: &'f Fragment<'_>) -> Checked<'f>
-    ensures { IsChecked control.now fragment.now result }
+/// What comes of looking at a fragment over this state. It takes no memory, and a step for each answer that is looked at.
+pub(crate) fn check<'f, L: Ledger>(
+    control: &Control,
+    fragment: &'f Fragment<'_>,
+    steps: &mut Steps<L>,
+) -> Checked<'f>
+    ensures checked { IsChecked control.now fragment.now result }
+    ensures cost { steps.new ≤ steps.old + check_cost fragment.now }
 {
     match fragment {
         Fragment::Exact(exact) => {
@@ -56,19 +64,26 @@ pub(crate) fn check<'f>(control: &Control, fragment: &'f Fragment<'_>) -> Checke
                 Checked::OtherEntry
             }
         }
-        Fragment::Guessed(guessed) => match first_false(control, guessed.assumptions().as_slice()) {
-            None => Checked::Holds,
-            Some(Kept { question, answer }) => Checked::Fails { question, answer },
-        },
+        Fragment::Guessed(guessed) => {
+            match first_false(control, guessed.assumptions().as_slice(), steps) {
+                None => Checked::Holds,
+                Some(Kept { question, answer }) => Checked::Fails { question, answer },
+            }
+        }
     }
 }
 
 /// The first pair of which the answer isn't the true one.
-fn first_false<'f>(control: &Control, kept: &'f [Kept]) -> Option<&'f Kept>
-    ensures { MatchOption result (Holds kept.now control.now) (λ pair. IsFirstFalse control.now kept.now pair.now.question pair.now.answer) }
+fn first_false<'f, L: Ledger>(
+    control: &Control,
+    kept: &'f [Kept],
+    steps: &mut Steps<L>,
+) -> Option<&'f Kept>
+    ensures first { MatchOption result (Holds kept.now control.now) (λ pair. IsFirstFalse control.now kept.now pair.now.question pair.now.answer) }
+    ensures cost { steps.new ≤ steps.old + length kept.now }
 {
     for pair in kept {
-        if !truth(control, &pair.question, &pair.answer) {
+        if !truth(control, &pair.question, &pair.answer, steps) {
             return Some(pair);
         }
     }

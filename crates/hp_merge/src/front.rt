@@ -1,5 +1,5 @@
 //! The front.
-ghost use Rattle.std.specs.Prelude.{◌≡◌, IfOk, IfErr, OnOk, OnErr};
+ghost use Rattle.std.specs.Prelude.{◌≡◌, ◌+◌, ◌≤◌, IfOk, IfErr, OnOk, OnErr};
 ghost use Rattle.hp_control.specs.States.{Fits, start};
 ghost use Rattle.hp_control.specs.Tree.{applied_all, document};
 
@@ -9,9 +9,11 @@ use hp_arena::Tree;
 use hp_control::Control;
 use hp_elements::NoMemory;
 use hp_pieces::{Ending, Exact, Fragment, Guessed};
+use hp_steps::Steps;
 use std::alloc::Global;
 use std::marker::Model;
 use std::mem;
+use std::sync::ledger::Ledger;
 
 /// The state and the tree behind the text of a page that was joined so far. A contract sees it as a `Fore`.
 pub struct Front<'p> {
@@ -44,6 +46,7 @@ pub struct JoinRefusal<'p> {
 
 impl<'p> Front<'p> {
     ghost use Rattle.hp_merge.specs.Checked.{IsChecked, MayJoin};
+    ghost use Rattle.hp_merge.specs.Cost.{check_cost, join_cost};
     ghost use Rattle.hp_merge.specs.Joined.{joined};
     ghost use Rattle.hp_pieces.specs.declared.fragment.Fragment.TheVariants as fragment_of;
 
@@ -73,35 +76,54 @@ impl<'p> Front<'p> {
     }
 
     /// Whether a fragment may be joined, and if not, which answer that it assumes is the first that isn't the true one. It takes no
-    /// memory.
-    pub fn check<'f>(&self, fragment: &'f Fragment<'_>) -> Checked<'f>
-        ensures { IsChecked self.now.control fragment.now result }
+    /// memory, and a step for each answer that is looked at.
+    pub fn check<'f, L: Ledger>(
+        &self,
+        fragment: &'f Fragment<'_>,
+        steps: &mut Steps<L>,
+    ) -> Checked<'f>
+        ensures checked { IsChecked self.now.control fragment.now result }
+        ensures cost { steps.new ≤ steps.old + check_cost fragment.now }
     {
-        check(&self.control, fragment)
+        check(&self.control, fragment, steps)
     }
 
-    /// Joins a fragment: the front is then the state and the tree behind what the fragment covers. `Err` is want of memory, which hands
-    /// the fragment back.
-    pub fn join(&mut self, alloc: Global, fragment: Fragment<'p>) -> Result<(), JoinRefusal<'p>>
+    /// Joins a fragment: the front is then the state and the tree behind what the fragment covers. It takes a step for each entry that is
+    /// put on top and for each edit that is made; that what a fragment has made is put behind the tree counts for nothing. `Err` is want of
+    /// memory, which hands the fragment back.
+    pub fn join<L: Ledger>(
+        &mut self,
+        alloc: Global,
+        fragment: Fragment<'p>,
+        steps: &mut Steps<L>,
+    ) -> Result<(), JoinRefusal<'p>>
         requires fits { Fits self.old.control }
         requires holds { MayJoin self.old.control fragment }
         ensures ok { OnOk result (self.new ≡ joined self.old fragment.entry) }
         ensures err { OnErr result (self.new ≡ self.old) }
         ensures back { IfErr result (λ refusal. refusal.fragment ≡ fragment.entry) }
+        ensures cost { steps.new ≤ steps.old + join_cost fragment.entry }
     {
         match fragment {
-            Fragment::Exact(exact) => self.join_exact(alloc, exact),
-            Fragment::Guessed(guess) => self.join_guess(alloc, guess),
+            Fragment::Exact(exact) => self.join_exact(alloc, exact, steps),
+            Fragment::Guessed(guess) => self.join_guess(alloc, guess, steps),
         }
     }
 
     /// Joins what is exact from this state.
-    fn join_exact(&mut self, alloc: Global, exact: Exact<'p>) -> Result<(), JoinRefusal<'p>>
+    fn join_exact<L: Ledger>(
+        &mut self,
+        alloc: Global,
+        exact: Exact<'p>,
+        steps: &mut Steps<L>,
+    ) -> Result<(), JoinRefusal<'p>>
+        requires holds { MayJoin self.old.control (fragment_of.Exact exact) }
         ensures ok { OnOk result (self.new ≡ joined self.old (fragment_of.Exact exact.entry)) }
         ensures err { OnErr result (self.new ≡ self.old) }
         ensures back { IfErr result (λ refusal. refusal.fragment ≡ fragment_of.Exact exact.entry) }
+        ensures cost { steps.new ≤ steps.old + join_cost (fragment_of.Exact exact.entry) }
     {
-        match join_exact(alloc, &mut self.tree, exact) {
+        match join_exact(alloc, &mut self.tree, exact, steps) {
             Ok(exit) => {
                 self.control = exit;
                 Ok(())
@@ -113,18 +135,24 @@ impl<'p> Front<'p> {
     }
 
     /// Joins a guess of which the answers are true.
-    fn join_guess(&mut self, alloc: Global, guess: Guessed<'p>) -> Result<(), JoinRefusal<'p>>
+    fn join_guess<L: Ledger>(
+        &mut self,
+        alloc: Global,
+        guess: Guessed<'p>,
+        steps: &mut Steps<L>,
+    ) -> Result<(), JoinRefusal<'p>>
         requires fits { Fits self.old.control }
         requires holds { MayJoin self.old.control (fragment_of.Guessed guess) }
         ensures ok { OnOk result (self.new ≡ joined self.old (fragment_of.Guessed guess.entry)) }
         ensures err { OnErr result (self.new ≡ self.old) }
         ensures back { IfErr result (λ refusal. refusal.fragment ≡ fragment_of.Guessed guess.entry) }
+        ensures cost { steps.new ≤ steps.old + join_cost (fragment_of.Guessed guess.entry) }
     {
         if guess.covered() == 0 {
             return Ok(());
         }
         let control = mem::replace(&mut self.control, Control::start());
-        match joined_to(alloc, control, &mut self.tree, guess) {
+        match joined_to(alloc, control, &mut self.tree, guess, steps) {
             Ok(control) => {
                 self.control = control;
                 Ok(())

@@ -1,10 +1,11 @@
 //! How a fragment is joined: what may want memory comes first, and where there is none all stays as it was.
-ghost use Rattle.std.specs.Prelude.{◌≡◌, ◌<◌, ◌≤◌, map, IfOk, IfErr, OnOk, OnErr};
-ghost use Rattle.hp_control.specs.Apply.{applied, named_edit};
+ghost use Rattle.std.specs.Prelude.{◌≡◌, ◌+◌, ◌<◌, ◌≤◌, length, IfOk, IfErr, OnOk, OnErr};
+ghost use Rattle.hp_control.specs.Apply.{applied};
 ghost use Rattle.hp_control.specs.Holds.{Holds};
 ghost use Rattle.hp_control.specs.States.{Fits};
 ghost use Rattle.hp_control.specs.Tree.{applied_all};
 ghost use Rattle.hp_groves.specs.Grafts.{graft};
+ghost use Rattle.hp_pieces.specs.Growth.{grown_tree};
 
 use crate::checking::is_sound_guess;
 use crate::laying::{lay, take_off};
@@ -14,27 +15,53 @@ use crate::settling::settle;
 use hp_arena::{GraftRefusal, Tree};
 use hp_control::{Change, Control, Edits};
 use hp_elements::NoMemory;
-use hp_pieces::{Ending, Exact, Guessed, GuessedParts};
+use hp_pieces::{Ending, Exact, ExactParts, Guessed, GuessedParts};
+use hp_steps::Steps;
 use std::alloc::Global;
+use std::sync::ledger::Ledger;
 
-/// Makes the edits of what is exact, and answers the state behind it. At an `Err`, which is want of memory, the tree is as before
-/// and the fragment comes back.
-pub(crate) fn join_exact<'p>(
+/// Joins what is exact to the tree of its entry, and answers the state behind it: what its inner edits made is put behind the tree, and
+/// then its outer edits are made. At an `Err`, which is want of memory, the tree is as before and the fragment comes back.
+pub(crate) fn join_exact<'p, L: Ledger>(
     alloc: Global,
     tree: &mut Tree<'p>,
     exact: Exact<'p>,
+    steps: &mut Steps<L>,
 ) -> Result<Control, Exact<'p>>
     ensures exit { IfOk result (λ exit. exit ≡ exact.entry.exit) }
-    ensures tree { OnOk result (tree.new.branches ≡ applied_all tree.old.branches exact.entry.edits) }
+    ensures tree { OnOk result (tree.new.branches ≡ grown_tree exact.entry.grove exact.entry.outer exact.entry.entry tree.old.branches) }
     ensures kept { OnErr result (tree.new.branches ≡ tree.old.branches) }
     ensures back { IfErr result (λ back. back ≡ exact.entry) }
+    ensures cost { steps.new ≤ steps.old + length exact.entry.outer }
 {
-    if tree.reserve(alloc, exact.edits()).is_err() {
+    if tree.reserve(alloc, exact.outer()).is_err() {
         return Err(exact);
     }
-    let (_, exit, edits) = exact.into_parts();
-    make_fixed(alloc, tree, edits);
+    let (entry, exit, outer) = graft_exact(alloc, tree, exact)?;
+    make_over(alloc, tree, outer, &entry.stack, 0, entry.next, steps);
     Ok(exit)
+}
+
+/// Puts what the inner edits of what is exact made behind the tree, and answers the states before and behind it and the outer edits. At
+/// an `Err`, which is want of memory, the tree is as before and the fragment comes back.
+fn graft_exact<'p>(
+    alloc: Global,
+    tree: &mut Tree<'p>,
+    exact: Exact<'p>,
+) -> Result<(Control, Control, Edits<'p>), Exact<'p>>
+    ensures entry { IfOk result (λ rest. rest.0 ≡ exact.entry.entry) }
+    ensures exit { IfOk result (λ rest. rest.1 ≡ exact.entry.exit) }
+    ensures outer { IfOk result (λ rest. rest.2 ≡ exact.entry.outer) }
+    ensures tree { OnOk result (tree.new.branches ≡ graft tree.old.branches exact.entry.grove) }
+    ensures room { OnOk result (tree.old.spare ≤ tree.new.spare) }
+    ensures kept { OnErr result (tree.new ≡ tree.old) }
+    ensures back { IfErr result (λ back. back ≡ exact.entry) }
+{
+    let parts = exact.into_parts();
+    match tree.graft(alloc, parts.grove) {
+        Ok(()) => Ok((parts.entry, parts.exit, parts.outer)),
+        Err(GraftRefusal { grove }) => Err(ExactParts { grove, ..parts }.together()),
+    }
 }
 
 /// Makes the edits of the end of input. `Err` is want of memory.
@@ -55,19 +82,21 @@ pub(crate) fn end_tree<'p>(
 
 /// Joins a guess to this state and its tree, and answers the state behind it: what its inner edits made is put behind the tree, and then
 /// its outer edits are made. At an `Err`, which is want of memory, the tree is as before, and the state and the guess come back.
-pub(crate) fn joined_to<'p>(
+pub(crate) fn joined_to<'p, L: Ledger>(
     alloc: Global,
     control: Control,
     tree: &mut Tree<'p>,
     guess: Guessed<'p>,
+    steps: &mut Steps<L>,
 ) -> Result<Control, (Control, Guessed<'p>)>
     requires fits { Fits control }
     requires holds { Holds guess.assumptions control }
     requires covers { 0 < guess.covered }
     ensures control { IfOk result (λ behind. behind ≡ applied guess.entry.change control) }
-    ensures tree { OnOk result (tree.new.branches ≡ applied_all (graft tree.old.branches guess.entry.grove) (map (named_edit control) guess.entry.outer)) }
+    ensures tree { OnOk result (tree.new.branches ≡ grown_tree guess.entry.grove guess.entry.outer control tree.old.branches) }
     ensures kept { OnErr result (tree.new.branches ≡ tree.old.branches) }
     ensures back { IfErr result (λ back. (back.0 ≡ control) × (back.1 ≡ guess.entry)) }
+    ensures cost { steps.new ≤ steps.old + (length guess.entry.outer + (length guess.entry.change.stack + length guess.entry.change.formatting)) }
 {
     control.is_kept();
     is_sound_guess(&guess);
@@ -79,13 +108,13 @@ pub(crate) fn joined_to<'p>(
         return Err((control, guess));
     }
     let mut parts = Parts::of(control);
-    let Ok(pending) = lay(alloc, guess.change(), &mut parts) else {
+    let Ok(pending) = lay(alloc, guess.change(), &mut parts, steps) else {
         return Err((parts.together(), guess));
     };
-    match graft(alloc, tree, guess) {
+    match graft_guess(alloc, tree, guess) {
         Ok((change, outer)) => {
             let above = change.stack.len();
-            make_over(alloc, tree, outer, &parts.stack, above, parts.next);
+            make_over(alloc, tree, outer, &parts.stack, above, parts.next, steps);
             Ok(settle(change, next, pending, parts).together())
         }
         Err(guess) => {
@@ -97,7 +126,7 @@ pub(crate) fn joined_to<'p>(
 
 /// Puts what the inner edits of a guess made behind the tree, and answers the change and the outer edits. At an `Err`, which is want of
 /// memory, the tree is as before and the guess comes back.
-fn graft<'p>(
+fn graft_guess<'p>(
     alloc: Global,
     tree: &mut Tree<'p>,
     guess: Guessed<'p>,

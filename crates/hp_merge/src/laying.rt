@@ -1,12 +1,14 @@
 //! What a chunk keeps of its own, copied with its ids counted on, and put on top of the older ones.
-ghost use Rattle.std.specs.Prelude.{◌≡◌, ◌+◌, ◌<◌, ◌^◌, ◌∷◌, ◌++◌, All, map, IfOk, OnOk, OnErr};
+ghost use Rattle.std.specs.Prelude.{◌≡◌, ◌+◌, ◌<◌, ◌≤◌, ◌^◌, ◌∷◌, ◌++◌, All, length, map, IfOk, OnOk, OnErr};
 ghost use Rattle.hp_control.specs.Apply.{shifted, shifted_entry, IsShiftable};
 ghost use Rattle.hp_merge.specs.Parts.{laid, laid_others, taken_off, AreCounted, IsPending, StandOnTop};
 
 use crate::parts::Parts;
 use hp_control::{Change, FormattingEntry, OpenElement, OpenElements, Stack, put_listed, put_open};
 use hp_elements::{Mode, NoMemory, Text};
+use hp_steps::Steps;
 use std::alloc::Global;
+use std::sync::ledger::Ledger;
 
 /// Puts the template modes on top of the older ones. At an `Err`, which is want of memory, these are as before.
 fn lay_modes(alloc: Global, own: &Stack<Mode>, modes: &mut Stack<Mode>) -> Result<(), NoMemory>
@@ -25,19 +27,21 @@ fn lay_modes(alloc: Global, own: &Stack<Mode>, modes: &mut Stack<Mode>) -> Resul
 
 /// Puts the elements on top of the older ones, their ids counted from this one on. At an `Err`, which is want of memory, these are
 /// as before.
-fn lay_elements(
+fn lay_elements<L: Ledger>(
     alloc: Global,
     own: &OpenElements,
     next: u64,
     stack: &mut OpenElements,
+    steps: &mut Steps<L>,
 ) -> Result<(), NoMemory>
     requires counted { All (λ e. next + e.id < 2 ^ 64) own.now }
     ensures ok { OnOk result (stack.new ≡ map (shifted next) own.now ++ stack.old) }
     ensures err { OnErr result (stack.new ≡ stack.old) }
+    ensures cost { steps.new ≤ steps.old + length own.now }
 {
     let count = own.len();
     for turn in 0..count {
-        if lay_element(alloc, own.at(count - 1 - turn), next, stack).is_err() {
+        if lay_element(alloc, own.at(count - 1 - turn), next, stack, steps).is_err() {
             stack.drop_top(turn);
             return Err(NoMemory);
         }
@@ -46,36 +50,40 @@ fn lay_elements(
 }
 
 /// Puts one element on top.
-fn lay_element(
+fn lay_element<L: Ledger>(
     alloc: Global,
     element: &OpenElement,
     next: u64,
     stack: &mut OpenElements,
+    steps: &mut Steps<L>,
 ) -> Result<(), NoMemory>
     requires { next + element.now.id < 2 ^ 64 }
     ensures ok { OnOk result (stack.new ≡ shifted next element.now ∷ stack.old) }
     ensures err { OnErr result (stack.new ≡ stack.old) }
+    ensures cost { steps.new ≤ steps.old + 1 }
 {
     let copy = element.shifted(alloc, next)?;
-    put_open(alloc, stack, copy)?;
+    put_open(alloc, stack, copy, steps)?;
     Ok(())
 }
 
 /// Puts the formatting entries on top of the older ones, their ids counted from this one on. At an `Err`, which is want of memory,
 /// these are as before.
-fn lay_entries(
+fn lay_entries<L: Ledger>(
     alloc: Global,
     own: &Stack<FormattingEntry>,
     next: u64,
     list: &mut Stack<FormattingEntry>,
+    steps: &mut Steps<L>,
 ) -> Result<(), NoMemory>
     requires counted { All (IsShiftable next) own.now }
     ensures ok { OnOk result (list.new ≡ map (shifted_entry next) own.now ++ list.old) }
     ensures err { OnErr result (list.new ≡ list.old) }
+    ensures cost { steps.new ≤ steps.old + length own.now }
 {
     let count = own.len();
     for turn in 0..count {
-        if lay_entry(alloc, own.at(count - 1 - turn), next, list).is_err() {
+        if lay_entry(alloc, own.at(count - 1 - turn), next, list, steps).is_err() {
             list.drop_top(turn);
             return Err(NoMemory);
         }
@@ -84,35 +92,39 @@ fn lay_entries(
 }
 
 /// Puts one formatting entry on top.
-fn lay_entry(
+fn lay_entry<L: Ledger>(
     alloc: Global,
     entry: &FormattingEntry,
     next: u64,
     list: &mut Stack<FormattingEntry>,
+    steps: &mut Steps<L>,
 ) -> Result<(), NoMemory>
     requires { IsShiftable next entry.now }
     ensures ok { OnOk result (list.new ≡ shifted_entry next entry.now ∷ list.old) }
     ensures err { OnErr result (list.new ≡ list.old) }
+    ensures cost { steps.new ≤ steps.old + 1 }
 {
     let copy = entry.shifted(alloc, next)?;
-    put_listed(alloc, list, copy)?;
+    put_listed(alloc, list, copy, steps)?;
     Ok(())
 }
 
 /// Puts all that a chunk keeps of its own on top of the older ones, which stay for now, and answers its pending table characters behind
 /// the older ones. At an `Err`, which is want of memory, the parts are as before.
-pub(crate) fn lay(
+pub(crate) fn lay<L: Ledger>(
     alloc: Global,
     change: &Change,
     parts: &mut Parts,
+    steps: &mut Steps<L>,
 ) -> Result<Option<Text<'static>>, NoMemory>
     requires counted { AreCounted parts.old.next change.now }
     ensures pending { IfOk result (IsPending change.now.pending parts.old.pending) }
     ensures ok { OnOk result (parts.new ≡ laid change.now parts.old) }
     ensures err { OnErr result (parts.new ≡ parts.old) }
+    ensures cost { steps.new ≤ steps.old + (length change.now.stack + length change.now.formatting) }
 {
     let pending = pending_over(alloc, &change.pending, &parts.pending)?;
-    lay_stacks(alloc, change, parts)?;
+    lay_stacks(alloc, change, parts, steps)?;
     Ok(pending)
 }
 
@@ -134,13 +146,19 @@ fn pending_over(
 
 /// Puts the template modes, elements and formatting entries on top of the older ones. At an `Err`, which is want of memory, the parts
 /// are as before.
-fn lay_stacks(alloc: Global, change: &Change, parts: &mut Parts) -> Result<(), NoMemory>
+fn lay_stacks<L: Ledger>(
+    alloc: Global,
+    change: &Change,
+    parts: &mut Parts,
+    steps: &mut Steps<L>,
+) -> Result<(), NoMemory>
     requires counted { AreCounted parts.old.next change.now }
     ensures ok { OnOk result (parts.new ≡ laid change.now parts.old) }
     ensures err { OnErr result (parts.new ≡ parts.old) }
+    ensures cost { steps.new ≤ steps.old + (length change.now.stack + length change.now.formatting) }
 {
     lay_modes(alloc, &change.templates, &mut parts.templates)?;
-    if lay_others(alloc, change, parts).is_err() {
+    if lay_others(alloc, change, parts, steps).is_err() {
         parts.templates.drop_top(change.templates.len());
         return Err(NoMemory);
     }
@@ -148,13 +166,26 @@ fn lay_stacks(alloc: Global, change: &Change, parts: &mut Parts) -> Result<(), N
 }
 
 /// The same of all but the template modes.
-fn lay_others(alloc: Global, change: &Change, parts: &mut Parts) -> Result<(), NoMemory>
+fn lay_others<L: Ledger>(
+    alloc: Global,
+    change: &Change,
+    parts: &mut Parts,
+    steps: &mut Steps<L>,
+) -> Result<(), NoMemory>
     requires counted { AreCounted parts.old.next change.now }
     ensures ok { OnOk result (parts.new ≡ laid_others change.now parts.old) }
     ensures err { OnErr result (parts.new ≡ parts.old) }
+    ensures cost { steps.new ≤ steps.old + (length change.now.stack + length change.now.formatting) }
 {
-    lay_elements(alloc, &change.stack, parts.next, &mut parts.stack)?;
-    if lay_entries(alloc, &change.formatting, parts.next, &mut parts.formatting).is_err() {
+    lay_elements(alloc, &change.stack, parts.next, &mut parts.stack, steps)?;
+    let laid = lay_entries(
+        alloc,
+        &change.formatting,
+        parts.next,
+        &mut parts.formatting,
+        steps,
+    );
+    if laid.is_err() {
         parts.stack.drop_top(change.stack.len());
         return Err(NoMemory);
     }

@@ -7,9 +7,11 @@ use Rattle.hp_merge.proofs.Holding.{holds_more}
 use Rattle.hp_merge.proofs.checking.first_false.Goals as goal
 
 pub loop-pair-preserved : goal.loop-pair-preserved
-loop-pair-preserved c =
-    let here : answer_of c.args.control.now c.pair-item.result.question ≡ c.pair-item.result.answer = search rules in
-    holds_more c.args.control.now c.args.kept.now c.loop-pair.pair-index c.pair-item.result (omega arith) c.pair-item.is c.loop-pair.invariant here
+loop-pair-preserved g c =
+    let here : answer_of c.args.control.now c.pair-item.result.question ≡ c.pair-item.result.answer = search rules in (
+      holds_more c.args.control.now c.args.kept.now c.loop-pair.pair-index c.pair-item.result (omega arith) c.pair-item.is c.loop-pair.invariant.0 here,
+      omega (arith, c.loop-pair.invariant.1, c.truth.ensures.steps),
+    )
 
-pub returns : goal.returns
-returns c = subst (λ (kept : List Kept). Holds kept c.args.control.now) (take_all c.loop-pair.pair-index c.args.kept.now (omega arith)) c.loop-pair.invariant
+pub returns-clause-first : goal.returns-clause-first
+returns-clause-first g c = subst (λ (kept : List Kept). Holds kept c.args.control.now) (take_all c.loop-pair.pair-index c.args.kept.now (omega arith)) c.loop-pair.invariant.0

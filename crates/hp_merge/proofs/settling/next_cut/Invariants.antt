@@ -1,4 +1,4 @@
-use Rattle.std.proofs.Common.{◌≡◌, ◌≤◌, drop}
+use Rattle.std.proofs.Common.{◌≡◌, drop}
 use Rattle.hp_control.specs.Walks.{cleared}
 use Rattle.hp_merge.proofs.settling.next_cut.Given as goal
 
