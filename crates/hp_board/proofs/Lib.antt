@@ -9,6 +9,6 @@ pub mod Rests
 pub mod Posting
 pub mod Claiming
 pub mod Commits
-pub mod FirstFalse
 pub mod Recalls
 pub mod Ending
+pub mod Costs

@@ -1,12 +1,10 @@
 -- What each call of a board does.
-use Rattle.std.specs.Prelude.{◌≡◌, ◌≢◌, ◌==◌, ◌||◌, ◌+◌, ◌<◌, ℕ, zero, suc, List, [], ◌∷◌, ◌++◌, Bool, true, false, Option, Some, None, IfSome, MatchOption, count_by, is_some, length, nat_lt, replicate, slice_set}
+use Rattle.std.specs.Prelude.{◌≡◌, ◌≢◌, ◌==◌, ◌||◌, ◌+◌, ◌<◌, ℕ, zero, suc, List, [], ◌∷◌, ◌++◌, Bool, true, false, Option, Some, None, IfSome, count_by, is_some, length, nat_lt, replicate, slice_get, slice_set}
 use Rattle.std.specs.List.{list_all}
 use Rattle.hp_text.specs.Page.{text_of as page_text}
-use Rattle.hp_control.specs.Holds.{Holds}
 use Rattle.hp_control.specs.States.{ControlState, start}
 use Rattle.hp_control.specs.Tree.{document}
 use Rattle.hp_control.specs.declared.question.Answer.{Answer}
-use Rattle.hp_control.specs.declared.question.Kept.{Kept}
 use Rattle.hp_control.specs.declared.question.Question.{Question}
 use Rattle.hp_cut.specs.Places.{Cutting}
 use Rattle.hp_pieces.specs.Texts.{IsExactFrom, covered_of, text_of}
@@ -124,21 +122,22 @@ abbrev pub IsFalseOf : ControlState → Fragment → Question → Answer → Typ
 IsFalseOf s (fragment.Guessed guess) question answer = IsFirstFalse s guess.assumptions question answer
 IsFalseOf s (fragment.Exact _) question answer = ⊥
 
--- the first pair of a list that is false of the state, if one is
-abbrev pub IsSeen : ControlState → List Kept → Option Kept → Type 0
-IsSeen s kept found = MatchOption found (Holds kept s) (λ pair. IsFirstFalse s kept pair.question pair.answer)
+-- the fragment assumes this pair at that place
+abbrev pub IsAssumedAt : Fragment → ℕ → Question → Answer → Type 0
+IsAssumedAt (fragment.Guessed guess) place question answer = slice_get guess.assumptions place ≡ Some (record { question = question; answer = answer })
+IsAssumedAt (fragment.Exact _) place question answer = ⊥
 
 -- what the front chunk's fragment assumes is true
 abbrev pub MayCommit : Desk → Type 0
 MayCommit desk = (posted : Fragment) × (slot_at desk desk.done ≡ slot.Posted posted) × MayJoin desk.control posted
 
--- or the first pair that isn't is of this kind
-abbrev pub MayRollBack : Desk → QuestionKind → Type 0
-MayRollBack desk kind = (posted : Fragment) × (question : Question) × (answer : Answer) × (slot_at desk desk.done ≡ slot.Posted posted) × IsFalseOf desk.control posted question answer × (kind ≡ kind_of question) × IsToldOf posted
+-- or the first pair that isn't is of this kind and stands at that place
+abbrev pub MayRollBack : Desk → QuestionKind → ℕ → Type 0
+MayRollBack desk kind place = (posted : Fragment) × (question : Question) × (answer : Answer) × (slot_at desk desk.done ≡ slot.Posted posted) × IsFalseOf desk.control posted question answer × (kind ≡ kind_of question) × IsToldOf posted × IsAssumedAt posted place question answer
 
 abbrev pub IsLookedAt : Desk → Look → Type 0
 IsLookedAt desk look.Holds = MayCommit desk
-IsLookedAt desk (look.Fails kind) = MayRollBack desk kind
+IsLookedAt desk (look.Fails kind place) = MayRollBack desk kind place
 
 -- what the judgement of the front chunk's fragment is
 abbrev pub IsJudged : Desk → ℕ → Fragment → Desk → Advance → Type 0

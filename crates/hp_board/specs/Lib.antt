@@ -6,4 +6,5 @@ pub mod Fair
 pub mod Tallies
 pub mod Desk
 pub mod Calls
+pub mod Cost
 pub mod FairLaws

@@ -1,8 +1,8 @@
 //! Judgements of the front chunk.
-ghost use Rattle.std.specs.Prelude.{◌≡◌, ◌<◌, List, ◌∷◌, IfNone, IfOk, IfSome, OnErr, false, length};
-ghost use Rattle.hp_control.specs.declared.question.Kept.{Kept as KeptOf};
+ghost use Rattle.std.specs.Prelude.{◌≡◌, ◌+◌, ◌<◌, ◌≤◌, IfNone, IfOk, IfSome, OnErr, false, length};
 ghost use Rattle.hp_board.specs.declared.slot.Slot.TheVariants as slot;
-ghost use Rattle.hp_board.specs.Calls.{IsAdvance, IsLookedAt, IsSeen, MayCommit, MayRollBack};
+ghost use Rattle.hp_board.specs.Calls.{IsAdvance, IsLookedAt, MayCommit, MayRollBack};
+ghost use Rattle.hp_board.specs.Cost.{advance_cost, commit_cost, look_cost};
 ghost use Rattle.hp_board.specs.Desk.{SamePage, slot_at, statuses};
 ghost use Rattle.hp_board.specs.Machine.{at, is_posted};
 ghost use Rattle.hp_board.specs.Tallies.{IsLater, IsRaised, IsRaisedUnlessIdle};
@@ -11,57 +11,71 @@ use crate::board::Board;
 use crate::journal::{BoardStep, Entry};
 use crate::kinds::{QuestionKind, kind_of};
 use crate::laws::stays_fair;
+use crate::pairs::{pair_at, place_in};
 use crate::posts::told;
 use crate::slot::Slot;
 use crate::steps::Advance;
 use crate::tally::Tally;
-use hp_control::{Assumptions, Control, Kept, truth};
+use hp_control::Kept;
 use hp_elements::NoMemory;
 use hp_merge::{Checked, fronts_go_on, is_sound};
 use hp_pieces::Fragment;
+use hp_steps::Steps;
 use std::alloc::Global;
 use std::mem;
+use std::sync::ledger::Ledger;
 
 /// What comes of looking at the front chunk's fragment.
 #[derive(Clone, Copy)]
 enum Look {
     /// What it assumes is true.
     Holds,
-    /// The first answer that it assumes and that isn't the true one is to a question of this kind.
-    Fails(QuestionKind),
+    /// The first pair that it assumes and that is false is of this kind, and stands at this place.
+    Fails { kind: QuestionKind, place: usize },
 }
 
 impl<'p> Board<'p> {
     /// Judges the front chunk. `Idle` where it isn't posted. Where its fragment assumes what isn't true of the front, it is rolled back;
-    /// else what it covers is committed. `Err` is want of memory.
-    pub fn advance(&mut self, alloc: Global, tally: &mut Tally) -> Result<Advance, NoMemory>
+    /// else what it covers is committed. It takes no more steps than that fragment costs, whatever the chunk's length. `Err` is want of
+    /// memory.
+    pub fn advance<L: Ledger>(
+        &mut self,
+        alloc: Global,
+        tally: &mut Tally,
+        steps: &mut Steps<L>,
+    ) -> Result<Advance, NoMemory>
         ensures page { SamePage self.old self.new }
         ensures later { IsLater tally.old tally.new }
         ensures judged { IfOk result (IsAdvance self.old tally.old.worker self.new) }
         ensures raised { IfOk result (IsRaisedUnlessIdle tally.old tally.new) }
         ensures err { OnErr result ((self.new ≡ self.old) × (tally.new ≡ tally.old)) }
+        ensures cost { steps.new ≤ steps.old + advance_cost self.old }
     {
-        match self.looked_at() {
+        match self.looked_at(steps) {
             None => Ok(Advance::Idle),
-            Some(Look::Fails(kind)) => Ok(self.roll_back(tally, kind)),
-            Some(Look::Holds) => self.commit(alloc, tally),
+            Some(Look::Fails { kind, place }) => Ok(self.roll_back(tally, kind, place)),
+            Some(Look::Holds) => self.commit(alloc, tally, steps),
         }
     }
 
     /// What comes of looking at the front chunk's fragment, where that chunk is posted.
-    fn looked_at(&self) -> Option<Look>
+    fn looked_at<L: Ledger>(&self, steps: &mut Steps<L>) -> Option<Look>
         ensures within { IfSome result (λ _. self.now.done < length self.now.slots) }
         ensures look { IfSome result (IsLookedAt self.now) }
         ensures idle { IfNone result (is_posted (at (statuses self.now) self.now.done) ≡ false) }
+        ensures cost { steps.new ≤ steps.old + look_cost (slot_at self.now self.now.done) }
     {
         self.kept();
         let Some(fragment) = self.posted() else {
             return None;
         };
         told(fragment);
-        match self.front.check(fragment) {
+        match self.front.check(fragment, steps) {
             Checked::OtherEntry => unreachable!(),
-            Checked::Fails { question, .. } => Some(Look::Fails(kind_of(question))),
+            Checked::Fails { question, answer } => Some(Look::Fails {
+                kind: kind_of(question),
+                place: place_in(fragment, question, answer),
+            }),
             Checked::Holds => Some(Look::Holds),
         }
     }
@@ -78,10 +92,10 @@ impl<'p> Board<'p> {
         }
     }
 
-    /// Gives up the front chunk's fragment, which assumes a wrong answer first to a question of that kind.
-    fn roll_back(&mut self, tally: &mut Tally, kind: QuestionKind) -> Advance
+    /// Gives up the front chunk's fragment, of which the first false pair is of that kind and stands at that place.
+    fn roll_back(&mut self, tally: &mut Tally, kind: QuestionKind, place: usize) -> Advance
         requires within { self.old.done < length self.old.slots }
-        requires posted { MayRollBack self.old kind }
+        requires posted { MayRollBack self.old kind place }
         ensures page { SamePage self.old self.new }
         ensures judged { IsAdvance self.old tally.old.worker self.new result }
         ensures raised { IsRaised tally.old tally.new }
@@ -94,14 +108,19 @@ impl<'p> Board<'p> {
         else {
             unreachable!()
         };
-        match first_false(self.front.control(), guessed.into_assumptions()) {
+        match pair_at(guessed.into_assumptions(), place) {
             Some(Kept { question, answer }) => Advance::RolledBack { question, answer },
             None => unreachable!(),
         }
     }
 
     /// Commits what the front chunk's fragment covers.
-    fn commit(&mut self, alloc: Global, tally: &mut Tally) -> Result<Advance, NoMemory>
+    fn commit<L: Ledger>(
+        &mut self,
+        alloc: Global,
+        tally: &mut Tally,
+        steps: &mut Steps<L>,
+    ) -> Result<Advance, NoMemory>
         requires within { self.old.done < length self.old.slots }
         requires posted { MayCommit self.old }
         ensures page { SamePage self.old self.new }
@@ -109,6 +128,7 @@ impl<'p> Board<'p> {
         ensures judged { IfOk result (IsAdvance self.old tally.old.worker self.new) }
         ensures raised { IfOk result (IsRaisedUnlessIdle tally.old tally.new) }
         ensures err { OnErr result ((self.new ≡ self.old) × (tally.new ≡ tally.old)) }
+        ensures cost { steps.new ≤ steps.old + commit_cost (slot_at self.old self.old.done) }
     {
         self.kept();
         fronts_go_on();
@@ -123,7 +143,7 @@ impl<'p> Board<'p> {
         stays_fair();
         let covered = fragment.covered();
         let is_whole = covered == fragment.text().len() as u64;
-        if let Err(refusal) = self.front.join(alloc, fragment) {
+        if let Err(refusal) = self.front.join(alloc, fragment, steps) {
             self.slots[chunk as usize] = Slot::Posted(refusal.fragment);
             return Err(NoMemory);
         }
@@ -143,28 +163,5 @@ impl<'p> Board<'p> {
             self.journal.push_reserved(Entry { worker, step });
             Ok(Advance::Repaired { at })
         }
-    }
-}
-
-/// The first pair of which the answer isn't the true one, out of a list that is given up.
-fn first_false(control: &Control, kept: Assumptions) -> Option<Kept>
-    ensures { IsSeen control.now kept result }
-{
-    let mut rest = kept;
-    let mut found = None;
-    while let Some(pair) = rest.pop() {
-        found = seen_before(control, pair, found);
-    }
-    found
-}
-
-/// The same of a list with one pair before those that were seen.
-fn seen_before(control: &Control, pair: Kept, found: Option<Kept>) -> Option<Kept>
-    ensures { (behind : List KeptOf) → IsSeen control.now behind found → IsSeen control.now (pair ∷ behind) result }
-{
-    if truth(control, &pair.question, &pair.answer) {
-        found
-    } else {
-        Some(pair)
     }
 }

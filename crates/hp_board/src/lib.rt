@@ -9,6 +9,7 @@ mod judging;
 mod kinds;
 mod laws;
 mod owner;
+mod pairs;
 mod posts;
 mod slot;
 mod steps;

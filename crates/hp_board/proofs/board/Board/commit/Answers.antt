@@ -1,29 +1,31 @@
 -- The board after the front chunk's fragment was committed.
-use Rattle.std.proofs.Common.{arith, ◌≡◌, ◌<◌, ◌≤◌, ◌+◌, ◌-◌, ◌∙◌, ap, subst, sym, get_or, set, length, refl}
+use Rattle.std.proofs.Common.{arith, ℕ, ◌≡◌, ◌<◌, ◌≤◌, ◌+◌, ◌-◌, ◌∙◌, ap, subst, sym, get_or, set, length, refl}
 use Rattle.std.proofs.lemmas.List.{get_or_default, set-set}
 use Rattle.std.proofs.lemmas.List.Sums.{sum_by-set}
 use Rattle.hp_control.specs.States.{Fits}
 use Rattle.hp_pieces.specs.Texts.{text_of, covered_of}
 use Rattle.hp_pieces.specs.declared.fragment.Fragment.{Fragment}
 use Rattle.hp_merge.specs.Checked.{MayJoin}
+use Rattle.hp_merge.specs.Cost.{join_cost}
 use Rattle.hp_board.specs.declared.slot.Slot.TheVariants as slot
 use Rattle.hp_board.specs.declared.journal.BoardStep.TheVariants as step
 use Rattle.hp_board.specs.Machine.{start_of}
 use Rattle.hp_board.specs.Desk.{Desk, IsKept, owed_of, slot_at, entry}
 use Rattle.hp_board.specs.Calls.{committed}
+use Rattle.hp_board.specs.Cost.{commit_cost}
 use Rattle.hp_board.proofs.Commits.{keeps_whole, keeps_part, put-back}
 use Rattle.hp_board.proofs.board.Board.commit.Goals as goal
 
 pub chunk-start-requires-clause-cuts_of_page : goal.chunk-start-requires-clause-cuts_of_page
-chunk-start-requires-clause-cuts_of_page c = c.self.invariant.0.of_text
+chunk-start-requires-clause-cuts_of_page g c = c.self.invariant.0.of_text
 
 pub chunk-start-requires-clause-number_below_chunks : goal.chunk-start-requires-clause-number_below_chunks
-chunk-start-requires-clause-number_below_chunks c =
+chunk-start-requires-clause-number_below_chunks g c =
     let within = subst (λ (d : Desk). d.done < length d.slots) (sym c.self.view_is) c.requires.within in
     omega (arith, within, c.self.invariant.0.count)
 
 pub join-requires-clause-fits : goal.join-requires-clause-fits
-join-requires-clause-fits c = subst (λ (d : Desk). Fits d.control) (sym c.self.view_is) c.kept.ensures.fits
+join-requires-clause-fits g c = subst (λ (d : Desk). Fits d.control) (sym c.self.view_is) c.kept.ensures.fits
 
 -- what may be joined is the fragment that is posted
 may_join : (desk : Desk) (posted f : Fragment) → slot_at desk desk.done ≡ slot.Posted posted → slot_at desk desk.done ≡ slot.Posted f → MayJoin desk.control posted → MayJoin desk.control f
@@ -33,7 +35,7 @@ may_join desk posted f told there may =
     subst (λ (x : Fragment). MayJoin desk.control x) same may
 
 pub join-requires-clause-holds : goal.join-requires-clause-holds
-join-requires-clause-holds c =
+join-requires-clause-holds g c =
     let v = c.self.view_is in
     let slots = c.self.inside.slots.items in
     let n = c.self.inside.done in
@@ -47,7 +49,7 @@ join-requires-clause-holds c =
     subst (λ (d : Desk). MayJoin d.control f) (sym v) may
 
 pub invariant_of-self : goal.invariant_of-self
-invariant_of-self c =
+invariant_of-self g c =
     let v = c.self.view_is in
     let slots = c.self.inside.slots.items in
     let n = c.self.inside.done in
@@ -59,7 +61,7 @@ invariant_of-self c =
     (rw (back, c.in-Err.ensures.err) c.self.invariant.0, rw back c.self.invariant.1, c.self.invariant.2)
 
 pub returns-in-Err-clause-err : goal.returns-in-Err-clause-err
-returns-in-Err-clause-err c =
+returns-in-Err-clause-err g c =
     let v = c.self.view_is in
     let slots = c.self.inside.slots.items in
     let n = c.self.inside.done in
@@ -71,7 +73,7 @@ returns-in-Err-clause-err c =
     (rw (back, c.in-Err.ensures.err) v, refl)
 
 pub invariant_of-self-then-is_whole : goal.invariant_of-self-then-is_whole
-invariant_of-self-then-is_whole c =
+invariant_of-self-then-is_whole g c =
     let v = c.self.view_is in
     let slots = c.self.inside.slots.items in
     let n = c.self.inside.done in
@@ -94,7 +96,7 @@ invariant_of-self-then-is_whole c =
     )
 
 pub invariant_of-self-else-is_whole : goal.invariant_of-self-else-is_whole
-invariant_of-self-else-is_whole c =
+invariant_of-self-else-is_whole g c =
     let v = c.self.view_is in
     let slots = c.self.inside.slots.items in
     let n = c.self.inside.done in
@@ -121,7 +123,7 @@ invariant_of-self-else-is_whole c =
     )
 
 pub returns-then-is_whole-clause-judged : goal.returns-then-is_whole-clause-judged
-returns-then-is_whole-clause-judged c =
+returns-then-is_whole-clause-judged g c =
     let v = c.self.view_is in
     let slots = c.self.inside.slots.items in
     let n = c.self.inside.done in
@@ -144,7 +146,7 @@ returns-then-is_whole-clause-judged c =
     )
 
 pub returns-else-is_whole-clause-judged : goal.returns-else-is_whole-clause-judged
-returns-else-is_whole-clause-judged c =
+returns-else-is_whole-clause-judged g c =
     let v = c.self.view_is in
     let slots = c.self.inside.slots.items in
     let n = c.self.inside.done in
@@ -170,3 +172,40 @@ returns-else-is_whole-clause-judged c =
             (ap (λ (d : Desk). committed d f d.done slot.Again (entry w (step.Repaired d.done amount))) v),
       ),
     )
+
+-- the fragment that is joined is the one that is posted
+costs : (desk : Desk) (f : Fragment) (before after : ℕ) → slot_at desk desk.done ≡ slot.Posted f → after ≤ before + join_cost f → after ≤ before + commit_cost (slot_at desk desk.done)
+costs desk f before after there cost = rw there cost
+
+pub returns-in-Err-clause-cost : goal.returns-in-Err-clause-cost
+returns-in-Err-clause-cost g c =
+    let v = c.self.view_is in
+    let slots = c.self.inside.slots.items in
+    let n = c.self.inside.done in
+    let f = c.in-Posted.fragment in
+    let within : n < length slots = subst (λ (d : Desk). d.done < length d.slots) (sym v) c.requires.within in
+    let here : get_or slots n slot.Done ≡ slot.Posted f =
+    get_or_default slots n slot.Done c.index_mut.result.now within ∙ (sym c.index_mut.ensures.value ∙ (sym c.replace.ensures.value ∙ c.in-Posted.is)) in
+    costs c.args.self.now f c.args.steps.now c.join.new.steps (subst (λ (d : Desk). slot_at d d.done ≡ slot.Posted f) v here) c.join.ensures.cost
+
+pub returns-then-is_whole-clause-cost : goal.returns-then-is_whole-clause-cost
+returns-then-is_whole-clause-cost g c =
+    let v = c.self.view_is in
+    let slots = c.self.inside.slots.items in
+    let n = c.self.inside.done in
+    let f = c.in-Posted.fragment in
+    let within : n < length slots = subst (λ (d : Desk). d.done < length d.slots) (sym v) c.requires.within in
+    let here : get_or slots n slot.Done ≡ slot.Posted f =
+    get_or_default slots n slot.Done c.index_mut.result.now within ∙ (sym c.index_mut.ensures.value ∙ (sym c.replace.ensures.value ∙ c.in-Posted.is)) in
+    costs c.args.self.now f c.args.steps.now c.join.new.steps (subst (λ (d : Desk). slot_at d d.done ≡ slot.Posted f) v here) c.join.ensures.cost
+
+pub returns-else-is_whole-clause-cost : goal.returns-else-is_whole-clause-cost
+returns-else-is_whole-clause-cost g c =
+    let v = c.self.view_is in
+    let slots = c.self.inside.slots.items in
+    let n = c.self.inside.done in
+    let f = c.in-Posted.fragment in
+    let within : n < length slots = subst (λ (d : Desk). d.done < length d.slots) (sym v) c.requires.within in
+    let here : get_or slots n slot.Done ≡ slot.Posted f =
+    get_or_default slots n slot.Done c.index_mut.result.now within ∙ (sym c.index_mut.ensures.value ∙ (sym c.replace.ensures.value ∙ c.in-Posted.is)) in
+    costs c.args.self.now f c.args.steps.now c.join.new.steps (subst (λ (d : Desk). slot_at d d.done ≡ slot.Posted f) v here) c.join.ensures.cost

@@ -1,6 +1,6 @@
 -- The front chunk's fragment is given up.
-use Rattle.std.proofs.Common.{arith, ◌≡◌, ◌<◌, ◌∙◌, ℕ, List, Option, ap, subst, sym, refl, true}
-use Rattle.hp_control.specs.States.{ControlState}
+use Rattle.std.proofs.Common.{arith, ◌≡◌, ◌<◌, ◌∙◌, ℕ, List, Option, None, Some, ap, subst, sym, refl, true}
+use Rattle.std.specs.Prelude.{slice_get}
 use Rattle.hp_control.specs.declared.question.Answer.{Answer}
 use Rattle.hp_control.specs.declared.question.Kept.{Kept}
 use Rattle.hp_control.specs.declared.question.Question.{Question}
@@ -12,13 +12,12 @@ use Rattle.hp_board.specs.declared.journal.BoardStep.TheVariants as step
 use Rattle.hp_board.specs.declared.kinds.QuestionKind.{QuestionKind}
 use Rattle.hp_board.specs.declared.slot.Slot.{Slot}
 use Rattle.hp_board.specs.declared.slot.Slot.TheVariants as slot
-use Rattle.hp_board.specs.Calls.{IsFalseOf, IsSeen}
+use Rattle.hp_board.specs.Calls.{IsAssumedAt, IsFalseOf}
 use Rattle.hp_board.specs.Desk.{Desk, entry, owed_of, put, slot_at, statuses}
 use Rattle.hp_board.specs.FairLaws.{IsFairOn, IsInFront}
 use Rattle.hp_board.specs.Kinds.{kind_of}
 use Rattle.hp_board.specs.Machine.{is_judged}
 use Rattle.hp_board.proofs.Commits.{judged_front}
-use Rattle.hp_board.proofs.FirstFalse.{found-none, found-some}
 use Rattle.hp_board.proofs.board.Board.roll_back.Goals as goal
 
 owes_posted : (desk : Desk) (n : ℕ) (posted : Fragment) → n ≡ desk.done → slot_at desk desk.done ≡ slot.Posted posted → owed_of slot.Again < owed_of (slot_at desk n)
@@ -43,18 +42,22 @@ put-requires-clause-fair c =
     let front : IsInFront desk r.0 = record { kept = c.kept.ensures.kept; within = c.requires.within; here = r.3; told = r.6 } in
     subst (λ (n : ℕ). IsFairOn desk w (step.RolledBack n c.args.kind)) (sym done_is) (c.stays_fair.ensures.rollbacks desk r.0 w r.1 r.2 c.args.kind front r.4)
 
--- what stood on the front chunk is the guess that is posted there, and its pair is false
-guess_false : (desk : Desk) (n : ℕ) (posted : Fragment) (q : Question) (a : Answer) (was : Slot) (guess : Guessed) → n ≡ desk.done → slot_at desk desk.done ≡ slot.Posted posted → IsFalseOf desk.control posted q a
-    → was ≡ slot_at desk n → was ≡ slot.Posted (fragment.Guessed guess) → (slot_at desk desk.done ≡ slot.Posted (fragment.Guessed guess)) × IsFirstFalse desk.control guess.assumptions q a
-guess_false desk n posted q a was guess same here wrong stood is =
-    let there : slot_at desk desk.done ≡ slot.Posted (fragment.Guessed guess) = ap (slot_at desk) (sym same) ∙ (sym stood ∙ is) in
-    let both : slot.Posted posted ≡ slot.Posted (fragment.Guessed guess) = sym here ∙ there in
+-- what stood on the front chunk is the guess that is posted there, which assumes a false pair at that place
+guess_false : (desk : Desk) (n : ℕ) (posted : Fragment) (q : Question) (a : Answer) (place : ℕ) (was : Slot) (guess : Guessed) → n ≡ desk.done → slot_at desk desk.done ≡ slot.Posted posted → IsFalseOf desk.control posted q a
+    → IsAssumedAt posted place q a → was ≡ slot_at desk n → was ≡ slot.Posted (fragment.Guessed guess)
+    → (slot_at desk desk.done ≡ slot.Posted (fragment.Guessed guess)) × IsFirstFalse desk.control guess.assumptions q a × (slice_get guess.assumptions place ≡ Some (record { question = q; answer = a }))
+guess_false desk n posted q a place was guess same here wrong there stood is =
+    let both : slot.Posted posted ≡ slot.Posted (fragment.Guessed guess) = sym here ∙ (ap (slot_at desk) (sym same) ∙ (sym stood ∙ is)) in
     let one : posted ≡ fragment.Guessed guess = cc in
-    (there, subst (λ (f : Fragment). IsFalseOf desk.control f q a) one wrong)
+    (here ∙ both, subst (λ (f : Fragment). IsFalseOf desk.control f q a) one wrong, subst (λ (f : Fragment). IsAssumedAt f place q a) one there)
 
--- the pairs are looked at over the front's state
-seen_front : (s u : ControlState) (kept assumed : List Kept) (found : Option Kept) → s ≡ u → kept ≡ assumed → IsSeen s kept found → IsSeen u assumed found
-seen_front s u kept assumed found same all seen = subst (λ (v : ControlState). IsSeen v assumed found) same (subst (λ (ks : List Kept). IsSeen s ks found) all seen)
+-- a place has one pair
+one_pair : (kept assumed : List Kept) (place : ℕ) (found : Option Kept) (q : Question) (a : Answer) → kept ≡ assumed → found ≡ slice_get kept place → slice_get assumed place ≡ Some (record { question = q; answer = a })
+    → found ≡ Some (record { question = q; answer = a })
+one_pair kept assumed place found q a same is there = is ∙ (ap (λ (l : List Kept). slice_get l place) same ∙ there)
+
+not_none : (found : Option Kept) (pair : Kept) → found ≡ None → found ≡ Some pair → ⊥
+not_none found pair nothing some = let both : Path (Option Kept) None (Some pair) = sym nothing ∙ some in absurd cc
 
 pub unreachable-requires-in-None : goal.unreachable-requires-in-None
 unreachable-requires-in-None c =
@@ -63,10 +66,9 @@ unreachable-requires-in-None c =
     let guess = c.in-Posted-Guessed.guessed in
     let done_is = ap (λ (d : Desk). d.done) c.self.view_is in
     let was : c.put.result ≡ slot.Posted (fragment.Guessed guess) = c.in-Posted-Guessed.is ∙ ap slot.Posted c.in-Posted-Guessed.field-0-is in
-    let wrong = guess_false desk c.self.inside.done r.0 r.1 r.2 c.put.result guess done_is r.3 r.4 c.put.ensures.before was in
-    let control_is = c.control.ensures ∙ ap (λ (d : Desk). d.control) (c.self-2.view_is ∙ c.put.ensures.board) in
-    let seen = seen_front c.control.result.now desk.control c.into_assumptions.result guess.assumptions c.first_false.result control_is c.into_assumptions.ensures c.first_false.ensures in
-    found-none desk.control guess.assumptions r.1 r.2 c.first_false.result wrong.1 seen c.in-None.is
+    let wrong = guess_false desk c.self.inside.done r.0 r.1 r.2 c.args.place c.put.result guess done_is r.3 r.4 r.7 c.put.ensures.before was in
+    let pair = one_pair c.into_assumptions.result guess.assumptions c.args.place c.pair_at.result r.1 r.2 c.into_assumptions.ensures c.pair_at.ensures wrong.2 in
+    not_none c.pair_at.result (record { question = r.1; answer = r.2 }) c.in-None.is pair
 
 pub returns-clause-judged : goal.returns-clause-judged
 returns-clause-judged c =
@@ -76,15 +78,15 @@ returns-clause-judged c =
     let guess = c.in-Posted-Guessed.guessed in
     let done_is = ap (λ (d : Desk). d.done) c.self.view_is in
     let was : c.put.result ≡ slot.Posted (fragment.Guessed guess) = c.in-Posted-Guessed.is ∙ ap slot.Posted c.in-Posted-Guessed.field-0-is in
-    let wrong = guess_false desk c.self.inside.done r.0 r.1 r.2 c.put.result guess done_is r.3 r.4 c.put.ensures.before was in
-    let control_is = c.control.ensures ∙ ap (λ (d : Desk). d.control) (c.self-2.view_is ∙ c.put.ensures.board) in
-    let seen = seen_front c.control.result.now desk.control c.into_assumptions.result guess.assumptions c.first_false.result control_is c.into_assumptions.ensures c.first_false.ensures in
-    let found = found-some desk.control guess.assumptions r.1 r.2 c.first_false.result c.in-Some.field-0 wrong.1 seen c.in-Some.is in
-    let kind_is = r.5 ∙ ap kind_of found.1 in (
+    let wrong = guess_false desk c.self.inside.done r.0 r.1 r.2 c.args.place c.put.result guess done_is r.3 r.4 r.7 c.put.ensures.before was in
+    let found = one_pair c.into_assumptions.result guess.assumptions c.args.place c.pair_at.result r.1 r.2 c.into_assumptions.ensures c.pair_at.ensures wrong.2 in
+    let both : Some c.in-Some.field-0 ≡ Some (record { question = r.1; answer = r.2 }) = sym c.in-Some.is ∙ found in
+    let pair : c.in-Some.field-0 ≡ record { question = r.1; answer = r.2 } = cc in
+    let kind_is : c.args.kind ≡ kind_of c.in-Some.field-0.question = r.5 ∙ ap (λ (k : Kept). kind_of k.question) (sym pair) in (
       fragment.Guessed guess,
       wrong.0,
       (
-        found.0,
+        subst (λ (k : Kept). IsFirstFalse desk.control guess.assumptions k.question k.answer) (sym pair) wrong.1,
         c.put.ensures.board
             ∙ (ap (λ (n : ℕ). put desk n slot.Again (entry w (step.RolledBack n c.args.kind))) done_is
             ∙ ap (λ (k : QuestionKind). put desk desk.done slot.Again (entry w (step.RolledBack desk.done k))) kind_is),
