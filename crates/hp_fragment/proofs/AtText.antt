@@ -6,7 +6,7 @@ use Rattle.std.proofs.lemmas.Bool.{ltb-false, ltb-true}
 use Rattle.hp_names.specs.BuiltIn.{built_in}
 use Rattle.hp_names.specs.References.{Reference}
 use Rattle.hp_tokens.specs.Advancing.{lexing}
-use Rattle.hp_tokens.specs.Moves.{Lexing, Move, after_pair, after_row, all_began, asks_last_tag, move, move_on, needs_more, read_as, row_move, standing}
+use Rattle.hp_tokens.specs.Moves.{Lexing, Move, after_pair, after_row, all_began, asks_last_tag, move_on, needs_more, read_as, row_move, standing}
 use Rattle.hp_tokens.specs.Plain.{none_of, whole_data_stops, whole_raw_stops}
 use Rattle.hp_tokens.specs.PlainLaws.{apart, none-high}
 use Rattle.hp_tokens.specs.Reading.{FrontIs, IsFront, Unread, first}

@@ -1,16 +1,17 @@
 -- The run over a text behind a known state: its begin and its end, and the end of input.
-use Rattle.std.proofs.Common.{◌≡◌, ℕ, ◌^◌, ◌≤◌, List, [], ◌∷◌, ◌++◌, map, Bool, true, false, refl, ap, ◌∙◌, sym, subst, append-nil, inr, Option, None, Some}
+use Rattle.std.proofs.Common.{◌≡◌, ℕ, ◌^◌, ◌≤◌, List, [], ◌∷◌, ◌++◌, map, true, refl, ap, ◌∙◌, sym, subst, append-nil, inr, Option, None, Some}
 use Rattle.std.specs.Prelude.{All, IsSome}
 use Rattle.std.proofs.lemmas.Bool.{true≢false}
-use Rattle.std.proofs.lemmas.List.Elements.{All-cons, All-nil}
+use Rattle.std.proofs.lemmas.List.Elements.{All-append, All-cons, All-nil}
 use Rattle.std.specs.Option.{is_some, unwrap_or}
-use Rattle.std.specs.Str.{IsUtf8, chars}
+use Rattle.std.specs.Str.{chars}
 use Rattle.hp_elements.specs.declared.token.Token.{Token}
 use Rattle.hp_names.specs.BuiltIn.{built_in}
 use Rattle.hp_tokens.specs.Advancing.{AreRuns, Ends as EndsText, end_of_text, held, lexing, singles}
 use Rattle.hp_tokens.specs.Reading.{Unread}
 use Rattle.hp_tokens.specs.declared.lexing.LexState.{LexState}
 use Rattle.hp_tokens.specs.declared.machine.Machine.{Machine}
+use Rattle.hp_arena.specs.Arena.{Seen}
 use Rattle.hp_control.specs.Agree.{AllTrue}
 use Rattle.hp_control.specs.Apply.{named, named_child, named_edit, named_place}
 use Rattle.hp_control.specs.Edits.{IsFixed, IsFixedChild, IsFixedEdit, IsFixedPlace}
@@ -29,6 +30,8 @@ use Rattle.hp_control.specs.declared.edit.Ref.{Ref}
 use Rattle.hp_control.specs.declared.edit.Ref.TheVariants.{Fixed, Older, Own}
 use Rattle.hp_control.specs.declared.question.Answer.{Answer}
 use Rattle.hp_control.specs.declared.question.Question.{Question}
+use Rattle.hp_growth.specs.Growing.{Grown, IsGrown}
+use Rattle.hp_growth.specs.Telling.{own_told}
 use Rattle.hp_groves.specs.Joining.{JoinTexts, Same, Back, Through}
 use Rattle.hp_lexer.specs.declared.lexer.Asked.TheVariants as asked
 use Rattle.hp_lexer.specs.declared.lexer.Lexer.{Lexer}
@@ -43,7 +46,7 @@ use Rattle.hp_older.specs.Laws.{OwnTrue}
 use Rattle.hp_older.specs.Over.{IsOver}
 use Rattle.hp_older.specs.Tokens.{MayAllCome}
 use Rattle.hp_pieces.proofs.SameRuns.{end-same}
-use Rattle.hp_pieces.specs.Fragments.{IsEnd, IsRun}
+use Rattle.hp_pieces.specs.Fragments.{IsEnd}
 use Rattle.hp_pieces.specs.Laws.{EndsHandled, LeadsValid, PageBuilt}
 use Rattle.hp_pieces.specs.Running.{Ends, parser_in}
 use Rattle.hp_runs.proofs.Own.{own-goes}
@@ -53,11 +56,11 @@ use Rattle.hp_runs.specs.Handling.{made_after}
 use Rattle.hp_runs.specs.Pages.{IsTreeOf}
 use Rattle.hp_runs.specs.Tokens.{AllRead}
 use Rattle.hp_fragment.proofs.Telling.{known-filled}
-use Rattle.hp_fragment.specs.Known.{EndsInput, RanFrom, state_of, way_from}
-use Rattle.hp_fragment.specs.Making.{Amounts, HasGrownBy, is_growing}
+use Rattle.hp_fragment.specs.Known.{EndsInput, LeadsPartlySplit, RanFrom, state_of, way_from}
+use Rattle.hp_fragment.specs.Making.{AllMade, Amounts, Applied, HasGrownBy, IsSplit, IsSplitIn, IsSplitting, Kept, SinkKind, SplitFrom, kind_of}
 use Rattle.hp_fragment.specs.Reading.{GoesToEnd, Handled, HasRead, HasReadAll, IsHandled, Stage, control_at}
 use Rattle.hp_fragment.specs.declared.sink.Sink.{Sink}
-use Rattle.hp_fragment.specs.declared.sink.Sink.TheVariants.{Grows, Keeps}
+use Rattle.hp_fragment.specs.declared.sink.Sink.TheVariants.{Grows, Keeps, Splits}
 
 pub some-is : {X : Type 0} (o : Option X) → IsSome o → is_some o ≡ true
 some-is (Some x) h = refl
@@ -65,8 +68,8 @@ some-is None h = cc
 
 -- nothing was read yet
 pub begins : TextBegins → (entry : ControlState) (text : List ℕ) (p : Stage) → IsValid entry → p.lexer ≡ record { lex = entry.lex; names = built_in; asked = asked.Nothing; rested = 2 ^ 32 } → held p.lexer.lex ≤ 2 ^ 32
-    → p.input ≡ text_at (2 ^ 32) text → IsOver nothing p.split → state_over p.split nothing ≡ record entry { lex = lex_start } → p.split.edits ≡ [] → Amounts (is_growing p.sink) p.sink nothing [] []
-    → HasRead (way_from entry text (is_growing p.sink)) p
+    → p.input ≡ text_at (2 ^ 32) text → IsOver nothing p.split → state_over p.split nothing ≡ record entry { lex = lex_start } → p.split.edits ≡ [] → Amounts (kind_of p.sink) p.sink nothing [] []
+    → HasRead (way_from entry text (kind_of p.sink)) p
 begins law entry text p valid lexer fits input over state none empty = record {
   named = ap (λ (l : Lexer). is_some l.lex.machine.last_tag) lexer ∙ knows;
   unpaged = λ no. absurd (true≢false no);
@@ -77,7 +80,7 @@ begins law entry text p valid lexer fits input over state none empty = record {
       (subst (λ (u : Unread). HasCome built_in name base nothing from (stands p.lexer u) (record entry { lex = lex_start }) []) (sym input)
       (subst (λ (l : Lexer). HasCome built_in name base nothing from (stands l (text_at (2 ^ 32) text)) (record entry { lex = lex_start }) []) (sym lexer)
       (law built_in name nothing (record entry { lex = lex_start }) new entry.lex.machine text refl refl (subst (λ (l : Lexer). held l.lex ≤ 2 ^ 32) lexer fits) (known-filled name entry.lex.machine knows))));
-  amounts = subst (λ (es : List Edit). Amounts (is_growing p.sink) p.sink nothing es []) (sym none) empty;
+  amounts = subst (λ (es : List Edit). Amounts (kind_of p.sink) p.sink nothing es []) (sym none) empty;
 }
   where
     new : Lexer
@@ -96,8 +99,8 @@ begins law entry text p valid lexer fits input over state none empty = record {
     from = followed_by (parser_in entry) text
 
 -- over nothing all answers are true, so the run has come to its end
-pub ran : OwnTrue → (entry : ControlState) (text : List ℕ) (grows : Bool) (old new : Stage) → old.heard.says ≡ answer_of nothing → HasRead (way_from entry text grows) old → GoesToEnd old new → RanFrom entry text grows new
-ran own entry text grows old new says r g = record {
+pub ran : OwnTrue → (entry : ControlState) (text : List ℕ) (kind : SinkKind) (old new : Stage) → old.heard.says ≡ answer_of nothing → HasRead (way_from entry text kind) old → GoesToEnd old new → RanFrom entry text kind new
+ran own entry text kind old new says r g = record {
   over = all.over;
   edits = all.edits;
   leads = record {
@@ -110,8 +113,8 @@ ran own entry text grows old new says r g = record {
   amounts = all.amounts;
 }
   where
-    all : HasReadAll (way_from entry text grows) new
-    all = g.reads (way_from entry text grows) (subst (λ (x : Question → Answer). AllTrue nothing x g.asked) (sym says) (own nothing g.asked)) r
+    all : HasReadAll (way_from entry text kind) new
+    all = g.reads (way_from entry text kind) (subst (λ (x : Question → Answer). AllTrue nothing x g.asked) (sym says) (own nothing g.asked)) r
 
     there : Parser
     there = record { lexing = all.ended.at; control = control_at nothing new }
@@ -124,8 +127,8 @@ ran own entry text grows old new says r g = record {
         ap (λ (m : Machine). record { machine = m; ahead = new.lexer.lex.ahead }) (known-filled (unwrap_or entry.lex.machine.last_tag []) new.lexer.lex.machine all.named ∙ sym all.ended.machine)
         ∙ ap (λ (u : List ℕ). record { machine = all.ended.at.machine; ahead = u }) (sym all.ended.unread)
 
-pub ran-valid : LeadsValid → (entry : ControlState) (text : List ℕ) (grows : Bool) (p : Stage) → RanFrom entry text grows p → IsValid entry → IsValid (state_of p)
-ran-valid law entry text grows p r valid = law text entry (state_of p) r.edits r.leads valid
+pub ran-valid : LeadsValid → (entry : ControlState) (text : List ℕ) (kind : SinkKind) (p : Stage) → RanFrom entry text kind p → IsValid entry → IsValid (state_of p)
+ran-valid law entry text kind p r valid = law text entry (state_of p) r.edits r.leads valid
 
 -- edits in which each element is told by its id
 named-fixed : (r : Ref) → IsFixed (named nothing r)
@@ -150,29 +153,66 @@ edit-fixed (Detach node) = named-fixed node
 edit-fixed (MoveChildren from to) = (named-fixed from, named-fixed to)
 edit-fixed (AddMissing node attributes) = named-fixed node
 
-told-fixed : (es : List Edit) → All IsFixedEdit (map (named_edit nothing) es)
+pub told-fixed : (es : List Edit) → All IsFixedEdit (map (named_edit nothing) es)
 told-fixed [] = All-nil IsFixedEdit
 told-fixed (e ∷ es) = All-cons IsFixedEdit (named_edit nothing e) (map (named_edit nothing) es) (edit-fixed e) (told-fixed es)
 
 -- the edits were kept
-kept-same : (x : Sink) (made es : List Edit) → Amounts false x nothing made es → JoinTexts (map (named_edit nothing) made) es
-kept-same Keeps made es h = h
-kept-same (Grows tree) made es h = absurd h
+pub kept-same : (x : Sink) (s : ControlState) (made es : List Edit) → Amounts Kept x s made es → JoinTexts (map (named_edit s) made) es
+kept-same Keeps s made es am = am.all_made
+kept-same (Grows tree) s made es am = absurd (by am.is_kind)
+  where
+    by : Applied ≡ Kept → ⊥
+    by e = cc
+kept-same (Splits splitting) s made es am = absurd (by am.is_kind)
+  where
+    by : SplitFrom splitting.next ≡ Kept → ⊥
+    by e = cc
+
+-- the edits were split
+is-splitting : (x : Sink) (next : ℕ) (made es : List Edit) → Amounts (SplitFrom next) x nothing made es → IsSplitting x
+is-splitting (Splits splitting) next made es am = tt
+is-splitting Keeps next made es am = by am.is_kind
+  where
+    by : Kept ≡ SplitFrom next → ⊥
+    by e = cc
+is-splitting (Grows tree) next made es am = by am.is_kind
+  where
+    by : Applied ≡ SplitFrom next → ⊥
+    by e = cc
+
+split-so : (x : Sink) (next : ℕ) (made es : List Edit) (g : Grown) → Amounts (SplitFrom next) x nothing made es → IsSplitIn x g → IsSplit (record { growing = g; next = next }) made es
+split-so (Splits splitting) next made es g am is =
+    subst (λ (n : ℕ). IsSplit (record { growing = g; next = n }) made es) (by splitting.next am.is_kind) (subst (λ (h : Grown). IsSplit (record { growing = h; next = splitting.next }) made es) (sym is) (am.all_made refl))
+  where
+    by : (at : ℕ) → SplitFrom at ≡ SplitFrom next → at ≡ next
+    by at e = cc
+split-so Keeps next made es g am is = absurd is
+split-so (Grows tree) next made es g am is = absurd is
 
 -- the run over a chunk
-pub replayed : (text : List ℕ) (entry exit : ControlState) (edits : List Edit) (p : Stage) → IsUtf8 text → RanFrom entry (chars text) false p → exit ≡ state_of p → edits ≡ map (named_edit nothing) p.split.edits
-    → IsRun (record { text = text; entry = entry; exit = exit; edits = edits })
-replayed text entry exit edits p utf8 r is_exit is_edits = record {
-  utf8 = utf8;
+pub run-splits : (text : List ℕ) (entry : ControlState) (next : ℕ) (p : Stage) → RanFrom entry text (SplitFrom next) p → IsSplitting p.sink
+run-splits text entry next p r = is-splitting p.sink next p.split.edits r.edits r.amounts
+
+pub replayed : (text : List ℕ) (entry exit : ControlState) (next : ℕ) (growing : Grown) (rest : List Edit) (p : Stage) → next ≡ entry.next → RanFrom entry text (SplitFrom next) p → exit ≡ state_of p → IsSplitIn p.sink growing
+    → rest ≡ map (named_edit nothing) p.split.edits → LeadsPartlySplit text entry growing rest exit
+replayed text entry exit next growing rest p same r is_exit is_growing is_rest = record {
+  first = is.first;
+  grown = subst (λ (n : ℕ). IsGrown (map (own_told n) is.first) growing) same is.grown;
   leads = record {
-    made = r.leads.made;
-    there = r.leads.there;
-    run = r.leads.run;
-    reaches = is_exit ∙ r.leads.reaches;
-    same = subst (λ (es : List Edit). JoinTexts es r.leads.made) (sym is_edits) (Through _ _ _ (kept-same p.sink p.split.edits r.edits r.amounts) r.leads.same);
+    leads = record {
+      made = r.leads.made;
+      there = r.leads.there;
+      run = r.leads.run;
+      reaches = is_exit ∙ r.leads.reaches;
+      same = subst (λ (es : List Edit). JoinTexts (is.first ++ es) r.leads.made) (sym is_rest) (Through _ _ _ is.same r.leads.same);
+    };
+    fixed = All-append IsFixedEdit is.first rest is.fixed (subst (All IsFixedEdit) (sym is_rest) (told-fixed p.split.edits));
   };
-  fixed = subst (All IsFixedEdit) (sym is_edits) (told-fixed p.split.edits);
 }
+  where
+    is : IsSplit (record { growing = growing; next = next }) p.split.edits r.edits
+    is = split-so p.sink next p.split.edits r.edits growing r.amounts is_growing
 
 -- the tokens of the end of input may come where nothing is older
 may-end : (ts : List Token) → AllRead ts → MayAllCome nothing ts
@@ -212,7 +252,7 @@ ending_is entry edits old new state none keeps e told = record {
   ends = record {
     made = there.made;
     ends = there.ends;
-    same = subst (λ (es : List Edit). JoinTexts es there.made) (sym told) (Through _ _ _ (kept-same new.sink new.split.edits e.made (e.amounts false [] begun)) there.same);
+    same = subst (λ (es : List Edit). JoinTexts es there.made) (sym told) (Through _ _ _ (kept-same new.sink nothing new.split.edits e.made (e.amounts Kept [] begun)) there.same);
   };
   fixed = subst (All IsFixedEdit) (sym told) (told-fixed new.split.edits);
 }
@@ -220,32 +260,36 @@ ending_is entry edits old new state none keeps e told = record {
     there : Ends built_in entry e.made
     there = subst (λ (s : ControlState). Ends built_in s e.made) state e.ends
 
-    begun : Amounts false old.sink nothing old.split.edits []
-    begun =
-        subst (λ (x : Sink). Amounts false x nothing old.split.edits []) (sym keeps)
-        (join-equal (map (named_edit nothing) old.split.edits) [] (ap (map (named_edit nothing)) none))
+    begun : Amounts Kept old.sink nothing old.split.edits []
+    begun = record {
+      is_kind = ap kind_of keeps;
+      all_made = subst (λ (x : Sink). AllMade x nothing old.split.edits []) (sym keeps) (join-equal (map (named_edit nothing) old.split.edits) [] (ap (map (named_edit nothing)) none));
+    }
 
 -- a page's tree grows
-pub growing : (x : Sink) (made es : List Edit) → Amounts true x nothing made es → is_growing x ≡ true
-growing (Grows tree) made es h = refl
-growing Keeps made es h = absurd h
-
-grown-so : (x : Sink) (made es : List Edit) (tree : Tree) → Amounts true x nothing made es → HasGrownBy x made tree → tree ≡ applied_all document es
-grown-so (Grows old) made es tree h is = is ∙ h refl
-grown-so Keeps made es tree h is = absurd is
+grown-so : (x : Sink) (made es : List Edit) (tree : Tree) → AllMade x nothing made es → HasGrownBy x made tree → tree ≡ applied_all document es
+grown-so (Grows old) made es tree all is = is ∙ all refl
+grown-so Keeps made es tree all is = absurd is
+grown-so (Splits splitting) made es tree all is = absurd is
 
 -- the tree of a page that was read, with its end
-pub tree-built : PageBuilt → (page : List ℕ) (read done : Stage) (tree : Tree) → RanFrom start page true read → EndsInput read done → HasGrownBy done.sink done.split.edits tree → IsTreeOf built_in page tree
+pub tree-built : PageBuilt → (page : List ℕ) (read done : Stage) (tree : Tree) → RanFrom start page Applied read → EndsInput read done → HasGrownBy done.sink done.split.edits tree → IsTreeOf built_in page tree
 tree-built law page read done tree r e is =
-    subst (IsTreeOf built_in page) (sym (grown-so done.sink done.split.edits (r.edits ++ e.made) tree (e.amounts true r.edits r.amounts) is)) (law built_in page (state_of read) r.edits e.made r.leads e.ends)
+    subst (IsTreeOf built_in page) (sym (grown-so done.sink done.split.edits (r.edits ++ e.made) tree (e.amounts Applied r.edits r.amounts).all_made is)) (law built_in page (state_of read) r.edits e.made r.leads e.ends)
 
-pub done-growing : (page : List ℕ) (read done : Stage) → RanFrom start page true read → EndsInput read done → is_growing done.sink ≡ true
-done-growing page read done r e = growing done.sink done.split.edits (r.edits ++ e.made) (e.amounts true r.edits r.amounts)
+pub done-growing : (page : List ℕ) (read done : Stage) → RanFrom start page Applied read → EndsInput read done → kind_of done.sink ≡ Applied
+done-growing page read done r e = (e.amounts Applied r.edits r.amounts).is_kind
 
 -- nothing is made yet
-pub kept-empty : Amounts false Keeps nothing [] []
-kept-empty = Same []
+pub kept-empty : Amounts Kept Keeps nothing [] []
+kept-empty = record { is_kind = refl; all_made = Same [] }
+
+pub grown-empty : (tree : Seen) → tree.branches ≡ document → Amounts Applied (Grows tree) nothing [] []
+grown-empty tree is = record { is_kind = refl; all_made = λ same. is }
+
+pub split-empty : (growing : Grown) (next : ℕ) → IsGrown [] growing → Amounts (SplitFrom next) (Splits (record { growing = growing; next = next })) nothing [] []
+split-empty growing next is = record { is_kind = refl; all_made = λ same. record { first = []; fixed = All-nil IsFixedEdit; grown = is; same = Same [] } }
 
 -- a page was read
-pub page-read : (entry : ControlState) (bytes text : List ℕ) (p : Stage) → entry ≡ start → bytes ≡ text → RanFrom entry (chars bytes) true p → RanFrom start (chars text) true p
-page-read entry bytes text p is same r = subst (λ (s : ControlState). RanFrom s (chars text) true p) is (subst (λ (t : List ℕ). RanFrom entry (chars t) true p) same r)
+pub page-read : (entry : ControlState) (bytes text : List ℕ) (p : Stage) → entry ≡ start → bytes ≡ text → RanFrom entry (chars bytes) Applied p → RanFrom start (chars text) Applied p
+page-read entry bytes text p is same r = subst (λ (s : ControlState). RanFrom s (chars text) Applied p) is (subst (λ (t : List ℕ). RanFrom entry (chars t) Applied p) same r)

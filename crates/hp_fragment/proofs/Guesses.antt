@@ -31,7 +31,6 @@ use Rattle.hp_control.specs.declared.question.Kept.{Kept}
 use Rattle.hp_control.specs.declared.question.Question.{Question}
 use Rattle.hp_control.specs.declared.question.Question.TheVariants as ask
 use Rattle.hp_lexer.specs.declared.lexer.Asked.TheVariants as asked
-use Rattle.hp_groves.specs.Joining.{JoinTexts}
 use Rattle.hp_groves.specs.Naming.{own_grove, own_outer}
 use Rattle.hp_growing.specs.Laws.{FirstIsBelow}
 use Rattle.hp_growth.specs.Marking.{name_first}
@@ -43,20 +42,21 @@ use Rattle.hp_model.proofs.JoinedTexts.{join-equal}
 use Rattle.hp_model.specs.Runs.{Parser, followed_by, goes, rests, step_by}
 use Rattle.hp_older.specs.Laws.{IsBegun, ViewsBegin}
 use Rattle.hp_older.specs.Over.{IsOver, before_html, of_chunk, of_known}
-use Rattle.hp_pieces.specs.Guesses.{Grows as GrowsTo, Guessed, IsSound}
+use Rattle.hp_pieces.specs.Growth.{Grows as GrowsTo}
+use Rattle.hp_pieces.specs.Guesses.{Guessed, IsSound}
 use Rattle.hp_pieces.specs.Running.{Leads, parser_in}
 use Rattle.hp_runs.proofs.Own.{own-goes}
 use Rattle.hp_runs.specs.Coming.{HasCome, TextBegins}
 use Rattle.hp_runs.specs.Filled.{filled}
 use Rattle.hp_views.specs.Begins.{Begins, begins, ended}
 use Rattle.hp_fragment.proofs.Asking.{noted-then}
-use Rattle.hp_fragment.proofs.Ended.{some-is}
+use Rattle.hp_fragment.proofs.Ended.{kept-same, some-is}
 use Rattle.hp_pieces.specs.Reaching.{IsSaid}
 use Rattle.hp_fragment.specs.Guessing.{HasBegun, IsGuessOf, made_by}
-use Rattle.hp_fragment.specs.Making.{Amounts}
+use Rattle.hp_fragment.specs.Making.{AllMade, Kept as KeptEdits, kind_of}
 use Rattle.hp_fragment.specs.Reading.{GoesToEnd, HasRead, HasReadAll, IsReady, Stage, Way, control_at}
 use Rattle.hp_fragment.specs.declared.sink.Sink.{Sink}
-use Rattle.hp_fragment.specs.declared.sink.Sink.TheVariants.{Grows, Keeps}
+use Rattle.hp_fragment.specs.declared.sink.Sink.TheVariants.{Keeps}
 
 -- the run over a text behind s, which isn't known
 abbrev pub way_over : ControlState → List ℕ → Way
@@ -66,7 +66,7 @@ way_over s text = record {
   told = false;
   base = 0;
   from = followed_by (parser_in s) text;
-  grows = false;
+  kind = KeptEdits;
 }
 
 -- a lexer that isn't told the name of s is that of s, once it is told
@@ -157,7 +157,10 @@ module _ (law : TextBegins) (s : ControlState) (text : List ℕ) (valid : IsVali
         (subst (λ (ahead : List ℕ). HasCome built_in name 0 s (followed_by (record { lexing = standing s.lex.machine 0 0 ahead; control = record s { lex = lex_start } }) text) (stands new (text_at (2 ^ 32) text)) (record s { lex = lex_start }) [])
         (ap (λ (l : LexState). l.ahead) same)
         (law built_in name s (record s { lex = lex_start }) new s.lex.machine text refl refl (lit≤ tt) (sym (ap (λ (l : LexState). l.machine) same) ∙ machine-filled own s refl some)))));
-    amounts = subst (λ (x : Sink). Amounts false x s p.split.edits []) (sym sink) (join-equal (map (named_edit s) p.split.edits) [] (ap (λ (v : Split). map (named_edit s) v.edits) split));
+    amounts = record {
+      is_kind = ap kind_of sink;
+      all_made = subst (λ (x : Sink). AllMade x s p.split.edits []) (sym sink) (join-equal (map (named_edit s) p.split.edits) [] (ap (λ (v : Split). map (named_edit s) v.edits) split));
+    };
   }
     where
       own : LexState
@@ -183,7 +186,7 @@ module _ (law : TextBegins) (s : ControlState) (text : List ℕ) (valid : IsVali
     there = there;
     run = record { goes = own-goes (table built_in) s all.ended.goes; rests = record { no_step = λ q fs e. none q fs (sym (ap (step_by there) all.ended.needs) ∙ e) } };
     reaches = ap (λ (l : LexState). record (applied p.split.change s) { lex = l }) lex ∙ sym (ap (λ (page : Option Page). record (with_page page (applied p.split.change s)) { lex = left }) (all.unpaged refl));
-    same = kept p.sink all.amounts;
+    same = kept-same p.sink s p.split.edits all.edits all.amounts;
   }
     where
       there : Parser
@@ -200,10 +203,6 @@ module _ (law : TextBegins) (s : ControlState) (text : List ℕ) (valid : IsVali
           left-filled p.lexer.lex s some
           ∙ (ap (λ (m : Machine). record { machine = m; ahead = p.lexer.lex.ahead }) (sym all.ended.machine)
           ∙ ap (λ (u : List ℕ). record { machine = all.ended.at.machine; ahead = u }) (sym all.ended.unread))
-
-      kept : (x : Sink) → Amounts false x s p.split.edits all.edits → JoinTexts (map (named_edit s) p.split.edits) all.edits
-      kept Keeps h = h
-      kept (Grows tree) h = absurd h
 
 -- a view on no page stands over a state in which html is open,
 rooted-below : (s : ControlState) (v : Split) → StandsOn s v → v.page ≡ None → is_rooted s.stack ≡ true

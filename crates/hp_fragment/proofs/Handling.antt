@@ -46,7 +46,7 @@ use Rattle.hp_fragment.proofs.Quiet.{below-quiet}
 use Rattle.hp_fragment.proofs.Refusing.{refused-so}
 use Rattle.hp_fragment.proofs.Seeking.{one-sought, seeks-before, seeks-none, seeks-one, seeks-then, turned-stands}
 use Rattle.hp_fragment.proofs.Turning.{none-turned, turned-once, turned-then}
-use Rattle.hp_fragment.specs.Making.{Amounts}
+use Rattle.hp_fragment.specs.Making.{Amounts, SinkKind}
 use Rattle.hp_fragment.specs.Reading.{Handled, IfCrossed, IsHandled, IsTurned, Seeks, Stage, TextHandled, TextTouched, Touched, TouchedBelow, control_at, seeker_of}
 use Rattle.hp_fragment.specs.declared.sink.Sink.TheVariants.{Keeps}
 
@@ -106,7 +106,7 @@ none-handled p = record {
     lexer = refl;
     control = refl;
     own = refl;
-    amounts = λ grows es am. subst (Amounts grows p.sink s p.split.edits) (sym (append-nil es)) am;
+    amounts = λ kind es am. subst (Amounts kind p.sink s p.split.edits) (sym (append-nil es)) am;
   };
   sought = λ keeps answered. (keeps, seeks-none p.heard.says (seeker_of p));
 }
@@ -121,7 +121,7 @@ both-handled s a b c xs ys f g = record {
       ∙ (ap (lexer_after handle_at_once (left_after handle_at_once old xs) ys) f.lexer ∙ sym (lexer-append handle_at_once old xs ys a.lexer)));
   control = g.control ∙ (ap (λ (d : ControlState). left_after handle_at_once d ys) f.control ∙ sym (left-append handle_at_once old xs ys));
   own = untouched-append s old xs ys f.own (subst (λ (d : ControlState). untouched_at_once s d ys ≡ true) f.control g.own);
-  amounts = λ grows es am. subst (Amounts grows c.sink s c.split.edits) (made es) (g.amounts grows (es ++ made_after handle_at_once old xs) (f.amounts grows es am));
+  amounts = λ kind es am. subst (Amounts kind c.sink s c.split.edits) (made es) (g.amounts kind (es ++ made_after handle_at_once old xs) (f.amounts kind es am));
 }
   where
     old : ControlState
@@ -207,7 +207,7 @@ going-touched start now next tokens before rest t g is one =
 -- one token
 module _ (law : TokensHandled) (apart : AtOnceApart) (stay : StayUnedited) where
   over-one : (s : ControlState) (old new : Stage) (w : Split) (edits : List Edit) (t : Token) (handled : Told) → new.split ≡ record w { edits = edits }
-      → ((grows : Bool) (c : ControlState) (es : List Edit) → Amounts grows old.sink c w.edits es → Amounts grows new.sink c edits es)
+      → ((kind : SinkKind) (c : ControlState) (es : List Edit) → Amounts kind old.sink c w.edits es → Amounts kind new.sink c edits es)
       → new.lexer ≡ turned (handle_at_once (control_at s old) t).switch old.lexer → IsDoneOver s old.split w handled (handle_at_once (state_over old.split s) t) → IsHandled s old new (t ∷ [])
   over-one s old new w edits t handled split take lexer d = record {
     over = subst (IsOver s) (sym split) (stay s w edits d.over);
@@ -215,10 +215,10 @@ module _ (law : TokensHandled) (apart : AtOnceApart) (stay : StayUnedited) where
     lexer = lexer;
     control = ap (λ (v : Split). relexed_state lex_start (state_over v s)) split ∙ (ap (relexed_state lex_start) d.control ∙ sym (ap left_by same));
     own = and_from (not (touches_any s now.outcome)) true (ap not (ap (λ (h : Meant). touches_any s h.outcome) same ∙ d.own)) refl;
-    amounts = λ grows es am.
-        subst (λ (v : Split). Amounts grows new.sink s v.edits (es ++ made_after handle_at_once (control_at s old) (t ∷ []))) (sym split)
-        (subst (λ (fs : List Edit). Amounts grows new.sink s edits (es ++ fs)) (sym (ap (λ (h : Meant). h.outcome.edits ++ []) same ∙ append-nil was.outcome.edits))
-        (take grows s (es ++ was.outcome.edits) (amounts-more grows old.sink s old.split.edits w.edits es was.outcome.edits am d.edits)));
+    amounts = λ kind es am.
+        subst (λ (v : Split). Amounts kind new.sink s v.edits (es ++ made_after handle_at_once (control_at s old) (t ∷ []))) (sym split)
+        (subst (λ (fs : List Edit). Amounts kind new.sink s edits (es ++ fs)) (sym (ap (λ (h : Meant). h.outcome.edits ++ []) same ∙ append-nil was.outcome.edits))
+        (take kind s (es ++ was.outcome.edits) (amounts-more kind old.sink s old.split.edits w.edits es was.outcome.edits am d.edits)));
   }
     where
       was : Meant
@@ -232,7 +232,7 @@ module _ (law : TokensHandled) (apart : AtOnceApart) (stay : StayUnedited) where
 
   -- and the lexer is switched where it calls for that
   pub one-handled : SwitchesFall → (old new : Stage) (w : Split) (edits : List Edit) (t : Token) (handled : Told) → Runs old.heard new.heard (handle_plan t old.split) (Ok (record { split = w; handled = handled }))
-      → new.split ≡ record w { edits = edits } → ((grows : Bool) (c : ControlState) (es : List Edit) → Amounts grows old.sink c w.edits es → Amounts grows new.sink c edits es)
+      → new.split ≡ record w { edits = edits } → ((kind : SinkKind) (c : ControlState) (es : List Edit) → Amounts kind old.sink c w.edits es → Amounts kind new.sink c edits es)
       → (old.sink ≡ Keeps → (new.sink ≡ Keeps) × (edits ≡ w.edits)) → new.lexer ≡ turned handled.switch old.lexer → new.input ≡ old.input → Handled old new (t ∷ [])
   one-handled falls old new w edits t handled runs split take keep lexer input = record {
     input = input;
@@ -272,7 +272,7 @@ module _ (law : TokensHandled) (apart : AtOnceApart) (stay : StayUnedited) where
 
   -- a run of characters, which calls for no switch
   pub run-handled : (old new : Stage) (w : Split) (edits : List Edit) (class : CharClass) (text : List ℕ) (handled : Told) → Runs old.heard new.heard (handle_plan (Characters class text) old.split) (Ok (record { split = w; handled = handled }))
-      → new.split ≡ record w { edits = edits } → ((grows : Bool) (c : ControlState) (es : List Edit) → Amounts grows old.sink c w.edits es → Amounts grows new.sink c edits es)
+      → new.split ≡ record w { edits = edits } → ((kind : SinkKind) (c : ControlState) (es : List Edit) → Amounts kind old.sink c w.edits es → Amounts kind new.sink c edits es)
       → (old.sink ≡ Keeps → (new.sink ≡ Keeps) × (edits ≡ w.edits)) → handled.switch ≡ None → new.lexer ≡ old.lexer → new.input ≡ old.input → Handled old new (Characters class text ∷ [])
   run-handled old new w edits class text handled runs split take keep quiet lexer input = record {
     input = input;
@@ -292,7 +292,7 @@ module _ (law : TokensHandled) (apart : AtOnceApart) (stay : StayUnedited) where
   -- a text behind the question whether the older current node is HTML
   pub below-handled : TextsTakenBelow → (first : Heard) (old new : Stage) (w : Split) (edits : List Edit) (text : List ℕ) (handled : Told) → may_take_text old.split ≡ true → Runs first old.heard (current_is_plan kinds.AnyHtml old.split) (Ok true)
       → Runs first new.heard (handle_plan (as_run text) old.split) (Ok (record { split = w; handled = handled })) → new.split ≡ record w { edits = edits }
-      → ((grows : Bool) (c : ControlState) (es : List Edit) → Amounts grows old.sink c w.edits es → Amounts grows new.sink c edits es) → (old.sink ≡ Keeps → (new.sink ≡ Keeps) × (edits ≡ w.edits)) → new.lexer ≡ old.lexer → new.input ≡ old.input → TextHandled (record old { heard = first }) new text
+      → ((kind : SinkKind) (c : ControlState) (es : List Edit) → Amounts kind old.sink c w.edits es → Amounts kind new.sink c edits es) → (old.sink ≡ Keeps → (new.sink ≡ Keeps) × (edits ≡ w.edits)) → new.lexer ≡ old.lexer → new.input ≡ old.input → TextHandled (record old { heard = first }) new text
   unfolding run-handled
   below-handled below first old new w edits text handled may found runs split take keep lexer input = record {
     handled = run-handled (record old { heard = first }) new w edits (white_or_other (list_all is_white text)) text handled runs split take keep (below-quiet first.says text old.split w handled runs.ends may found.ends) lexer input;

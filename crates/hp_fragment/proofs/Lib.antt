@@ -12,6 +12,7 @@ pub mod Stepping
 pub mod Crossing
 pub mod Taking
 pub mod Ended
+pub mod SplitRuns
 pub mod NoNul
 pub mod Guesses
 pub mod AtText

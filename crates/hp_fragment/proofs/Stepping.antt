@@ -1,6 +1,6 @@
 -- What each way of the parser does to how far the run has come.
-use Rattle.std.proofs.Common.{◌≡◌, ℕ, ◌^◌, List, [], ◌∷◌, ◌++◌, Bool, true, false, refl, ap, ◌∙◌, sym, subst, append-nil, inl, inr, Option, Some}
-use Rattle.std.specs.Prelude.{not, ◌&&◌, Ok}
+use Rattle.std.proofs.Common.{◌≡◌, ℕ, List, [], ◌∷◌, ◌++◌, Bool, true, false, refl, ap, ◌∙◌, sym, subst, append-nil, inl, inr, Option, Some}
+use Rattle.std.specs.Prelude.{not, Ok}
 use Rattle.std.specs.List.{list_all}
 use Rattle.std.proofs.lemmas.Bool.{and_parts, not-true}
 use Rattle.hp_elements.specs.declared.kinds.Kinds.TheVariants as kinds
@@ -71,7 +71,7 @@ reads-on w old new l u tokens h input named r f = record {
       subst (λ (d : ControlState). HasCome built_in w.name w.base w.older w.from (stands new.lexer new.input) d (r.edits ++ f.more)) (sym h.control)
       (subst (λ (k : Lexing). HasCome built_in w.name w.base w.older w.from k (left_after handle_at_once c tokens) (r.edits ++ f.more))
       (sym (ap (λ (x : Lexer). stands x new.input) h.lexer ∙ ap (λ (v : Unread). stands (lexer_after handle_at_once c tokens l) v) input)) f.comes);
-  amounts = amounts-same w.grows new.sink w.older new.split.edits r.edits (made_after handle_at_once c tokens) f.more (h.amounts w.grows r.edits r.amounts) f.same;
+  amounts = amounts-same w.kind new.sink w.older new.split.edits r.edits (made_after handle_at_once c tokens) f.more (h.amounts w.kind r.edits r.amounts) f.same;
 }
   where
     c : ControlState
@@ -199,8 +199,8 @@ told-reads w old new r split sink named comes = record {
   comes =
       subst (λ (v : Split). HasCome built_in w.name w.base w.older w.from (stands new.lexer new.input) (record (state_over v w.older) { lex = lex_start }) r.edits) (sym split) comes;
   amounts =
-      subst (λ (v : Split). Amounts w.grows new.sink w.older v.edits r.edits) (sym split)
-      (subst (λ x. Amounts w.grows x w.older old.split.edits r.edits) (sym sink) r.amounts);
+      subst (λ (v : Split). Amounts w.kind new.sink w.older v.edits r.edits) (sym split)
+      (subst (λ x. Amounts w.kind x w.older old.split.edits r.edits) (sym sink) r.amounts);
 }
 
 -- before a character it was asked whether the older current node is HTML, and nothing else was done

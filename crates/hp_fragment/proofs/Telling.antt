@@ -1,5 +1,5 @@
 -- A lexer that knows the last start tag's name goes on to know one, and doesn't ask.
-use Rattle.std.proofs.Common.{◌≡◌, ℕ, List, [], ◌∷◌, ◌++◌, Bool, true, false, refl, ap, ◌∙◌, sym, subst, Option, None, Some}
+use Rattle.std.proofs.Common.{◌≡◌, ℕ, List, [], ◌∷◌, Bool, true, false, refl, ap, ◌∙◌, sym, subst, Option, None, Some}
 use Rattle.std.specs.Option.{is_some, unwrap_or}
 use Rattle.hp_elements.specs.declared.token.Rest.{Rest}
 use Rattle.hp_elements.specs.declared.token.Token.{Token}

@@ -1,5 +1,5 @@
 -- The lexer behind switches, and its load behind a step.
-use Rattle.std.proofs.Common.{◌≡◌, ℕ, ◌+◌, ◌*◌, ◌<◌, ◌≤◌, ◌^◌, List, Bool, true, false, cond, refl, ap, ◌∙◌, sym, subst, arith, lit≤, Option, None, Some}
+use Rattle.std.proofs.Common.{◌≡◌, ℕ, ◌+◌, ◌*◌, ◌<◌, ◌≤◌, List, Bool, true, false, cond, refl, ap, ◌∙◌, sym, subst, arith, lit≤, Option, None, Some}
 use Rattle.std.specs.Prelude.{sum_by}
 use Rattle.std.specs.Char.{len_utf8}
 use Rattle.hp_elements.specs.declared.token.Rest.{Rest}

@@ -35,7 +35,7 @@ use Rattle.hp_asked.specs.Right.{RightFrom}
 use Rattle.hp_asked.specs.Seeking.{Seeker, seek}
 use Rattle.hp_older.specs.Over.{IsOver}
 use Rattle.hp_older.specs.Tokens.{MayAllCome}
-use Rattle.hp_fragment.specs.Making.{Amounts}
+use Rattle.hp_fragment.specs.Making.{Amounts, SinkKind}
 use Rattle.hp_fragment.specs.declared.parsing.Parsing.{Parsing}
 use Rattle.hp_fragment.specs.declared.sink.Sink.{Sink}
 use Rattle.hp_fragment.specs.declared.sink.Sink.TheVariants.{Keeps}
@@ -56,14 +56,14 @@ abbrev pub control_at : ControlState → Stage → ControlState
 control_at s p = record (state_over p.split s) { lex = lex_start }
 
 -- A run over a text: what is older than all that is made, the last start tag's name before the text, whether the lexer was told it, how many
--- bytes were read ahead, the parser with the text before it, and whether a page's tree grows.
+-- bytes were read ahead, the parser with the text before it, and what becomes of the edits.
 pub record Way : Type 0 where
   pub older : ControlState
   pub name : List ℕ
   pub told : Bool
   pub base : ℕ
   pub from : Parser
-  pub grows : Bool
+  pub kind : SinkKind
 
 -- the lexer was told a name, and knows one; or it wasn't, and the name is that of the older state
 abbrev pub IsNamed : Bool → List ℕ → ControlState → Lexer → Type 0
@@ -77,7 +77,7 @@ pub record HasRead (w : Way) (p : Stage) : Type 0 where
   pub over : IsOver w.older p.split
   pub edits : List Edit
   pub comes : HasCome built_in w.name w.base w.older w.from (stands p.lexer p.input) (control_at w.older p) edits
-  pub amounts : Amounts w.grows p.sink w.older p.split.edits edits
+  pub amounts : Amounts w.kind p.sink w.older p.split.edits edits
 
 -- and to the end of its text
 pub record HasReadAll (w : Way) (p : Stage) : Type 0 where
@@ -86,7 +86,7 @@ pub record HasReadAll (w : Way) (p : Stage) : Type 0 where
   pub over : IsOver w.older p.split
   pub edits : List Edit
   pub ended : HasEnded built_in w.name w.older w.from p.lexer (control_at w.older p) edits
-  pub amounts : Amounts w.grows p.sink w.older p.split.edits edits
+  pub amounts : Amounts w.kind p.sink w.older p.split.edits edits
 
 -- where the lexer stands, and what was changed so far over what is below
 abbrev pub seeker_of : Stage → Seeker
@@ -190,7 +190,7 @@ pub record IsHandled (s : ControlState) (old new : Stage) (tokens : List Token) 
   pub lexer : new.lexer ≡ lexer_after handle_at_once (control_at s old) tokens old.lexer
   pub control : control_at s new ≡ left_after handle_at_once (control_at s old) tokens
   pub own : untouched_at_once s (control_at s old) tokens ≡ true
-  pub amounts : (grows : Bool) (es : List Edit) → Amounts grows old.sink s old.split.edits es → Amounts grows new.sink s new.split.edits (es ++ made_after handle_at_once (control_at s old) tokens)
+  pub amounts : (kind : SinkKind) (es : List Edit) → Amounts kind old.sink s old.split.edits es → Amounts kind new.sink s new.split.edits (es ++ made_after handle_at_once (control_at s old) tokens)
 
 abbrev pub AsksNothing : Lexer → Type 0
 AsksNothing l = l.asked ≡ asked.Nothing

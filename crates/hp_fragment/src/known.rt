@@ -8,7 +8,7 @@ ghost use Rattle.hp_lexer.specs.declared.lexer.Asked.TheVariants as asked;
 ghost use Rattle.hp_older.specs.Over.{IsOver};
 ghost use Rattle.hp_views.specs.View.{split_of};
 ghost use Rattle.hp_fragment.specs.Known.{stage_of, state_of, way_from, EndsInput, RanFrom};
-ghost use Rattle.hp_fragment.specs.Making.{Amounts, is_growing};
+ghost use Rattle.hp_fragment.specs.Making.{Amounts, kind_of};
 ghost use Rattle.hp_fragment.specs.Reading.{Handled, HasRead, IsAtEnd, IsReady};
 
 use crate::NoMemory;
@@ -32,9 +32,9 @@ impl<'p> Parsing<'p, Nothing> {
         sink: Sink<'p>,
     ) -> Result<Parsing<'p, Nothing>, NoMemory>
         requires valid { IsValid from.now }
-        requires empty { Amounts (is_growing sink) sink nothing [] [] }
+        requires empty { Amounts (kind_of sink) sink nothing [] [] }
         ensures at_end { IfOk result (λ p. IsAtEnd (stage_of p)) }
-        ensures ran { IfOk result (λ p. RanFrom from.now (chars text.now) (is_growing sink.entry) (stage_of p)) }
+        ensures ran { IfOk result (λ p. RanFrom from.now (chars text.now) (kind_of sink.entry) (stage_of p)) }
     {
         hp_older::answers_over();
         let mut parsing = Parsing::before(alloc, from, text, sink)?;
@@ -55,14 +55,14 @@ impl<'p> Parsing<'p, Nothing> {
         sink: Sink<'p>,
     ) -> Result<Parsing<'p, Nothing>, NoMemory>
         requires valid { IsValid from.now }
-        requires empty { Amounts (is_growing sink) sink nothing [] [] }
+        requires empty { Amounts (kind_of sink) sink nothing [] [] }
         ensures ready { IfOk result (λ p. IsReady (stage_of p)) }
         ensures nothing_asked { IfOk result (λ p. p.lexer.asked ≡ asked.Nothing) }
         ensures state { IfOk result (λ p. state_of (stage_of p) ≡ from.now) }
         ensures over { IfOk result (λ p. IsOver nothing (split_of p.view)) }
         ensures edits { IfOk result (λ p. p.view.edits ≡ []) }
         ensures sink { IfOk result (λ p. p.sink ≡ sink.entry) }
-        ensures reads { IfOk result (λ p. HasRead (way_from from.now (chars text.now) (is_growing sink.entry)) (stage_of p)) }
+        ensures reads { IfOk result (λ p. HasRead (way_from from.now (chars text.now) (kind_of sink.entry)) (stage_of p)) }
     {
         hp_runs::comes_on();
         let lexer = match Lexer::from_state(alloc, &from.lex) {

@@ -1,18 +1,21 @@
 //! The run over a chunk behind a known state.
 ghost use Rattle.std.specs.Prelude.{◌≡◌, IfOk, slice_range};
+ghost use Rattle.std.specs.Str.{chars};
 ghost use Rattle.hp_text.specs.Page.{text_of as page_text};
 ghost use Rattle.hp_control.specs.States.{IsValid};
-ghost use Rattle.hp_pieces.specs.Fragments.{IsRun};
 ghost use Rattle.hp_pieces.specs.Texts.{text_of, IsExactFrom};
+ghost use Rattle.hp_fragment.specs.Known.{LeadsPartlySplit};
 
 use crate::NoMemory;
+use crate::grown::grown_run;
 use crate::laws::runs_stay_valid;
 use crate::leaving::leave_control;
 use crate::parsing::Parsing;
-use crate::sink::Sink;
+use crate::sink::{Sink, Splitting};
 use crate::told::told_state;
 use hp_control::{Control, Edits};
-use hp_pieces::{Exact, Fragment};
+use hp_growth::Growing;
+use hp_pieces::Fragment;
 use hp_text::Chunk;
 use std::alloc::Global;
 
@@ -24,9 +27,8 @@ pub fn replay<'p>(alloc: Global, chunk: Chunk<'p>, from: Control) -> Result<Frag
     let text = &chunk.page.as_str()[chunk.from as usize..chunk.to as usize];
     from.is_kept();
     match run_from(alloc, text, &from) {
-        Ok((exit, edits)) => {
-            let bytes = text.as_bytes();
-            let exact = Exact::of_run(bytes, from, exit, edits);
+        Ok((exit, growing, rest)) => {
+            let exact = grown_run(alloc, text, from, exit, growing, rest)?;
             Ok(Fragment::Exact(exact))
         }
         Err(fault) => {
@@ -36,16 +38,20 @@ pub fn replay<'p>(alloc: Global, chunk: Chunk<'p>, from: Control) -> Result<Frag
     }
 }
 
-/// The state to which the run over the text leads, and the edits.
+/// The state to which the run over the text leads, what the first of its edits come to, and the others, which tell each element by its
+/// id.
 fn run_from<'p>(
     alloc: Global,
     text: &'p str,
     from: &Control,
-) -> Result<(Control, Edits<'p>), NoMemory>
+) -> Result<(Control, Growing<'p>, Edits<'p>), NoMemory>
     requires { IsValid from.now }
-    ensures { IfOk result (λ parts. IsRun (record { text = text.now; entry = from.now; exit = parts.0; edits = parts.1 })) }
+    ensures { IfOk result (λ parts. LeadsPartlySplit (chars text.now) from.now parts.1 parts.2 parts.0) }
 {
     runs_stay_valid();
-    let parsing = Parsing::behind(alloc, from, text, Sink::Keeps)?;
+    let growing = Growing::start(alloc)?;
+    let next = from.next;
+    let sink = Sink::Splits(Splitting { growing, next });
+    let parsing = Parsing::behind(alloc, from, text, sink)?;
     Ok(told_state(parsing))
 }

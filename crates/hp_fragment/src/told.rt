@@ -4,17 +4,22 @@ ghost use Rattle.hp_control.specs.Apply.{named_edit};
 ghost use Rattle.hp_control.specs.Nothing.{nothing};
 ghost use Rattle.hp_control.specs.States.{IsValid};
 ghost use Rattle.hp_fragment.specs.Known.{stage_of, state_of};
+ghost use Rattle.hp_fragment.specs.Making.{IsSplitIn, IsSplitting};
 
 use crate::leaving::{into_edits, leave_lexer, leave_sink};
 use crate::parsing::Parsing;
+use crate::sink::into_growing;
 use hp_control::{Control, Edits, Nothing};
+use hp_growth::Growing;
 use hp_lexer::Lexer;
 
-/// The state that a parser has reached, and its edits.
-pub(crate) fn told_state<'p>(parsing: Parsing<'p, Nothing>) -> (Control, Edits<'p>)
+/// The state that a parser has reached, what its edits come to that were split, and the others.
+pub(crate) fn told_state<'p>(parsing: Parsing<'p, Nothing>) -> (Control, Growing<'p>, Edits<'p>)
     requires valid { IsValid (state_of (stage_of parsing)) }
+    requires splits { IsSplitting parsing.sink }
     ensures state { result.0 ≡ state_of (stage_of parsing.entry) }
-    ensures edits { result.1 ≡ map (named_edit nothing) parsing.entry.view.edits }
+    ensures growing { IsSplitIn parsing.entry.sink result.1 }
+    ensures edits { result.2 ≡ map (named_edit nothing) parsing.entry.view.edits }
 {
     let Parsing {
         lexer,
@@ -22,11 +27,11 @@ pub(crate) fn told_state<'p>(parsing: Parsing<'p, Nothing>) -> (Control, Edits<'
         sink,
         ..
     } = parsing;
-    leave_sink(sink);
+    let growing = into_growing(sink);
     let Lexer { lex, .. } = lexer;
     let (control, mut edits) = view.into_control(lex);
     edits.tell();
-    (control, edits)
+    (control, growing, edits)
 }
 
 /// The edits that a parser has made.

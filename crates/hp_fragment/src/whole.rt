@@ -1,10 +1,10 @@
 //! The sequential parser over a whole page.
-ghost use Rattle.std.specs.Prelude.{◌≡◌, true, IfOk};
+ghost use Rattle.std.specs.Prelude.{◌≡◌, IfOk};
 ghost use Rattle.std.specs.Str.{chars};
 ghost use Rattle.hp_names.specs.BuiltIn.{built_in};
 ghost use Rattle.hp_runs.specs.Pages.{IsTreeOf};
 ghost use Rattle.hp_text.specs.Page.{text_of};
-ghost use Rattle.hp_fragment.specs.Making.{is_growing, HasGrownBy};
+ghost use Rattle.hp_fragment.specs.Making.{kind_of, HasGrownBy, Applied};
 
 use crate::NoMemory;
 use crate::laws::{pages_end, runs_stay_valid};
@@ -40,7 +40,7 @@ pub fn parse_whole<'p>(alloc: Global, page: Page<'p>) -> Result<Tree<'p>, NoMemo
 
 /// The tree of a parser that grows one, with all its edits.
 fn grown_tree<'p>(alloc: Global, read: Parsing<'p, Nothing>) -> Result<Tree<'p>, NoMemory>
-    requires grows { is_growing read.sink ≡ true }
+    requires grows { kind_of read.sink ≡ Applied }
     ensures { IfOk result (λ tree. HasGrownBy read.entry.sink read.entry.view.edits tree.branches) }
 {
     let Parsing {
@@ -56,6 +56,6 @@ fn grown_tree<'p>(alloc: Global, read: Parsing<'p, Nothing>) -> Result<Tree<'p>,
             grow(alloc, &mut tree, &mut edits)?;
             Ok(tree)
         }
-        Sink::Keeps => unreachable!(),
+        Sink::Keeps | Sink::Splits(_) => unreachable!(),
     }
 }

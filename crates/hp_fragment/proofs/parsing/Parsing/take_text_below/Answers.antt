@@ -1,4 +1,4 @@
-use Rattle.std.proofs.Common.{Bool, ℕ, false, map, subst, sym, true, ◌≡◌, ◌∙◌, ap}
+use Rattle.std.proofs.Common.{Bool, map, subst, sym, true, ◌≡◌, ◌∙◌, ap}
 use Rattle.std.specs.Prelude.{◌-◌, ◌^◌}
 use Rattle.hp_elements.specs.declared.kinds.Kinds.TheVariants as kinds
 use Rattle.hp_tokens.specs.Rows.{character}
