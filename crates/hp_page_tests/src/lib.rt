@@ -4,6 +4,8 @@
 #[cfg(test)]
 mod chunks;
 #[cfg(test)]
+mod counting;
+#[cfg(test)]
 mod groves;
 #[cfg(test)]
 mod lists;

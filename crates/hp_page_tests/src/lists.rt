@@ -5,6 +5,7 @@ ghost use Rattle.hp_text.specs.Page.{text_of as page_text};
 ghost use Rattle.hp_cut.specs.Places.{IsOf};
 
 use crate::chunks::page_of;
+use crate::counting::advanced;
 use hp_board::{Advance, Board, Claim, Tally};
 use hp_cut::{Cuts, cuts_listed};
 use hp_fragment::{ending, parse_whole, replay, speculate_by};
@@ -177,7 +178,7 @@ fn advance(
     tally: &mut Tally,
     marks: &mut Marks,
 ) -> bool {
-    let advance = board.advance(alloc, tally).expect(rt, "there is memory");
+    let advance = advanced(rt, alloc, board, tally);
     let is_idle = matches!(advance, Advance::Idle);
     let is_kept = matches!(advance, Advance::Kept);
     mem::forget(advance);

@@ -1,6 +1,7 @@
 //! The board of a page of two chunks and two workers, step by step: what each call answers, and what the journal says of it all.
 
 use crate::chunks::{in_two, page_of};
+use crate::counting::advanced;
 use hp_board::{Advance, Board, BoardStep, Claim, Entry, Origin, PostCause, PostRefusal, Tally};
 use hp_control::Control;
 use hp_fragment::{replay, speculate_by};
@@ -96,14 +97,14 @@ fn refusal<'p>(
 }
 
 fn is_idle(rt: &impl Abort, alloc: Global, board: &mut Board<'_>, tally: &mut Tally) -> bool {
-    let advance = board.advance(alloc, tally).expect(rt, "there is memory");
+    let advance = advanced(rt, alloc, board, tally);
     let idle = matches!(advance, Advance::Idle);
     mem::forget(advance);
     idle
 }
 
 fn is_kept(rt: &impl Abort, alloc: Global, board: &mut Board<'_>, tally: &mut Tally) -> bool {
-    let advance = board.advance(alloc, tally).expect(rt, "there is memory");
+    let advance = advanced(rt, alloc, board, tally);
     let kept = matches!(advance, Advance::Kept);
     mem::forget(advance);
     kept

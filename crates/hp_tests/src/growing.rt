@@ -21,10 +21,10 @@ pub fn keep_room(rt: &impl Abort, alloc: Global, tree: &mut Tree<'static>) {
 }
 
 /// Makes an edit for which there is room.
-pub fn make(rt: &impl Abort, tree: &mut Tree<'static>, edit: Edit<'static>) {
+pub fn make(rt: &impl Abort, tree: &mut Tree<'static>, mut edit: Edit<'static>) {
     let room = edit.room();
     assert!(rt; room <= tree.spare());
-    tree.apply(edit);
+    tree.make(&mut edit);
 }
 
 /// Makes the HTML element `b` of that number and puts it last into another.

@@ -1,4 +1,6 @@
 //! Steps over the guess of a prescan: each comes out, and what was asked is true of the guessed state.
+ghost use Rattle.std.specs.Prelude.{◌≡◌};
+
 use crate::carrying::Step::{
     self, Crosses, Does, Fails, Fosters, Handles, Holds, IsHtml, LastTag, Notes, Puts, Reads,
     ReadsBelow,
@@ -8,10 +10,13 @@ use crate::parts::chunk_of;
 use hp_control::{Assumptions, Control, Guess, truth};
 use hp_elements::{Act, Known, Mode, Scope, SetName, Test, Which};
 use hp_predict::Prescan;
+use hp_steps::Steps;
 use hp_views::View;
 use std::alloc::Global;
+use std::marker::Brand;
 use std::mem;
 use std::process::Abort;
+use std::sync::ledger::{Blank, Ledger};
 
 const PARAGRAPH: Test = Test::InScope(Scope::Button, Which::Its);
 
@@ -214,8 +219,18 @@ static CASES: &[Case] = &[
 
 /// Whether each answer that was kept is true of the state.
 fn are_true(state: &Control, kept: &Assumptions) -> bool {
+    are_true_by::<Brand>(state, kept, Blank::new(1))
+}
+
+/// The same by a counter of that ledger.
+fn are_true_by<L: Ledger>(state: &Control, kept: &Assumptions, blank: Blank) -> bool
+    requires name { blank.name ≡ L.name }
+    requires parts { blank.parts ≡ L.parts }
+    requires one { blank.parts ≡ 1 }
+{
+    let mut steps = Steps::<L>::start(blank);
     for pair in kept.as_slice() {
-        if !truth(state, &pair.question, &pair.answer) {
+        if !truth(state, &pair.question, &pair.answer, &mut steps) {
             return false;
         }
     }

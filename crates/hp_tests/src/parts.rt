@@ -2,7 +2,7 @@
 
 use hp_control::{Control, Edit, Edits};
 use hp_fragment::{ending, parse_whole, replay};
-use hp_pieces::Fragment;
+use hp_pieces::{ExactParts, Fragment};
 use hp_text::{Chunk, check_page};
 use std::alloc::Global;
 use std::mem;
@@ -44,10 +44,17 @@ pub(crate) fn run_part(
     let Fragment::Exact(exact) = replay(alloc, chunk, from).expect(rt, "there is memory") else {
         panic!(rt; "a replay is exact");
     };
-    let (entry, exit, edits) = exact.into_parts();
-    let count = made(&edits);
+    let ExactParts {
+        text: _,
+        entry,
+        exit,
+        grove,
+        outer,
+    } = exact.into_parts();
+    let count = grove.len();
     mem::forget(entry);
-    mem::forget(edits);
+    mem::forget(grove);
+    mem::forget(outer);
     (exit, count)
 }
 

@@ -4,11 +4,12 @@ use crate::growing::{comment, foster, keep_room, make, make_element};
 use hp_arena::Tree;
 use hp_control::Child;
 use hp_elements::Text;
-use hp_print::{Refusal, print_tree, write_tree};
+use hp_print::{Refusal, print_tree, write_tree, write_tree_by};
 use hp_text::MemorySink;
 use std::alloc::Global;
 use std::mem;
 use std::process::Abort;
+use std::thread::Threads;
 
 /// What a tree is grown by.
 #[derive(Clone, Copy)]
@@ -17,6 +18,8 @@ enum By {
     Comment,
     /// An element in the one before.
     Element,
+    /// An element in the document.
+    Sibling,
     /// A comment and a text of one letter before the second element, each between those that were put there before and the element.
     Pair,
 }
@@ -35,6 +38,10 @@ fn grow(rt: &impl Abort, alloc: Global, tree: &mut Tree<'static>, by: By, count:
         match by {
             By::Comment => make(rt, tree, comment(0)),
             By::Element => make_element(rt, tree, number.wrapping_add(1), number),
+            By::Sibling => {
+                let made = tree.len() as u64;
+                make_element(rt, tree, made, 0);
+            }
             By::Pair => {
                 let note: Child<'static> = Child::Comment(Text::new());
                 let letter: Child<'static> = Child::Text(Text::of_char('t'));
@@ -125,4 +132,51 @@ fn large_trees_are_printed(rt: HostRuntime) {
     assert!(rt; length_of(&rt, alloc, 2_000, By::Comment, 0) == 4_010_000);
     assert!(rt; length_of(&rt, alloc, 0, By::Comment, 1_000_000) == 1_000_000 * 12);
     assert!(rt; length_of(&rt, alloc, 2, By::Pair, 100_000) == 6 + 8 + 100_000 * (14 + 8));
+}
+
+/// An output with so much room takes that much of the text by this many threads, and the fault tells it.
+fn assert_taken_by<R: Abort + Threads + Sync>(
+    rt: &R,
+    alloc: Global,
+    tree: &Tree<'_>,
+    text: &[u8],
+    threads: u32,
+    room: usize,
+) {
+    let mut out = MemorySink::new(alloc, room, &[]).expect(rt, "there is memory");
+    let outcome = write_tree_by(rt, alloc, tree, &mut out, threads);
+    assert!(rt; room <= text.len());
+    let expected = if room == text.len() {
+        Ok(())
+    } else {
+        Err(Refusal::Fault { taken: room as u64 })
+    };
+    let well = out.taken() == &text[..room] && outcome == expected;
+    mem::forget(out);
+    assert!(rt; well, "{threads} threads, room for {room}");
+}
+
+/// A tree of so many elements, each in the one before, and of so many more in the document is printed the same by any number of threads.
+fn assert_printed_alike<R: Abort + Threads + Sync>(
+    rt: &R,
+    alloc: Global,
+    elements: u64,
+    more: u64,
+) {
+    let mut tree = nested(rt, alloc, elements);
+    grow(rt, alloc, &mut tree, By::Sibling, more);
+    let text = print_tree(alloc, &tree).expect(rt, "there is memory");
+    for threads in [1, 2, 4] {
+        assert_taken_by(rt, alloc, &tree, &text, threads, text.len());
+    }
+    assert_taken_by(rt, alloc, &tree, &text, 4, text.len() / 2);
+    mem::forget(text);
+    mem::forget(tree);
+}
+
+/// A part has 16,384 items at most. That of 1,100 levels ends early: their text takes more than a megabyte.
+#[test]
+fn several_threads_print_as_one_does(rt: HostRuntime) {
+    assert_printed_alike(&rt, rt.alloc(), 0, 140_000);
+    assert_printed_alike(&rt, rt.alloc(), 1_100, 140_000);
 }

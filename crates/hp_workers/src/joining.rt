@@ -7,11 +7,14 @@ ghost use Rattle.hp_merge.specs.Checked.{MayJoin};
 
 use crate::NoMemory;
 use crate::leaving::{leave_fragment, leave_refusal};
+use crate::uncounted::{check_by, join_by};
 use hp_fragment::replay;
 use hp_merge::{Checked, Front, fronts_go_on, is_sound};
 use hp_pieces::{Fragment, pages_at};
 use hp_text::Chunk;
 use std::alloc::Global;
+use std::marker::Brand;
+use std::sync::ledger::Blank;
 
 /// What became of a chunk's fragment.
 #[derive(Clone, Copy, Debug, PartialEq, Eq)]
@@ -53,7 +56,7 @@ pub fn join_chunk<'p>(
 fn may_join(front: &Front<'_>, fragment: &Fragment<'_>) -> bool
     ensures { IsTrue result ↔ MayJoin front.now.control fragment.now }
 {
-    match front.check(fragment) {
+    match check_by::<Brand>(front, fragment, Blank::new(1)) {
         Checked::Holds => true,
         Checked::Fails { .. } | Checked::OtherEntry => false,
     }
@@ -139,7 +142,7 @@ fn commit<'p>(
     fronts_go_on();
     is_sound(&fragment);
     let _page = chunk.page.text();
-    match front.join(alloc, fragment) {
+    match join_by::<Brand>(front, alloc, fragment, Blank::new(1)) {
         Ok(()) => Ok(()),
         Err(refusal) => {
             leave_refusal(refusal);

@@ -8,6 +8,7 @@ mod mains;
 mod order;
 mod page;
 mod turns;
+mod uncounted;
 
 pub use gate::{Gate, OpenGate};
 pub use hp_text::NoMemory;

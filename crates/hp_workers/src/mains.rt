@@ -10,9 +10,12 @@ use crate::NoMemory;
 use crate::gate::OpenGate;
 use crate::leaving::leave_advance;
 use crate::turns::{is_idle, make};
+use crate::uncounted::advance_by;
 use hp_board::{Board, Tally};
 use hp_predict::GuessKind;
 use std::alloc::Global;
+use std::marker::Brand;
+use std::sync::ledger::Blank;
 
 /// Judges the front chunk. Whether there was nothing to judge.
 fn judge(alloc: Global, board: &mut Board<'_>, tally: &mut Tally) -> Result<bool, NoMemory>
@@ -23,7 +26,7 @@ fn judge(alloc: Global, board: &mut Board<'_>, tally: &mut Tally) -> Result<bool
     ensures less { IfOk result (λ idle. idle ≡ false → weight board.new < weight board.old) }
     ensures idle { IfOk result (λ idle. idle ≡ true → (board.new ≡ board.old) × (tally.new ≡ tally.old) × (is_posted (at (statuses board.old) board.old.done) ≡ false)) }
 {
-    let advance = board.advance(alloc, tally)?;
+    let advance = advance_by::<Brand>(board, alloc, tally, Blank::new(1))?;
     let idle = is_idle(&advance);
     leave_advance(advance);
     Ok(idle)

@@ -8,11 +8,14 @@ ghost use Rattle.hp_workers.specs.Turns.{is_idle};
 use crate::NoMemory;
 use crate::gate::Gate;
 use crate::leaving::{leave_advance, leave_post_refusal};
+use crate::uncounted::advance_by;
 use hp_board::{Advance, Board, Claim, Tally};
 use hp_fragment::{replay, speculate_by};
 use hp_pieces::Fragment;
 use hp_predict::GuessKind;
 use std::alloc::Global;
+use std::marker::Brand;
+use std::sync::ledger::Blank;
 use std::sync::{Mutex, Wait};
 use std::thread::Threads;
 
@@ -82,7 +85,7 @@ fn advance_until_idle<R: Wait>(
     ensures { IsLater tally.old tally.new }
 {
     for _turn in 0..turns {
-        let advanced = desk.lock(rt).advance(alloc, tally);
+        let advanced = advance_by::<Brand>(&mut desk.lock(rt), alloc, tally, Blank::new(1));
         let Ok(advance) = advanced else {
             return;
         };

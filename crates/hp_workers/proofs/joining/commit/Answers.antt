@@ -6,8 +6,8 @@ use Rattle.hp_merge.specs.Fore.{Fore}
 use Rattle.hp_workers.specs.Joining.{StandsAt}
 use Rattle.hp_workers.proofs.joining.commit.Goals as goal
 
-pub join-requires-clause-fits : goal.join-requires-clause-fits
-join-requires-clause-fits c =
+pub join_by-requires-clause-fits : goal.join_by-requires-clause-fits
+join_by-requires-clause-fits c =
     c.pages_at.ensures.fits (page_text c.args.chunk.now.page) c.args.chunk.now.from c.args.front.now.control c.args.front.now.tree c.requires.at c.requires.limit
 
 pub returns-in-Ok-clause-at : goal.returns-in-Ok-clause-at

@@ -10,14 +10,14 @@ pub returns-clause-on : goal.returns-clause-on
 returns-clause-on c busy =
     let a = c.in_ok-advance.advance in
     let e = c.in_ok-advance.ensures in
-    advanced_on c.args.board.now c.advance.new.self c.args.tally.now c.advance.new.tally a c.requires.free c.requires.main c.requires.short (not_idle a (sym c.is_idle-idle.ensures ∙ busy)) e.page e.judged e.raised
+    advanced_on c.args.board.now c.advance_by.new.board c.args.tally.now c.advance_by.new.tally a c.requires.free c.requires.main c.requires.short (not_idle a (sym c.is_idle-idle.ensures ∙ busy)) e.page e.judged e.raised
 
 pub returns-clause-less : goal.returns-clause-less
 returns-clause-less c busy =
     let a = c.in_ok-advance.advance in
-    (advanced c.args.board.now c.advance.new.self c.args.tally.now.worker a c.requires.free (not_idle a (sym c.is_idle-idle.ensures ∙ busy)) c.in_ok-advance.ensures.judged).0
+    (advanced c.args.board.now c.advance_by.new.board c.args.tally.now.worker a c.requires.free (not_idle a (sym c.is_idle-idle.ensures ∙ busy)) c.in_ok-advance.ensures.judged).0
 
 pub returns-clause-idle : goal.returns-clause-idle
 returns-clause-idle c idle =
     let a = c.in_ok-advance.advance in
-    judged_idle c.args.board.now c.advance.new.self c.args.tally.now c.advance.new.tally a (idle_is a (sym c.is_idle-idle.ensures ∙ idle)) c.in_ok-advance.ensures.judged c.in_ok-advance.ensures.raised
+    judged_idle c.args.board.now c.advance_by.new.board c.args.tally.now c.advance_by.new.tally a (idle_is a (sym c.is_idle-idle.ensures ∙ idle)) c.in_ok-advance.ensures.judged c.in_ok-advance.ensures.raised
