@@ -2,6 +2,7 @@ pub mod Blanks
 pub mod Depths
 pub mod Filling
 pub mod Fronts
+pub mod GoingOn
 pub mod Lists
 pub mod Ordered
 pub mod Pieces

@@ -1,6 +1,7 @@
 pub mod Faults
 pub mod Order
 pub mod Out
+pub mod Parts
 pub mod Print
 pub mod Shown
 pub mod Stack

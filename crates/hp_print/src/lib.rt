@@ -6,8 +6,10 @@ mod filled;
 mod items;
 mod kept;
 mod output;
+mod parts;
 mod walk;
 
 pub use attributes::attributes_are_in_order;
 pub use hp_elements::NoMemory;
+pub use parts::write_tree_by;
 pub use walk::{Refusal, print_tree, write_tree};

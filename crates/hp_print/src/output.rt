@@ -1,8 +1,9 @@
 //! Where the printed text goes: it is gathered in memory of one size, which goes to the sink whenever it is full.
 
-ghost use Rattle.std.specs.Prelude.{◌≡◌, ◌+◌, ◌^◌, ◌<◌, ◌≤◌, ◌++◌, [], ◌∷◌, IfOk, length, codes, encode_utf8_all};
+ghost use Rattle.std.specs.Prelude.{true, ◌≡◌, ◌+◌, ◌^◌, ◌<◌, ◌≤◌, ◌++◌, [], ◌∷◌, IfOk, length, codes, encode_utf8_all};
 ghost use Rattle.std.specs.Str.{chars};
 ghost use Rattle.hp_print.specs.Out.{Finished, IsEmpty, Prints, Starts};
+ghost use Rattle.hp_print.specs.Parts.{has_failed};
 ghost use Rattle.hp_print.specs.Print.{indentation};
 
 use crate::filled::Filled;
@@ -73,8 +74,32 @@ impl Out {
         }
     }
 
+    /// Starts again, with nothing printed. Whether it can: after a write that failed it can't.
+    pub fn restart(&mut self) -> bool
+        ensures { result ≡ true → Starts self.new }
+    {
+        match self {
+            Out::Gathered { gathered, written } => {
+                gathered.clear();
+                *written = 0;
+                true
+            }
+            Out::Failed { .. } => false,
+        }
+    }
+
+    /// Whether a write failed.
+    pub fn has_failed(&self) -> bool
+        ensures { result ≡ has_failed self.now }
+    {
+        match self {
+            Out::Gathered { .. } => false,
+            Out::Failed { .. } => true,
+        }
+    }
+
     /// Writes what was gathered.
-    fn flush<K: Sink>(&mut self, sink: &mut K)
+    pub fn flush<K: Sink>(&mut self, sink: &mut K)
         ensures printed { Prints self.old self.new (K.taken sink.old, K.faults sink.old) (K.taken sink.new, K.faults sink.new) [] }
         ensures empty { IsEmpty self.new }
     {

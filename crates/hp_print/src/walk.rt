@@ -1,14 +1,15 @@
 //! The walk over the tree, with a stack of its own.
 
-ghost use Rattle.std.specs.Prelude.{◌≡◌, ◌+◌, ◌<◌, ◌≤◌, [], Err, IfOk, OnOk, length, drop, vec_len, vec_capacity};
+ghost use Rattle.std.specs.Prelude.{◌≡◌, ◌+◌, ◌<◌, ◌≤◌, [], Err, IfOk, OnOk, length, drop, true, false, vec_len, vec_capacity};
 ghost use Rattle.std.specs.Io.KnownBytes.{append_known};
 ghost use Rattle.hp_text.specs.Device.{Rose};
 ghost use Rattle.hp_arena.specs.Readers.{parent_of, place_of, HasTag};
 ghost use Rattle.hp_control.specs.Tree.{branch};
-ghost use Rattle.hp_print.specs.Out.{Prints, TakesFirst};
+ghost use Rattle.hp_print.specs.Out.{Prints, Starts, TakesFirst};
 ghost use Rattle.hp_print.specs.Faults.{OnFault};
 ghost use Rattle.hp_print.specs.Print.{print};
-ghost use Rattle.hp_print.specs.Stack.{HasRoom, IsDeep, IsMark, Pushed, Stepped, attributes_in, lines_at, steps_at};
+ghost use Rattle.hp_print.specs.Parts.{IsReady, PrintsOn};
+ghost use Rattle.hp_print.specs.Stack.{AreMarks, HasRoom, IsDeep, IsMark, Pushed, Stepped, lines_at, pending, steps_at, todo};
 
 use crate::attributes::Shown;
 use crate::items::{extra_depth, print_item};
@@ -39,7 +40,7 @@ pub enum Refusal {
 }
 
 /// A text with more levels than these above its lines is of absurd length: that of a tree goes by the square of its depth.
-const ABSURD: u64 = 1 << 34;
+pub const ABSURD: u64 = 1 << 34;
 
 /// The tree as text, in UTF-8. An `Err` comes for want of memory, or where the text would be of absurd length.
 pub fn print_tree(alloc: Global, tree: &Tree<'_>) -> Result<Vec<u8>, NoMemory>
@@ -65,21 +66,77 @@ pub fn write_tree<K: Sink>(alloc: Global, tree: &Tree<'_>, sink: &mut K) -> Resu
     if tree.summed_levels() > ABSURD {
         return Err(Refusal::NoMemory);
     }
-    // A stack that is deep enough for the tree.
-    let Ok(mut stack) = Vec::with_capacity(alloc, tree.len() as usize) else {
+    let Ok(mut printing) = Printing::new(alloc, tree) else {
         return Err(Refusal::NoMemory);
     };
-    let Ok(mut list) = attribute_list(alloc, tree) else {
-        return Err(Refusal::NoMemory);
-    };
-    let Ok(mut out) = Out::new(alloc) else {
-        return Err(Refusal::NoMemory);
-    };
-    print_all(alloc, tree, &mut stack, &mut list, &mut out, sink);
-    match out.finish(sink) {
+    printing.print_rest(alloc, tree, sink);
+    match printing.out.finish(sink) {
         Ok(()) => Ok(()),
         Err(fault) => Err(Refusal::Fault { taken: fault.taken }),
     }
+}
+
+/// The printing of a tree: the marks of what is still to come, and the memory that this takes.
+#[derive(Drop)]
+pub struct Printing<'t> {
+    /// The last one stands at the item that is to be printed next.
+    pub marks: Vec<Mark>,
+    /// Memory for the attributes of any element of the tree.
+    pub list: Vec<Shown<'t>>,
+    /// What was printed and isn't written yet.
+    pub out: Out,
+}
+
+impl<'t> Printing<'t> {
+    /// All of the tree is still to come.
+    pub fn new(alloc: Global, tree: &'t Tree<'_>) -> Result<Printing<'t>, NoMemory>
+        ensures ready { IfOk result (IsReady tree.now) }
+        ensures starts { IfOk result (λ printing. Starts printing.out) }
+        ensures whole { IfOk result (λ printing. pending tree.now.branches printing.marks.items ≡ print tree.now.branches) }
+    {
+        let marks = first_marks(alloc, tree)?;
+        let list = attribute_list(alloc, tree)?;
+        let out = Out::new(alloc)?;
+        Ok(Printing { marks, list, out })
+    }
+
+    /// Prints the item at the last mark, and marks what comes after it. Whether there was a mark.
+    #[inline]
+    pub fn print_next<K: Sink>(&mut self, alloc: Global, tree: &'t Tree<'_>, sink: &mut K) -> bool
+        requires ready { IsReady tree.now self.old }
+        ensures ready { IsReady tree.now self.new }
+        ensures printed { PrintsOn tree.now.branches self.old self.new (K.taken sink.old, K.faults sink.old) (K.taken sink.new, K.faults sink.new) }
+        ensures fewer { result ≡ true → todo tree.now.branches self.new.marks.items < todo tree.now.branches self.old.marks.items }
+        ensures none { result ≡ false → self.new.marks.items ≡ [] }
+    {
+        let Some(mark) = self.marks.pop() else {
+            return false;
+        };
+        let view = step(tree, &mut self.marks, mark);
+        let depth = mark.level as u64 + mark.templates as u64;
+        print_item(alloc, &mut self.out, sink, &mut self.list, view, depth);
+        true
+    }
+
+    /// Prints all that is still to come.
+    pub fn print_rest<K: Sink>(&mut self, alloc: Global, tree: &'t Tree<'_>, sink: &mut K)
+        requires ready { IsReady tree.now self.old }
+        ensures { Prints self.old.out self.new.out (K.taken sink.old, K.faults sink.old) (K.taken sink.new, K.faults sink.new) (pending tree.now.branches self.old.marks.items) }
+    {
+        while self.print_next(alloc, tree, sink) {}
+    }
+}
+
+/// A mark at the first item of the tree, if there is one, in a stack that is deep enough for the tree.
+fn first_marks(alloc: Global, tree: &Tree<'_>) -> Result<Vec<Mark>, NoMemory>
+    ensures marks { IfOk result (λ marks. AreMarks tree.now 0 marks.items) }
+    ensures room { IfOk result (λ marks. length tree.now.branches ≤ vec_capacity marks) }
+    ensures whole { IfOk result (λ marks. pending tree.now.branches marks.items ≡ print tree.now.branches) }
+{
+    // `len` hands on that the tree is a forest: the document is there.
+    let mut marks = Vec::with_capacity(alloc, tree.len() as usize)?;
+    push_first(tree, &mut marks, 0, 0, 0);
+    Ok(marks)
 }
 
 /// Memory for the attributes of any element of the tree.
@@ -90,33 +147,9 @@ fn attribute_list<'t>(alloc: Global, tree: &'t Tree<'_>) -> Result<Vec<Shown<'t>
     Ok(list)
 }
 
-/// Prints all items of the tree.
-fn print_all<'t, K: Sink>(
-    alloc: Global,
-    tree: &'t Tree<'_>,
-    stack: &mut Vec<Mark>,
-    list: &mut Vec<Shown<'t>>,
-    out: &mut Out,
-    sink: &mut K,
-)
-    requires empty { stack.old.items ≡ [] }
-    requires room { length tree.now.branches ≤ vec_capacity stack.old }
-    requires list { HasRoom tree.now.branches (vec_capacity list.old) }
-    ensures { Prints out.old out.new (K.taken sink.old, K.faults sink.old) (K.taken sink.new, K.faults sink.new) (print tree.now.branches) }
-{
-    // `len` hands on that the tree is a forest: the document is there.
-    let _elements = tree.len();
-    push_first(tree, stack, 0, 0, 0);
-    while let Some(mark) = stack.pop() {
-        let view = step(tree, stack, mark);
-        let depth = mark.level as u64 + mark.templates as u64;
-        print_item(alloc, out, sink, list, view, depth);
-    }
-}
-
 /// Takes a step over the first item at a mark: marks what is left there and what stands inside the item. What stands at the mark.
 #[inline]
-fn step<'t, 'p>(tree: &'t Tree<'p>, stack: &mut Vec<Mark>, mark: Mark) -> NodeView<'t, 'p>
+pub fn step<'t, 'p>(tree: &'t Tree<'p>, stack: &mut Vec<Mark>, mark: Mark) -> NodeView<'t, 'p>
     requires mark { IsMark tree.now mark }
     requires rising { vec_len stack.old ≤ mark.level }
     requires room { length tree.now.branches ≤ vec_capacity stack.old }

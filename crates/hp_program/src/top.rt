@@ -16,7 +16,7 @@ use crate::parsing::{cuts_for, parse};
 use crate::status::Status;
 use hp_arena::Tree;
 use hp_cut::{CutRefusal, Cuts};
-use hp_print::{Refusal, write_tree};
+use hp_print::{Refusal, write_tree_by};
 use hp_text::{PAGE_LIMIT, Page, ReadRefusal, Sink, Source, check_page, read_page};
 use hp_words::{PageSetting, Setting, Words, read_setting};
 use hp_workers::Gate;
@@ -36,12 +36,19 @@ fn unread(refusal: ReadRefusal) -> Outcome
     }
 }
 
-/// Writes a tree as text to `out`. The report is for the notes.
-fn put_tree<K: Sink>(alloc: Global, tree: Tree<'_>, report: Vec<u8>, out: &mut K) -> Outcome
+/// Writes a tree as text to `out`, by as many threads as there are workers. The report is for the notes.
+fn put_tree<R: Threads + Sync, K: Sink>(
+    rt: &R,
+    alloc: Global,
+    tree: Tree<'_>,
+    report: Vec<u8>,
+    out: &mut K,
+    workers: u32,
+) -> Outcome
     ensures written { IsTreeOutcome tree.entry.branches report.items (record { before = K.taken out.old; after = K.taken out.new; faults = K.faults out.old; faults_after = K.faults out.new }) result }
     ensures nothing { status_of result ≢ Status.Done → status_of result ≢ Status.WriteFault → out.new ≡ out.old }
 {
-    let outcome = write_tree(alloc, &tree, out);
+    let outcome = write_tree_by(rt, alloc, &tree, out, workers);
     // The process ends once the text is written, and its memory goes back whole: nothing is given back piece by piece.
     mem::forget(tree);
     match outcome {
@@ -70,7 +77,7 @@ fn put_cut<R: Threads + Wait + Sync, K: Sink, G: Gate + Sync>(
     ensures nothing { status_of result ≢ Status.Done → status_of result ≢ Status.WriteFault → out.new ≡ out.old }
 {
     match parse(rt, alloc, page, cuts, asked, gate) {
-        Ok((tree, report)) => put_tree(alloc, tree, report, out),
+        Ok((tree, report)) => put_tree(rt, alloc, tree, report, out, asked.workers),
         Err(_) => Outcome::NoMemory,
     }
 }

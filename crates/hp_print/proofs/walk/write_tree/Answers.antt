@@ -3,7 +3,7 @@ use Rattle.std.specs.Prelude.{Result}
 use Rattle.hp_text.specs.declared.writing.WriteFault.{WriteFault}
 use Rattle.hp_print.specs.Out.{Outcome, Sight}
 use Rattle.hp_print.specs.Print.{print}
-use Rattle.hp_print.proofs.Pieces.{written}
+use Rattle.hp_print.proofs.Pieces.{prints_as, written}
 use Rattle.hp_print.proofs.walk.write_tree.Goals as goal
 
 pub returns-in-Ok-finish-clause-whole : goal.returns-in-Ok-finish-clause-whole
@@ -11,18 +11,21 @@ returns-in-Ok-finish-clause-whole g c =
     let start : Sight = (g.K.Sink.taken c.args.sink.now, g.K.Sink.faults c.args.sink.now) in
     let end : Sight = (g.K.Sink.taken c.finish.new.sink, g.K.Sink.faults c.finish.new.sink) in
     let text = print c.args.tree.now.branches in
-    subst (λ (done : Result (Unit {0}) WriteFault). Outcome done start end text) c.in-Ok-finish.is (written _ _ _ _ _ _ _ c.in-Ok-new.ensures c.print_all.ensures c.finish.ensures)
+    let printed = prints_as _ _ _ _ _ _ (c.print_rest.ensures) c.in-Ok.ensures.whole in
+    subst (λ (done : Result (Unit {0}) WriteFault). Outcome done start end text) c.in-Ok-finish.is (written _ _ _ _ _ _ _ c.in-Ok.ensures.starts printed c.finish.ensures)
 
 pub returns-clause-part : goal.returns-clause-part
 returns-clause-part g c =
     let start : Sight = (g.K.Sink.taken c.args.sink.now, g.K.Sink.faults c.args.sink.now) in
     let end : Sight = (g.K.Sink.taken c.finish.new.sink, g.K.Sink.faults c.finish.new.sink) in
     let text = print c.args.tree.now.branches in
-    (subst (λ (done : Result (Unit {0}) WriteFault). Outcome done start end text) c.in-Err.is (written _ _ _ _ _ _ _ c.in-Ok-new.ensures c.print_all.ensures c.finish.ensures)).part
+    let printed = prints_as _ _ _ _ _ _ (c.print_rest.ensures) c.in-Ok.ensures.whole in
+    (subst (λ (done : Result (Unit {0}) WriteFault). Outcome done start end text) c.in-Err.is (written _ _ _ _ _ _ _ c.in-Ok.ensures.starts printed c.finish.ensures)).part
 
 pub returns-clause-failed : goal.returns-clause-failed
 returns-clause-failed g c =
     let start : Sight = (g.K.Sink.taken c.args.sink.now, g.K.Sink.faults c.args.sink.now) in
     let end : Sight = (g.K.Sink.taken c.finish.new.sink, g.K.Sink.faults c.finish.new.sink) in
     let text = print c.args.tree.now.branches in
-    (subst (λ (done : Result (Unit {0}) WriteFault). Outcome done start end text) c.in-Err.is (written _ _ _ _ _ _ _ c.in-Ok-new.ensures c.print_all.ensures c.finish.ensures)).rose
+    let printed = prints_as _ _ _ _ _ _ (c.print_rest.ensures) c.in-Ok.ensures.whole in
+    (subst (λ (done : Result (Unit {0}) WriteFault). Outcome done start end text) c.in-Err.is (written _ _ _ _ _ _ _ c.in-Ok.ensures.starts printed c.finish.ensures)).rose
