@@ -1,5 +1,5 @@
 -- A whole tree that has a grove behind it.
-use Rattle.std.proofs.Common.{◌≡◌, ◌≢◌, ℕ, ◌+◌, ◌-◌, ◌*◌, ◌^◌, ◌<◌, ◌≤◌, List, [], ◌∷◌, ◌++◌, All, None, length, map, drop, set, get_or, vec_len, vec_capacity, arith, refl, sym, ap, ◌∙◌, subst, inl, inr, Option}
+use Rattle.std.proofs.Common.{◌≡◌, ◌≢◌, ℕ, ◌+◌, ◌-◌, ◌*◌, ◌^◌, ◌<◌, ◌≤◌, List, [], ◌∷◌, ◌++◌, All, None, length, map, drop, get_or, vec_len, vec_capacity, arith, refl, sym, ap, ◌∙◌, subst, inl, inr, Option}
 use Rattle.std.proofs.lemmas.Bool.{cases_lt, cases_eq}
 use Rattle.std.proofs.lemmas.List.{get_or-append-add, get_or_append_left, get_or-append_right, get_or-set_same, get_or-set_other, length-append, length-map, length-drop, length-set, get_or_past}
 use Rattle.std.proofs.lemmas.Grind.{get_or_after_one}
@@ -8,10 +8,10 @@ use Rattle.std.proofs.Math.ListN.{get_or-map}
 use Rattle.hp_control.specs.Tree.{Item, branch, no_branch}
 use Rattle.hp_elements.specs.declared.tag.Tag.{Tag}
 use Rattle.hp_groves.specs.Grafts.{graft}
-use Rattle.hp_arena.specs.Groves.{behind_document, IsBlank}
+use Rattle.hp_arena.specs.Groves.{behind_document}
 use Rattle.hp_arena.specs.Grafting.{raised_kind, raised_node, raised_element, raised_leaf, retired}
 use Rattle.hp_arena.specs.Leaves.{leaf_at, leaf_items, no_leaf, run_count, IsCell, IsDoctypeIn}
-use Rattle.hp_arena.specs.Nodes.{inside, node_at, blank, links_of, kind_of}
+use Rattle.hp_arena.specs.Nodes.{inside, node_at, blank}
 use Rattle.hp_arena.specs.Shape.{IsSound, IsTree, attribute_count, branches_of, node_of, tag_at, no_element, items_in, item_of, seen}
 use Rattle.hp_arena.specs.declared.links.Node.{Node}
 use Rattle.hp_arena.specs.declared.links.Kind.TheVariants.{End}
@@ -20,9 +20,9 @@ use Rattle.hp_arena.specs.declared.arena.Element.{Element as ElementOf}
 use Rattle.hp_arena.specs.declared.leaves.Leaf.{Leaf as LeafOf}
 use Rattle.hp_arena.specs.declared.leaves.Leaf.TheVariants.{Run, Text, Comment, Doctype}
 use Rattle.hp_arena.specs.declared.grafting.Rise.{Rise}
-use Rattle.hp_arena.proofs.Branches.{items_of, branch-at}
+use Rattle.hp_arena.proofs.Branches.{branch-at}
 use Rattle.hp_arena.proofs.Detaching.{node-below}
-use Rattle.hp_arena.proofs.Glue.{tree_in, length-branches}
+use Rattle.hp_arena.proofs.Glue.{tree_in}
 use Rattle.hp_arena.proofs.Growing.{IsGrown-append}
 use Rattle.hp_arena.proofs.Items.{leaves-plain, length-leaf_items}
 use Rattle.hp_arena.proofs.Rooms.{doctype-more}

@@ -1,18 +1,18 @@
 -- What a tree means that has a grove behind it.
-use Rattle.std.proofs.Common.{◌≡◌, ◌≢◌, ℕ, suc, ◌+◌, ◌-◌, ◌<◌, ◌≤◌, List, [], ◌∷◌, ◌++◌, Bool, true, false, length, map, drop, get_or, arith, refl, sym, ap, ◌∙◌, subst, inl, inr, Option}
+use Rattle.std.proofs.Common.{◌≡◌, ◌≢◌, ℕ, ◌+◌, ◌-◌, ◌<◌, List, [], ◌∷◌, ◌++◌, false, length, map, drop, get_or, arith, refl, sym, ap, ◌∙◌, subst, inl, inr, Option}
 use Rattle.std.proofs.lemmas.Bool.{true≢false, cases_lt, cases_eq, eq-eqb}
 use Rattle.std.proofs.lemmas.List.{ext_get_or, get_or-append-add, get_or_append_left, get_or-append_right, length-append, length-map, length-drop, map-append}
 use Rattle.std.proofs.lemmas.Grind.{get_or_after_one}
 use Rattle.std.proofs.Math.ListN.{get_or-map}
 use Rattle.hp_elements.specs.declared.tag.Tag.{Tag}
-use Rattle.hp_control.specs.Tree.{Item, Tree, Branch, branch, no_branch, is_element}
+use Rattle.hp_control.specs.Tree.{Item, Tree, branch, no_branch, is_element}
 use Rattle.hp_control.specs.Tree as item
 use Rattle.hp_groves.specs.Grafts.{renumbered_item, renumbered, graft}
 use Rattle.hp_arena.specs.Groves.{behind_document}
 use Rattle.hp_arena.specs.Grafting.{raised_kind, raised_leaf}
 use Rattle.hp_arena.specs.Leaves.{leaf_item, leaf_items, leaf_at, no_doctype, doctype_item, IsDoctypeIn}
 use Rattle.hp_arena.specs.Nodes.{kind_of, stops, inside, is_end}
-use Rattle.hp_arena.specs.Shape.{IsTree, IsAtHome, item_of, kind_item, no_item, branch_of, branches_of, node_of, tag_at, no_element}
+use Rattle.hp_arena.specs.Shape.{IsTree, IsAtHome, item_of, kind_item, no_item, branch_of, branches_of, node_of, tag_at}
 use Rattle.hp_arena.specs.declared.links.Node.{Node}
 use Rattle.hp_arena.specs.declared.links.Kind.{Kind}
 use Rattle.hp_arena.specs.declared.links.Kind.TheVariants.{End, Element, Leaf}

@@ -1,5 +1,5 @@
 -- The levels along the links, one link after the other.
-use Rattle.std.proofs.Common.{◌≡◌, ◌≤◌, ◌<◌, ◌+◌, ◌-◌, ◌*◌, ◌^◌, ℕ, zero, suc, List, Option, Some, None, max, min, refl, sym, ap, ◌∙◌, arith}
+use Rattle.std.proofs.Common.{◌≡◌, ◌≤◌, ◌+◌, ◌-◌, ◌*◌, ◌^◌, ℕ, zero, suc, List, Option, Some, None, max, min, refl, ap, ◌∙◌, arith}
 use Rattle.hp_arena.specs.declared.links.Node.{Node}
 use Rattle.hp_arena.specs.declared.links.Kind.{Kind}
 use Rattle.hp_arena.specs.declared.links.Kind.TheVariants.{End, Element, Leaf}

@@ -1,9 +1,9 @@
 -- Nodes whose numbers are raised stand behind others, and form the same lists of children.
-use Rattle.std.proofs.Common.{◌≡◌, ◌≢◌, ℕ, ◌+◌, ◌-◌, ◌<◌, ◌≤◌, List, [], ◌∷◌, Bool, true, false, ◌==◌, length, map, arith, refl, sym, ap, ◌∙◌, subst, inl, inr, ◌⊎◌}
+use Rattle.std.proofs.Common.{◌≡◌, ◌≢◌, ℕ, ◌+◌, ◌-◌, ◌<◌, List, [], ◌∷◌, true, false, ◌==◌, length, map, arith, refl, sym, ap, ◌∙◌, subst, inl, inr, ◌⊎◌}
 use Rattle.std.specs.List.{list_any}
 use Rattle.std.proofs.lemmas.Bool.{true≢false, cases_lt, cases_eq, or_cases, eqb-true, eq-eqb}
 use Rattle.hp_arena.specs.Ring.{Path, Follows}
-use Rattle.hp_arena.specs.Nodes.{links_of, kind_of, stops, inside, is_end, IsRinged, IsClosed}
+use Rattle.hp_arena.specs.Nodes.{links_of, kind_of, stops, inside, is_end}
 use Rattle.hp_arena.specs.Shape.{IsTree, IsListed, IsAtHome, node_of, tag_at}
 use Rattle.hp_arena.specs.Grafting.{raised_kind}
 use Rattle.hp_arena.specs.declared.links.Node.{Node}

@@ -3,7 +3,7 @@ use Rattle.std.proofs.Common.{◌≡◌, ◌≢◌, ℕ, zero, suc, ◌+◌, ◌
 use Rattle.std.specs.List.{list_any}
 use Rattle.std.proofs.lemmas.Bool.{true≢false, cases_lt, cases_eq, eq-eqb}
 use Rattle.std.proofs.lemmas.List.{get_or-map, get_or_past, get_or_read, length-map}
-use Rattle.hp_control.specs.Tree.{Item, Tree, branch, no_branch}
+use Rattle.hp_control.specs.Tree.{Item, branch}
 use Rattle.hp_control.specs.Tree as item
 use Rattle.hp_arena.specs.Arena.{Seen}
 use Rattle.hp_arena.specs.Ring.{Links, Path}

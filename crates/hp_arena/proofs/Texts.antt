@@ -5,7 +5,7 @@ use Rattle.std.proofs.lemmas.List.{length-append, get_or-set_same, get_or-set_ot
 use Rattle.std.proofs.Math.ListN.{set}
 use Rattle.std.proofs.Math.Seq.{get_or-append_seam}
 use Rattle.hp_control.specs.Tree as item
-use Rattle.hp_control.specs.Tree.{Item, beside, put_last, in_one, in_each, put, put_before, branch, id_of}
+use Rattle.hp_control.specs.Tree.{Item, beside, put_last, in_one, in_each, put, put_before, id_of}
 use Rattle.hp_control.specs.declared.edit.Place.{Place}
 use Rattle.hp_control.specs.declared.edit.Place.TheVariants.{Into, Foster}
 use Rattle.hp_arena.specs.Ring.{Links, Path, inserted}

@@ -1,5 +1,5 @@
 -- The levels of a tree, as the links lead through it.
-use Rattle.std.specs.Prelude.{ℕ, zero, suc, ◌+◌, ◌-◌, ◌*◌, ◌^◌, List, Option, Some, None, min, max, slice_get}
+use Rattle.std.specs.Prelude.{ℕ, zero, suc, ◌+◌, ◌-◌, ◌^◌, List, Option, Some, None, min, max, slice_get}
 use Rattle.hp_arena.specs.declared.links.Node.{Node}
 use Rattle.hp_arena.specs.declared.links.Kind.{Kind}
 use Rattle.hp_arena.specs.declared.links.Kind.TheVariants.{End, Element, Leaf}

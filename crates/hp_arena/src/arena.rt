@@ -1,15 +1,15 @@
 //! The nodes, elements and leaves of a tree, and the edits on them.
 
-ghost use Rattle.std.specs.Prelude.{◌≡◌, ◌≢◌, ◌+◌, ◌<◌, ◌≤◌, length, ◌++◌, [], ◌∷◌, ◌^◌, true, false, IsTrue, ◌↔◌, IfOk, IfErr, OnOk, OnErr, All, MatchOption, Some, slice_get, slice_set, vec_len, vec_capacity, ℕ};
+ghost use Rattle.std.specs.Prelude.{◌≡◌, ◌≢◌, ◌+◌, ◌<◌, ◌≤◌, length, [], ◌^◌, true, false, IsTrue, ◌↔◌, IfOk, IfErr, OnOk, OnErr, MatchOption, Some, slice_get, ℕ};
 ghost use Rattle.hp_control.specs.Edits.{room_of};
 ghost use Rattle.hp_control.specs.Tree.{document, detached, put, put_child, applied, is_there, id_of, is_place, may_be_child, leads_into_document, children_moved, with_tag, with_attributes};
 ghost use Rattle.hp_control.specs.Tree.{branch, has_parent, stands_in, IsForest};
 ghost use Rattle.hp_control.specs.Tree as item;
 ghost use Rattle.hp_groves.specs.Grafts.{graft};
 ghost use Rattle.hp_arena.specs.Groves.{behind_document, IsBlank};
-ghost use Rattle.hp_arena.specs.Leaves.{IsCell, leaf_items, kept_doctype};
+ghost use Rattle.hp_arena.specs.Leaves.{kept_doctype};
 ghost use Rattle.hp_arena.specs.Roots.{is_root_table, has_root_table};
-ghost use Rattle.hp_arena.specs.Nodes.{kind_of, IsClosed, end_from};
+ghost use Rattle.hp_arena.specs.Nodes.{IsClosed, end_from};
 ghost use Rattle.hp_arena.specs.Readers.{IsSpot, shown, is_item, HasTag};
 
 use crate::attributes::add_attributes;
@@ -587,7 +587,7 @@ pub fn id_of(node: Ref) -> u64
     }
 }
 
-ghost use Rattle.hp_arena.specs.Shape.{at_of, node_of, attribute_count, tag_at, with_tag_at, IsPlaceIn, AreNodesIn};
+ghost use Rattle.hp_arena.specs.Shape.{at_of, attribute_count, tag_at, with_tag_at, IsPlaceIn, AreNodesIn};
 
 /// The node before which a child at a place goes.
 fn node_at(nodes: &[Node], elements: &[Element], place: Place) -> u32

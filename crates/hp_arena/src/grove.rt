@@ -1,12 +1,11 @@
 //! Elements that were made by themselves, and how they are put behind those of a tree.
 
 ghost use Rattle.std.specs.Prelude.{◌≡◌, ◌≤◌, length, IfErr, OnErr, OnOk};
-ghost use Rattle.hp_control.specs.Tree.{branch, no_branch};
 ghost use Rattle.hp_groves.specs.Grafts.{graft};
 ghost use Rattle.hp_arena.specs.Groves.{behind_document};
 
 use crate::tree::Tree;
-use std::alloc::{AllocError, Global};
+use std::alloc::Global;
 use std::marker::Model;
 
 /// Finished elements of which none is in a page yet. Contracts see their branches, by numbers from 0 on: the children of each are told by

@@ -3,7 +3,7 @@
 ghost use Rattle.std.specs.Prelude.{◌≡◌, ◌+◌, ◌<◌, ◌≤◌, length, ◌++◌, [], ◌∷◌, ◌^◌, true, false, OnOk, IfOk, All, MatchOption, IfNone, IfSome, vec_len, vec_capacity};
 ghost use Rattle.std.specs.List.{concat};
 ghost use Rattle.hp_arena.specs.Nodes.{kind_of, IsClosed};
-ghost use Rattle.hp_arena.specs.Leaves.{leaf_at, run_count, is_text_leaf, text_of, IsCell, IsTextAt, IsLeafIn, IsTextAdded};
+ghost use Rattle.hp_arena.specs.Leaves.{leaf_at, run_count, is_text_leaf, IsCell, IsTextAt, IsLeafIn, IsTextAdded};
 ghost use Rattle.hp_arena.specs.Shape.{IsLeafAdded};
 
 use crate::links::{Kind, Node, put_before};

@@ -2,7 +2,7 @@
 
 ghost use Rattle.std.specs.Prelude.{◌≡◌, ◌+◌, ◌*◌, ◌<◌, ◌^◌, length};
 ghost use Rattle.std.specs.Option.{option_map};
-ghost use Rattle.hp_arena.specs.Levels.{counted, deepest_from, level_after, link_at, onward, summed_from, Link};
+ghost use Rattle.hp_arena.specs.Levels.{counted, deepest_from, level_after, link_at, onward, summed_from};
 
 use crate::links::{Kind, Node};
 

@@ -161,6 +161,18 @@ impl<'p> Tree<'p> {
         }
     }
 
+    /// Makes one edit, told where no older state is below, by one step. It takes no memory. Nothing is promised of what is left of it.
+    #[inline(always)]
+    pub fn apply_in_place<L: Ledger>(&mut self, edit: &mut Edit<'p>, steps: &mut Steps<L>)
+        requires { room_of edit.old ≤ self.old.spare }
+        ensures branches { self.new.branches ≡ applied self.old.branches (named_edit nothing edit.old) }
+        ensures spare { self.old.spare ≤ self.new.spare + room_of edit.old }
+        ensures steps { steps.new ≡ steps.old + 1 }
+    {
+        steps.tick();
+        self.make(edit)
+    }
+
     /// Puts the child of an edit, told where no older state is below, last into an element.
     #[inline(always)]
     fn put_into(&mut self, edit: &mut Edit<'p>, parent: u64)

@@ -1,5 +1,5 @@
 use Rattle.std.proofs.Common.{◌≡◌, ◌<◌, length, map, get_or, sym, ap, ◌∙◌, arith, subst, List}
-use Rattle.std.proofs.lemmas.List.{get_or_read, length-set}
+use Rattle.std.proofs.lemmas.List.{get_or_read}
 use Rattle.hp_arena.specs.Grafting.{NodeFits, raised_node, retired}
 use Rattle.hp_arena.specs.Nodes.{node_at}
 use Rattle.hp_arena.specs.Shape.{node_of, no_element}

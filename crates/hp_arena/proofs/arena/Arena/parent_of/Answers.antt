@@ -2,7 +2,7 @@ use Rattle.std.proofs.Common.{◌≡◌, ◌≢◌, ◌<◌, ℕ, List, length, 
 use Rattle.std.proofs.lemmas.List.{get_or_read}
 use Rattle.hp_control.specs.Tree.{IsForest, has_parent, stands_in}
 use Rattle.hp_arena.specs.Arena.{Seen}
-use Rattle.hp_arena.specs.Nodes.{blank, end_from, kind_of, links_of}
+use Rattle.hp_arena.specs.Nodes.{blank, end_from, links_of}
 use Rattle.hp_arena.specs.Shape.{IsSound, items_in, no_element, node_of, seen}
 use Rattle.hp_arena.specs.declared.arena.Arena.TheInside.{Inside}
 use Rattle.hp_arena.specs.declared.arena.Element.{Element as ElementOf}
