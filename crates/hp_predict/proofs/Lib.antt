@@ -1,5 +1,6 @@
 pub mod NameLemmas
 pub mod TagLemmas
+pub mod NamedTags
 pub mod NamesLemmas
 pub mod PassedTags
 pub mod LengthLemmas

@@ -1,10 +1,11 @@
 -- The tags of a text, by its first `<` and its first `>`.
-use Rattle.std.proofs.Common.{◌≡◌, ℕ, zero, suc, ◌+◌, ◌<◌, Bool, true, false, ◌&&◌, ◌||◌, cond, List, [], ◌∷◌, length, take, drop, get_or, refl, sym, ap, subst, ◌∙◌, arith, add-one, drop-cons}
+use Rattle.std.proofs.Common.{◌≡◌, ℕ, zero, suc, ◌+◌, ◌-◌, ◌<◌, Bool, true, false, ◌&&◌, ◌||◌, cond, List, [], ◌∷◌, length, take, drop, get_or, refl, sym, ap, subst, ◌∙◌, arith, add-one, drop-cons, length-drop}
 use Rattle.std.specs.Prelude.{Option, None, Some, not, ◌==◌, if◌then◌else◌}
 use Rattle.std.specs.Char.{is_ascii_alphanumeric}
 use Rattle.std.specs.List.{All, take_while, prefix_len}
 use Rattle.std.specs.Str.{IsAscii}
 use Rattle.std.proofs.lemmas.Grind.{common_steps}
+use Rattle.std.proofs.lemmas.List.{take_all}
 use Rattle.std.proofs.lemmas.List.Elements.{All-nil, All-cons}
 use Rattle.std.proofs.lemmas.List.Sums.{take_while-cons}
 use Rattle.std.proofs.lemmas.Str.Ascii.{IsAscii-from_all}
@@ -29,26 +30,30 @@ none_passes P test step (x ∷ xs) h =
     step x xs (fails (test x) (h 0 (omega arith)))
     ∙ none_passes P test step xs (λ i lt. h (suc i) (omega arith))
 
+-- a part of a text up to its end
+pub to_end : (text : List ℕ) (n : ℕ) → take (length text - n) (drop n text) ≡ drop n text
+to_end text n = take_all (length text - n) (drop n text) (omega (arith, length-drop n text))
+
 not_at : (c : ℕ) (cs : List ℕ) → tag_at c cs ≡ None → tags false (c ∷ cs) ≡ tags false cs
 unfolding tags
 not_at c cs e = ap (λ (o : Option SeenTag). elim o [ None ↦ tags false cs | Some tag ↦ tag ∷ tags true cs ]) e
 
-at : (c : ℕ) (cs : List ℕ) (tag : SeenTag) → tag_at c cs ≡ Some tag → tags false (c ∷ cs) ≡ tag ∷ tags true cs
+pub at : (c : ℕ) (cs : List ℕ) (tag : SeenTag) → tag_at c cs ≡ Some tag → tags false (c ∷ cs) ≡ tag ∷ tags true cs
 unfolding tags
 at c cs tag e = ap (λ (o : Option SeenTag). elim o [ None ↦ tags false cs | Some tag ↦ tag ∷ tags true cs ]) e
 
 pub no_less : (c : ℕ) (cs : List ℕ) → (c == 60) ≡ false → tags false (c ∷ cs) ≡ tags false cs
 no_less c cs e = not_at c cs (ap (λ (b : Bool). if b && has_end cs then tag_after cs else None) e)
 
-no_greater : (c : ℕ) (cs : List ℕ) → (c == 62) ≡ false → tags true (c ∷ cs) ≡ tags true cs
+pub no_greater : (c : ℕ) (cs : List ℕ) → (c == 62) ≡ false → tags true (c ∷ cs) ≡ tags true cs
 unfolding tags
 no_greater c cs e = ap (λ (b : Bool). tags (not b) cs) e
 
-at_greater : (c : ℕ) (cs : List ℕ) → (c == 62) ≡ true → tags true (c ∷ cs) ≡ tags false cs
+pub at_greater : (c : ℕ) (cs : List ℕ) → (c == 62) ≡ true → tags true (c ∷ cs) ≡ tags false cs
 unfolding tags
 at_greater c cs e = ap (λ (b : Bool). tags (not b) cs) e
 
-no_tags : tags false [] ≡ []
+pub no_tags : tags false [] ≡ []
 unfolding tags
 no_tags = refl
 
@@ -62,6 +67,10 @@ tag_opens hay k h =
     let is : get_or hay k 0 ≡ 60 = grind (arith, common_steps, h.1) in
     let front : drop k hay ≡ 60 ∷ drop (k + 1) hay = rw add-one (drop-cons hay k 0 h.0.high ∙ ap (λ (c : ℕ). c ∷ drop (suc k) hay) is) in
     skipped (tags false) (is_byte 60) no_less hay k (λ i lt. h.0.before i (omega arith) lt) ∙ ap (tags false) front
+
+-- no tag stands before the first `<`
+pub from_first : (hay : List ℕ) (k : ℕ) → IsFirstByte (is_byte 60) hay (Some k) → tags false (drop k hay) ≡ tags false hay
+from_first hay k h = sym (skipped (tags false) (is_byte 60) no_less hay k (λ i lt. h.0.before i (omega arith) lt))
 
 -- no name behind it
 pub not_opened : (cs : List ℕ) → tag_after cs ≡ None → tags false (60 ∷ cs) ≡ tags false cs
@@ -103,20 +112,17 @@ closed hay k h =
     skipped (tags true) (is_byte 62) no_greater hay k (λ i lt. h.0.before i (omega arith) lt)
     ∙ (ap (tags true) (first_greater hay k h) ∙ at_greater 62 (drop (k + 1) hay) refl)
 
-no_end : (c : ℕ) (cs : List ℕ) → (c == 62) ≡ false → has_end (c ∷ cs) ≡ has_end cs
+pub no_end : (c : ℕ) (cs : List ℕ) → (c == 62) ≡ false → has_end (c ∷ cs) ≡ has_end cs
 no_end c cs e = ap (λ (b : Bool). b || has_end cs) e
-
-pub has_an_end : (hay : List ℕ) (k : ℕ) → IsFirstByte (is_byte 62) hay (Some k) → has_end hay ≡ true
-has_an_end hay k h = skipped has_end (is_byte 62) no_end hay k (λ i lt. h.0.before i (omega arith) lt) ∙ ap has_end (first_greater hay k h)
 
 pub has_no_end : (hay : List ℕ) → IsFirstByte (is_byte 62) hay None → has_end hay ≡ false
 has_no_end hay h = none_passes has_end (is_byte 62) no_end hay (λ i lt. h i (omega arith) lt)
 
 -- the tag that stands before a text, and those behind it
-pub opened : (cs : List ℕ) (k : ℕ) (tag : SeenTag) → tag_after cs ≡ Some tag → IsFirstByte (is_byte 62) cs (Some k) → tags false (60 ∷ cs) ≡ tag ∷ tags false (drop (k + 1) cs)
-opened cs k tag e h =
-    at 60 cs tag (ap (λ (b : Bool). if true && b then tag_after cs else None) (has_an_end cs k h) ∙ e)
-    ∙ ap (λ (ts : List SeenTag). tag ∷ ts) (closed cs k h)
+pub opened : (cs rest : List ℕ) (tag : SeenTag) → tag_after cs ≡ Some tag → has_end cs ≡ true → tags true cs ≡ tags false rest → tags false (60 ∷ cs) ≡ tag ∷ tags false rest
+opened cs rest tag e end behind =
+    at 60 cs tag (ap (λ (b : Bool). if true && b then tag_after cs else None) end ∙ e)
+    ∙ ap (λ (ts : List SeenTag). tag ∷ ts) behind
 
 letter_small : (x : ℕ) → is_ascii_alphanumeric x ≡ true → x < 128
 letter_small x h = grind (arith, common_steps)

@@ -1,5 +1,5 @@
 -- The tags of a text, as they are seen without a lexer.
-use Rattle.std.specs.Prelude.{ℕ, Bool, true, false, not, ◌==◌, ◌&&◌, ◌||◌, if◌then◌else◌, List, [], ◌∷◌, drop, Option, None, Some}
+use Rattle.std.specs.Prelude.{◌≡◌, ℕ, Bool, true, false, not, ◌==◌, ◌&&◌, ◌||◌, if◌then◌else◌, List, [], ◌∷◌, drop, Option, None, Some}
 use Rattle.std.specs.Char.{is_ascii_alphabetic, is_ascii_alphanumeric}
 use Rattle.std.specs.List.{take_while, list_any, filter}
 use Rattle.hp_elements.specs.Names.{lowered, words, is_among}
@@ -20,6 +20,11 @@ name_at text = lowered (take_while is_ascii_alphanumeric text)
 abbrev pub begins_with_letter : List ℕ → Bool
 begins_with_letter [] = false
 begins_with_letter (c ∷ cs) = is_ascii_alphabetic c
+
+-- a tag's name as it stands in a text: a letter, and then letters and digits
+pub record IsTagName (name : List ℕ) : Type 0 where
+  pub first : begins_with_letter name ≡ true
+  pub whole : take_while is_ascii_alphanumeric name ≡ name
 
 abbrev pub begins_with_slash : List ℕ → Bool
 begins_with_slash [] = false

@@ -1,6 +1,7 @@
 //! Predictors: what is said of the state before a chunk while it isn't known yet.
 #![tactic(auto)]
 
+mod found;
 pub mod laws;
 mod name;
 mod open_names;

@@ -1,13 +1,14 @@
 //! The names that the tags of a text leave open, and its end tags that close none of them.
-ghost use Rattle.std.specs.Prelude.{◌≡◌, ◌<◌, ◌≤◌, true, [], ◌∷◌, ◌++◌, length, drop, Some, OnOk, IfOk, IfSome, if◌then◌else◌};
+ghost use Rattle.std.specs.Prelude.{◌≡◌, ◌≤◌, false, [], ◌∷◌, ◌++◌, length, drop, Some, OnOk, IfOk, IfSome, if◌then◌else◌};
 ghost use Rattle.std.specs.Option.{option_map};
 ghost use Rattle.std.specs.Str.{IsAscii};
-ghost use Rattle.hp_predict.specs.Tags.{counts, counted_tags, counting};
-ghost use Rattle.hp_predict.specs.Found.{found_tag, left_from, tags_from};
+ghost use Rattle.hp_predict.specs.Tags.{counts, counted_tags, counting, tags};
+ghost use Rattle.hp_predict.specs.Found.{closing, found_tag, tags_from};
 ghost use Rattle.hp_predict.specs.OpenNames.{IsPair, begins_with_t, with_section, with_row, implied, below, is_unmatched, after_tag, after, unmatched};
 
+use crate::found::FoundTag;
 use crate::name::TagName;
-use crate::tags::{FoundTag, next_tag};
+use crate::tags::{from_less_than, next_tag};
 use hp_control::Stack;
 use hp_elements::{Known, List, NoMemory, SetName};
 use std::alloc::Global;
@@ -85,22 +86,21 @@ fn begins_with_t(name: &[u8]) -> bool
     }
 }
 
-/// Whether the second tag closes the first one at once, before which nothing else opens. The two leave the names as they are.
-fn is_pair(start: FoundTag<'_>, end: FoundTag<'_>) -> bool
-    ensures { result ≡ true → IsPair (found_tag start.entry) (found_tag end.entry) }
+/// What stands behind the tag that closes this one at once, where it is the front of a text, has the name in the same letters, and
+/// nothing else opens before this one. The two leave the names as they are.
+fn behind_closing<'t>(start: FoundTag<'t>, text: &'t [u8]) -> Option<&'t [u8]>
+    ensures tags { IfSome result (λ rest. tags false text.now ≡ closing (found_tag start.entry) ∷ tags false rest.now) }
+    ensures pair { IfSome result (λ rest. IsPair (found_tag start.entry) (closing (found_tag start.entry))) }
+    ensures within { IfSome result (λ rest. length rest.now ≤ length text.now) }
 {
-    if start.is_end || !end.is_end || begins_with_t(start.name) {
-        return false;
+    if start.is_end || begins_with_t(start.name) {
+        return None;
     }
-    end.name.eq_ignore_ascii_case(start.name)
-}
-
-/// The next tag, where it closes this one at once.
-fn closing<'t>(start: FoundTag<'t>, next: Option<FoundTag<'t>>) -> Option<FoundTag<'t>>
-    ensures { IfSome result (λ end. (next.entry ≡ Some end) × IsPair (found_tag start.entry) (found_tag end)) }
-{
-    match next {
-        Some(end) if is_pair(start, end) => Some(end),
+    let [b'<', b'/', name @ ..] = text else {
+        return None;
+    };
+    match name.strip_prefix(start.name) {
+        Some([b'>', rest @ ..]) => Some(rest),
         _ => None,
     }
 }
@@ -130,21 +130,20 @@ impl<'t> Scan<'t> {
         }
     }
 
-    /// Takes a tag, or it and the next one, where that closes it at once. Answers the tag behind. A name is looked up only where
+    /// Takes a tag, or it and the next one, where that closes it at once. Answers the text behind. A name is looked up only where
     /// its tag isn't closed at once.
-    fn pass(&mut self, alloc: Global, tag: FoundTag<'t>) -> Result<Option<FoundTag<'t>>, NoMemory>
+    fn pass(&mut self, alloc: Global, tag: FoundTag<'t>) -> Result<&'t [u8], NoMemory>
         requires ascii { IsAscii tag.name.now }
-        ensures names { IfOk result (λ next. after (counting (tags_from next)) self.new.names ≡ after (counting (tags_from (Some tag.entry))) self.old.names) }
-        ensures unmatched { IfOk result (λ next. self.new.unmatched ++ unmatched (counting (tags_from next)) self.new.names ≡ self.old.unmatched ++ unmatched (counting (tags_from (Some tag.entry))) self.old.names) }
-        ensures smaller { IfOk result (λ next. left_from next < left_from (Some tag.entry)) }
-        ensures ascii { IfOk result (λ next. IfSome next (λ found. IsAscii found.name.now)) }
+        ensures names { IfOk result (λ rest. after (counted_tags rest.now) self.new.names ≡ after (counting (tags_from tag.entry)) self.old.names) }
+        ensures unmatched { IfOk result (λ rest. self.new.unmatched ++ unmatched (counted_tags rest.now) self.new.names ≡ self.old.unmatched ++ unmatched (counting (tags_from tag.entry)) self.old.names) }
+        ensures within { IfOk result (λ rest. length rest.now ≤ length tag.entry.rest.now) }
     {
-        let next = next_tag(tag.rest);
-        match closing(tag, next) {
-            Some(end) => Ok(next_tag(end.rest)),
+        let rest = from_less_than(tag.rest);
+        match behind_closing(tag, rest) {
+            Some(behind) => Ok(behind),
             None => {
                 self.take(alloc, tag.is_end, TagName::read(tag.name))?;
-                Ok(next)
+                Ok(rest)
             }
         }
     }
@@ -159,9 +158,9 @@ pub fn read_tags<'t>(alloc: Global, text: &'t [u8]) -> Result<Scan<'t>, NoMemory
         names: Stack::new(),
         unmatched: List::new(),
     };
-    let mut found = next_tag(text);
-    while let Some(tag) = found {
-        found = scan.pass(alloc, tag)?;
+    let mut rest = text;
+    while let Some(tag) = next_tag(rest) {
+        rest = scan.pass(alloc, tag)?;
     }
     Ok(scan)
 }

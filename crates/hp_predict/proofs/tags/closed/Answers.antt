@@ -1,13 +1,10 @@
-use Rattle.std.proofs.Common.{ℕ, List, ◌∷◌, false, ap, sym, ◌∙◌}
+use Rattle.std.proofs.Common.{false, ap, sym, ◌∙◌}
 use Rattle.hp_predict.specs.Tags.{tags}
-use Rattle.hp_predict.specs.Found.{opening}
-use Rattle.hp_predict.proofs.TagLemmas.{opened, unclosed, has_no_end}
+use Rattle.hp_predict.proofs.TagLemmas.{closed, has_no_end}
 use Rattle.hp_predict.proofs.tags.closed.Goals as goal
 
-pub returns-in-None-clause-tags : goal.returns-in-None-clause-tags
-returns-in-None-clause-tags c = unclosed c.args.text.now (has_no_end c.args.text.now c.in-None.ensures)
+pub returns-in-None-clause-end : goal.returns-in-None-clause-end
+returns-in-None-clause-end c = has_no_end c.args.opening.behind.now c.in-None.ensures
 
-pub returns-in-Some-clause-tags : goal.returns-in-Some-clause-tags
-returns-in-Some-clause-tags c =
-    opened c.args.text.now c.in-Some.end (opening c.args.opening) c.requires.tag c.in-Some.ensures
-    ∙ ap (λ (xs : List ℕ). opening c.args.opening ∷ tags false xs) (sym c.behind.ensures)
+pub returns-in-Some-clause-rest : goal.returns-in-Some-clause-rest
+returns-in-Some-clause-rest c = closed c.args.opening.behind.now c.in-Some.end c.in-Some.ensures ∙ ap (tags false) (sym c.behind.ensures)
