@@ -1,7 +1,6 @@
 pub mod Counted
 pub mod Settled
 pub mod Made
-pub mod Applied
 pub mod Holding
 pub mod GoingOn
 pub mod Behind

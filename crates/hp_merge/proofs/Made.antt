@@ -4,8 +4,9 @@ use Rattle.hp_control.specs.declared.edit.Edit.{Edit}
 use Rattle.hp_control.specs.declared.element.OpenElement.{OpenElement}
 use Rattle.hp_control.specs.Apply.{named_edit}
 use Rattle.hp_control.specs.Edits.{IsFixedEdit, room_of_all}
+use Rattle.hp_control.specs.Nothing.{nothing}
 use Rattle.hp_control.specs.States.{ControlState}
-use Rattle.hp_control.specs.Telling.{FixedMeansSame, NamedOver, ToldMakesSame, ToldRoom, below, named_edit_over, told_over}
+use Rattle.hp_control.specs.Telling.{FixedMeansSame, NamedOver, ToldMakesSame, ToldOnce, ToldRoom, below, named_edit_over, told_over}
 use Rattle.hp_control.specs.Tree.{Tree, applied_all}
 use Rattle.hp_control.proofs.TellingLemmas.{named_over}
 
@@ -17,6 +18,11 @@ fixed_all law s (e ∷ es) h = ap₂ (λ a b. a ∷ b) (law s e (h zero e (omega
 pub told_room_all : ToldRoom → (stack : List OpenElement) (next : ℕ) (es : List Edit) → room_of_all (map (told_over stack next) es) ≡ room_of_all es
 told_room_all law stack next [] = refl
 told_room_all law stack next (e ∷ es) = ap₂ (λ a b. a + b) (law stack next e) (told_room_all law stack next es)
+
+-- what is told over an older stack stays so where no older state is below
+pub told_once_all : ToldOnce → (stack : List OpenElement) (next : ℕ) (es : List Edit) → map (named_edit nothing) (map (told_over stack next) es) ≡ map (told_over stack next) es
+told_once_all law stack next [] = refl
+told_once_all law stack next (e ∷ es) = ap₂ (λ a b. a ∷ b) (law stack next e) (told_once_all law stack next es)
 
 pub told_length : (stack : List OpenElement) (next : ℕ) (es : List Edit) → length (map (told_over stack next) es) ≡ length es
 told_length stack next [] = refl

@@ -23,7 +23,18 @@ pub enum Checked<'f> {
     OtherEntry,
 }
 
-ghost use Rattle.hp_merge.specs.Checked.{IsChecked, IsFirstFalse};
+/// The same, where the first wrong answer is told by its place.
+#[derive(Clone, Copy)]
+pub enum Looked {
+    /// What it assumes is true.
+    Holds,
+    /// The answer at this place among those that it assumes, counted from 0, is the first that isn't the true one.
+    Fails { place: usize },
+    /// It is exact from another state.
+    OtherEntry,
+}
+
+ghost use Rattle.hp_merge.specs.Checked.{IsChecked, IsFirstFalseAt, IsLooked};
 ghost use Rattle.hp_merge.specs.Cost.{check_cost};
 ghost use Rattle.hp_merge.specs.Sound.{IsSoundFragment};
 
@@ -56,35 +67,50 @@ pub(crate) fn check<'f, L: Ledger>(
     ensures checked { IsChecked control.now fragment.now result }
     ensures cost { steps.new ≤ steps.old + check_cost fragment.now }
 {
+    match (look(control, fragment, steps), fragment) {
+        (Looked::Holds, _) => Checked::Holds,
+        (Looked::Fails { place }, Fragment::Guessed(guessed)) => {
+            let Kept { question, answer } = &guessed.assumptions().as_slice()[place];
+            Checked::Fails { question, answer }
+        }
+        _ => Checked::OtherEntry,
+    }
+}
+
+/// The same, where the first wrong answer is told by its place.
+pub(crate) fn look<L: Ledger>(
+    control: &Control,
+    fragment: &Fragment<'_>,
+    steps: &mut Steps<L>,
+) -> Looked
+    ensures looked { IsLooked control.now fragment.now result }
+    ensures cost { steps.new ≤ steps.old + check_cost fragment.now }
+{
     match fragment {
         Fragment::Exact(exact) => {
             if exact.entry().same(control) {
-                Checked::Holds
+                Looked::Holds
             } else {
-                Checked::OtherEntry
+                Looked::OtherEntry
             }
         }
         Fragment::Guessed(guessed) => {
             match first_false(control, guessed.assumptions().as_slice(), steps) {
-                None => Checked::Holds,
-                Some(Kept { question, answer }) => Checked::Fails { question, answer },
+                None => Looked::Holds,
+                Some(place) => Looked::Fails { place },
             }
         }
     }
 }
 
-/// The first pair of which the answer isn't the true one.
-fn first_false<'f, L: Ledger>(
-    control: &Control,
-    kept: &'f [Kept],
-    steps: &mut Steps<L>,
-) -> Option<&'f Kept>
-    ensures first { MatchOption result (Holds kept.now control.now) (λ pair. IsFirstFalse control.now kept.now pair.now.question pair.now.answer) }
+/// The place of the first pair of which the answer isn't the true one.
+fn first_false<L: Ledger>(control: &Control, kept: &[Kept], steps: &mut Steps<L>) -> Option<usize>
+    ensures first { MatchOption result (Holds kept.now control.now) (IsFirstFalseAt control.now kept.now) }
     ensures cost { steps.new ≤ steps.old + length kept.now }
 {
-    for pair in kept {
+    for (place, pair) in kept.iter().enumerate() {
         if !truth(control, &pair.question, &pair.answer, steps) {
-            return Some(pair);
+            return Some(place);
         }
     }
     None

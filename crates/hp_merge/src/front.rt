@@ -3,7 +3,7 @@ ghost use Rattle.std.specs.Prelude.{◌≡◌, ◌+◌, ◌≤◌, IfOk, IfErr, 
 ghost use Rattle.hp_control.specs.States.{Fits, start};
 ghost use Rattle.hp_control.specs.Tree.{applied_all, document};
 
-use crate::checking::{Checked, check};
+use crate::checking::{Checked, Looked, check, look};
 use crate::joining::{end_tree, join_exact, joined_to};
 use hp_arena::Tree;
 use hp_control::Control;
@@ -45,7 +45,7 @@ pub struct JoinRefusal<'p> {
 }
 
 impl<'p> Front<'p> {
-    ghost use Rattle.hp_merge.specs.Checked.{IsChecked, MayJoin};
+    ghost use Rattle.hp_merge.specs.Checked.{IsChecked, IsLooked, MayJoin};
     ghost use Rattle.hp_merge.specs.Cost.{check_cost, join_cost};
     ghost use Rattle.hp_merge.specs.Joined.{joined};
     ghost use Rattle.hp_pieces.specs.declared.fragment.Fragment.TheVariants as fragment_of;
@@ -86,6 +86,15 @@ impl<'p> Front<'p> {
         ensures cost { steps.new ≤ steps.old + check_cost fragment.now }
     {
         check(&self.control, fragment, steps)
+    }
+
+    /// The same as `check`, where the first answer that isn't the true one is told by its place among those that the fragment assumes,
+    /// which lends nothing of it.
+    pub fn look<L: Ledger>(&self, fragment: &Fragment<'_>, steps: &mut Steps<L>) -> Looked
+        ensures looked { IsLooked self.now.control fragment.now result }
+        ensures cost { steps.new ≤ steps.old + check_cost fragment.now }
+    {
+        look(&self.control, fragment, steps)
     }
 
     /// Joins a fragment: the front is then the state and the tree behind what the fragment covers. It takes a step for each entry that is

@@ -10,6 +10,6 @@ mod making;
 mod parts;
 mod settling;
 
-pub use checking::{Checked, is_sound};
+pub use checking::{Checked, Looked, is_sound};
 pub use front::{Front, JoinRefusal};
 pub use laws::fronts_go_on;

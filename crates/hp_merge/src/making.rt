@@ -1,14 +1,15 @@
 //! Edits over a known state, made in a tree.
 ghost use Rattle.std.specs.Prelude.{◌≡◌, ◌+◌, ◌≤◌, All, drop, length, map};
+ghost use Rattle.hp_control.specs.Apply.{named_edit};
 ghost use Rattle.hp_control.specs.Edits.{IsFixedEdit, room_of_all};
+ghost use Rattle.hp_control.specs.Nothing.{nothing};
 ghost use Rattle.hp_control.specs.Telling.{named_edit_over, told_over};
 ghost use Rattle.hp_control.specs.Tree.{applied_all};
 
 use hp_arena::Tree;
-use hp_control::{Edit, Edits, OpenElements, Ref, laws};
+use hp_control::{Edit, Edits, OpenElements, laws};
 use hp_steps::Steps;
 use std::alloc::Global;
-use std::mem;
 use std::sync::ledger::Ledger;
 
 /// Makes edits that tell each element by its id. It takes no memory.
@@ -47,17 +48,15 @@ pub(crate) fn make_over<'p, L: Ledger>(
     let _count = tree.len();
 }
 
-/// Makes these edits, in order, each by one step. It takes no memory. Nothing is promised of what is left of them.
+/// Makes these edits, in order, each told where no older state is below, by one step each. It takes no memory. Nothing is promised of
+/// what is left of them.
 fn apply_each<'p, L: Ledger>(tree: &mut Tree<'p>, edits: &mut [Edit<'p>], steps: &mut Steps<L>)
     requires { room_of_all edits.old ≤ tree.old.spare }
-    ensures branches { tree.new.branches ≡ applied_all tree.old.branches edits.old }
+    ensures branches { tree.new.branches ≡ applied_all tree.old.branches (map (named_edit nothing) edits.old) }
     ensures cost { steps.new ≡ steps.old + length edits.old }
 {
     for edit in edits.iter_mut() {
-        let other = Edit::Detach {
-            node: Ref::Fixed(0),
-        };
-        tree.apply(mem::replace(edit, other), steps);
+        tree.apply_in_place(edit, steps);
     }
 }
 

@@ -1,5 +1,5 @@
 //! What a chunk changes of the state below it, once what it keeps of its own stands on top.
-ghost use Rattle.std.specs.Prelude.{◌≡◌, ◌+◌, ◌<◌, ◌≤◌, ◌^◌, ◌++◌, ◌&&◌, not, take, drop, length};
+ghost use Rattle.std.specs.Prelude.{◌≡◌, ◌+◌, ◌<◌, ◌≤◌, ◌++◌, ◌&&◌, not, take, drop, length};
 ghost use Rattle.hp_control.specs.Apply.{lex_after};
 ghost use Rattle.hp_control.specs.Walks.{cleared, cleared_by};
 ghost use Rattle.hp_merge.specs.Parts.{settled, form_over, IsFormCounted, IsPending};

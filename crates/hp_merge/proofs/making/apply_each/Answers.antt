@@ -1,25 +1,13 @@
-use Rattle.std.proofs.Common.{◌≡◌, get_or, sym, ◌∙◌, subst, arith}
-use Rattle.std.proofs.lemmas.List.{drop_all}
-use Rattle.hp_control.specs.declared.edit.Edit.{Edit}
-use Rattle.hp_merge.proofs.Applied.{applied-on, applies-first, applies-last, room-next}
+use Rattle.std.proofs.Common.{arith}
+use Rattle.hp_arena.proofs.Grown.{grown_on, room-next}
 use Rattle.hp_merge.proofs.making.apply_each.Goals as goal
 
-pub loop-edit-init : goal.loop-edit-init
-loop-edit-init g c = (applies-first _ _ _ c.requires, omega arith)
-
-pub apply-requires : goal.apply-requires
-apply-requires g c =
-    let l = c.loop-edit in
-    let read = subst (λ (e : Edit). e ≡ get_or l.edits l.edit-index e) (c.edit-item.is ∙ sym c.replace.ensures.value) c.edit-item.is in
-    room-next _ _ l.edits l.edit-index c.replace.result _ _ l.invariant.0 (omega arith) read
+pub apply_in_place-requires : goal.apply_in_place-requires
+apply_in_place-requires g c =
+    room-next _ _ c.loop-edit.edits c.loop-edit.edit-index c.edit-item.result _ _ c.loop-edit.invariant.0 (omega arith)
 
 pub loop-edit-preserved : goal.loop-edit-preserved
-loop-edit-preserved g c =
-    let l = c.loop-edit in
-    let read = subst (λ (e : Edit). e ≡ get_or l.edits l.edit-index e) (c.edit-item.is ∙ sym c.replace.ensures.value) c.edit-item.is in (
-      applied-on _ _ l.edits l.edit-index c.replace.result _ _ _ _ _ l.invariant.0 (omega arith) read c.apply.ensures.branches c.apply.ensures.spare,
-      omega (arith, l.invariant.1, c.apply.ensures.steps),
-    )
-
-pub returns-clause-branches : goal.returns-clause-branches
-returns-clause-branches g c = applies-last _ _ _ _ _ c.loop-edit.invariant.0 (drop_all c.loop-edit.edit-index c.loop-edit.edits (omega arith))
+loop-edit-preserved g c = (
+  grown_on _ _ c.loop-edit.edits c.loop-edit.edit-index c.edit-item.result _ _ _ _ _ c.loop-edit.invariant.0 (omega arith) c.apply_in_place.ensures.branches c.apply_in_place.ensures.spare,
+  omega (arith, c.loop-edit.invariant.1, c.apply_in_place.ensures.steps),
+)
