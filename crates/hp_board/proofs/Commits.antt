@@ -7,8 +7,8 @@ use Rattle.hp_control.specs.States.{Fits}
 use Rattle.hp_pieces.specs.Texts.{covered_of, text_of}
 use Rattle.hp_pieces.specs.declared.fragment.Fragment.{Fragment}
 use Rattle.hp_pieces.specs.declared.fragment.Fragment.TheVariants as fragment
-use Rattle.hp_merge.specs.Checked.{IsChecked, MayJoin}
-use Rattle.hp_merge.specs.declared.checking.Checked.TheVariants as checked
+use Rattle.hp_merge.specs.Checked.{IsLooked, MayJoin}
+use Rattle.hp_merge.specs.declared.checking.Looked.TheVariants as looked
 use Rattle.hp_merge.specs.Laws.{GoesOn, StandsBehind}
 use Rattle.hp_merge.specs.Sound.{IsSoundFragment}
 use Rattle.hp_board.specs.declared.journal.BoardStep.{BoardStep}
@@ -170,10 +170,10 @@ module _ (desk : Desk) (posted : Fragment) (kept : IsKept desk) (within : desk.d
       fair
 
 -- a run from a known state is posted from the front's alone
-pub never_other : (desk : Desk) (posted : Fragment) → IsKept desk → desk.done < length desk.slots → slot_at desk desk.done ≡ slot.Posted posted → IsChecked desk.control posted checked.OtherEntry → ⊥
+pub never_other : (desk : Desk) (posted : Fragment) → IsKept desk → desk.done < length desk.slots → slot_at desk desk.done ≡ slot.Posted posted → IsLooked desk.control posted looked.OtherEntry → ⊥
 never_other desk posted kept within here other = by_kind posted (front desk posted kept within here).0 other
   where
-    by_kind : (f : Fragment) → IsPlaced desk desk.done f → IsChecked desk.control f checked.OtherEntry → ⊥
+    by_kind : (f : Fragment) → IsPlaced desk desk.done f → IsLooked desk.control f looked.OtherEntry → ⊥
     by_kind (fragment.Guessed g) is other = other
     by_kind (fragment.Exact k) is other = other is.2
 

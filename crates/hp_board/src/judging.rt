@@ -11,14 +11,14 @@ use crate::board::Board;
 use crate::journal::{BoardStep, Entry};
 use crate::kinds::{QuestionKind, kind_of};
 use crate::laws::stays_fair;
-use crate::pairs::{pair_at, place_in};
+use crate::pairs::{pair_at, question_at};
 use crate::posts::told;
 use crate::slot::Slot;
 use crate::steps::Advance;
 use crate::tally::Tally;
 use hp_control::Kept;
 use hp_elements::NoMemory;
-use hp_merge::{Checked, fronts_go_on, is_sound};
+use hp_merge::{Looked, fronts_go_on, is_sound};
 use hp_pieces::Fragment;
 use hp_steps::Steps;
 use std::alloc::Global;
@@ -70,13 +70,13 @@ impl<'p> Board<'p> {
             return None;
         };
         told(fragment);
-        match self.front.check(fragment, steps) {
-            Checked::OtherEntry => unreachable!(),
-            Checked::Fails { question, answer } => Some(Look::Fails {
-                kind: kind_of(question),
-                place: place_in(fragment, question, answer),
+        match self.front.look(fragment, steps) {
+            Looked::OtherEntry => unreachable!(),
+            Looked::Fails { place } => Some(Look::Fails {
+                kind: kind_of(question_at(fragment, place)),
+                place,
             }),
-            Checked::Holds => Some(Look::Holds),
+            Looked::Holds => Some(Look::Holds),
         }
     }
 
