@@ -46,11 +46,6 @@ unfolding pending
 on_all t p q s u on none =
     prints_as p.out q.out s u on.piece (pending t p.marks.items) on.printed (sym (append-nil on.piece) ∙ ap (λ ms. on.piece ++ pending t ms) (sym none) ∙ on.rest)
 
--- what is left after some was printed is printed too
-pub on_rest : (t : Tree) (p q : Printing) (c : Out) (s u v : Sight) → PrintsOn t p q s u → Prints q.out c u v (pending t q.marks.items) → Prints p.out c s v (pending t p.marks.items)
-on_rest t p q c s u v on rest =
-    prints_as p.out c s v (on.piece ++ pending t q.marks.items) (pending t p.marks.items) (prints_then p.out q.out c s u v on.piece (pending t q.marks.items) on.printed rest) on.rest
-
 some-same : (xs ys : List ℕ) → Some xs ≡ Some ys → xs ≡ ys
 some-same xs ys e = cc e
 

@@ -1,5 +1,6 @@
 pub mod Blanks
 pub mod Depths
+pub mod Endings
 pub mod Filling
 pub mod Fronts
 pub mod GoingOn

@@ -1,14 +1,13 @@
 -- Pieces that are printed one after the other.
 use Rattle.std.proofs.Common.{◌≡◌, ℕ, ◌<◌, ◌≤◌, List, [], ◌+◌, ◌++◌, length, take, refl, subst, sym, ap, ◌∙◌, append_assoc, append-nil, length-append, arith, Option, None, Some}
-use Rattle.std.specs.Prelude.{Result, Ok, Err}
+use Rattle.std.specs.Prelude.{Ok, Err}
 use Rattle.std.proofs.lemmas.List.{take-append-le}
 use Rattle.std.proofs.Math.Seq.{take-append-add}
 use Rattle.std.specs.Io.KnownBytes.{append_known}
 use Rattle.hp_text.specs.Device.{Rose}
-use Rattle.hp_text.specs.declared.writing.WriteFault.{WriteFault}
 use Rattle.hp_print.specs.declared.output.Out.{Out}
 use Rattle.hp_print.specs.declared.output.Out.TheVariants.{Gathered, Failed}
-use Rattle.hp_print.specs.Out.{Broke, Finished, Outcome, Prints, Sight, Starts, TakesFirst, Waits, counted}
+use Rattle.hp_print.specs.Out.{Broke, Finished, Prints, Sight, Starts, TakesFirst, Waits, counted}
 
 sym_assoc : (x y z : List ℕ) → x ++ (y ++ z) ≡ (x ++ y) ++ z
 sym_assoc x y z = sym (append_assoc x y z)
@@ -139,7 +138,3 @@ finished_whole old new written s t prints empty = record {
 
 pub finished_part : (old : Out) (taken : ℕ) (s t : Sight) → Prints old (Failed taken) s t [] → Finished old (Err (record { taken = taken })) s t
 finished_part old taken s t prints = record { outcome = λ start bytes has. subst (λ xs. Broke start t taken xs) (append-nil bytes) (prints.after start bytes has) }
-
--- the whole text, from the start to the end
-pub written : (a b : Out) (s t u : Sight) (text : List ℕ) (done : Result (Unit {0}) WriteFault) → Starts a → Prints a b s t text → Finished b done t u → Outcome done s u text
-written a b s t u text done starts prints finished = finished.outcome s text (prints.after s [] (starts s))

@@ -64,6 +64,11 @@ pub marks-high : (t : Seen) (place : ℕ) (ms : List Mark) (m : Mark) → AreMar
 marks-high t place [] m all = let high : place ≤ m.level = all.1 in omega arith
 marks-high t place (n ∷ ms) m all = let high : place + 1 + length ms ≤ m.level = marks-high t (place + 1) ms m all.2 in omega arith
 
+pub marks-at : (t : Seen) (place : ℕ) (ms : List Mark) (k : ℕ) (m : Mark) → slice_get ms k ≡ Some m → AreMarks t place ms → IsMark t m
+marks-at t place [] k m is all = cc
+marks-at t place (n ∷ ms) zero m is all = let same : n ≡ m = cc in subst (λ o. IsMark t o) same all.0
+marks-at t place (n ∷ ms) (suc k) m is all = marks-at t (place + 1) ms k m is all.2
+
 -- a mark is pushed
 pub pushed_some : (t : Seen) (ms : List Mark) (m : Mark) (level templates : ℕ) (items : List Item) → IsMark t m → length ms ≤ m.level → m.level ≡ level → m.templates ≡ templates → rest t.branches m ≡ items
     → Pushed t ms (ms ++ m ∷ []) (lines_at t.branches level templates items) (steps_at t.branches level items)
@@ -80,6 +85,17 @@ pub pushed_none : (t : Seen) (ms : List Mark) (level templates : ℕ) (items : L
 pushed_none t ms level templates items e =
     let none : lines_at t.branches level templates items ≡ [] = ap (lines_at t.branches level templates) e ∙ lines-none t.branches (length t.branches - level) (level + templates) in
     record { text_is = rw none refl; steps_are = omega arith; marks = λ all. all }
+
+-- what stands inside an element is marked
+pub pushed_below : (t : Seen) (m : Mark) (id : ℕ) (x : Item) (more : ℕ) (old new : List Mark) → Some (item.Element id) ≡ Some x → extra t.branches (item.Element id) ≡ more
+    → Pushed t old new (lines_at t.branches (m.level + 1) (m.templates + more) (branch t.branches id).inside) (steps_at t.branches (m.level + 1) (branch t.branches id).inside)
+    → Pushed t old new (lines_at t.branches (m.level + 1) (m.templates + extra t.branches x) (inside t.branches x)) (steps_at t.branches (m.level + 1) (inside t.branches x))
+pushed_below t m id x more old new is deeper pushed =
+    let b = t.branches in
+    let same : item.Element id ≡ x = cc in
+    let inner : Pushed t old new (lines_at b (m.level + 1) (m.templates + extra b (item.Element id)) (branch b id).inside) (steps_at b (m.level + 1) (branch b id).inside) =
+    subst (λ d. Pushed t old new (lines_at b (m.level + 1) (m.templates + d) (branch b id).inside) (steps_at b (m.level + 1) (branch b id).inside)) (sym deeper) pushed in
+    subst (λ y. Pushed t old new (lines_at b (m.level + 1) (m.templates + extra b y) (inside b y)) (steps_at b (m.level + 1) (inside b y))) same inner
 
 -- the item at a place, and what is left after it
 drop_at : (xs : List Item) (n : ℕ) (x : Item) → slice_get xs n ≡ Some x → drop n xs ≡ x ∷ drop (n + 1) xs
@@ -112,11 +128,8 @@ mark-work t m x room item =
 abbrev pub NextPushed : Seen → Mark → List Mark → List Mark → Type 0
 NextPushed t m old new = Pushed t old new (lines_at t.branches m.level m.templates (after t.branches m)) (steps_at t.branches m.level (after t.branches m))
 
-leaf-text : (own inner next old new : List ℕ) → inner ≡ [] → new ≡ next ++ old → (own ++ inner ++ next) ++ old ≡ own ++ new
-leaf-text own inner next old new none is = rw (none, is, append-nil, append_assoc) refl
-
-element-text : (own inner next old mid new : List ℕ) → mid ≡ next ++ old → new ≡ inner ++ mid → (own ++ inner ++ next) ++ old ≡ own ++ new
-element-text own inner next old mid new is more = rw (more, is) (simp append_assoc)
+step-text : (own inner next old mid new : List ℕ) → mid ≡ next ++ old → new ≡ inner ++ mid → (own ++ inner ++ next) ++ old ≡ own ++ new
+step-text own inner next old mid new is more = rw (more, is) (simp append_assoc)
 
 -- what is shown at a mark, and the element that it may be is there
 abbrev pub IsShownAt : Tree → Mark → NodeView → Type 0
@@ -128,27 +141,11 @@ element_there t m view f shows id is = f.there (parent_of m.at) (place_of m.at) 
 shown_lines : (t : Tree) (depth : ℕ) (view : NodeView) (x : Item) (more : List ℕ) → shown view ≡ Some x → own_lines t depth x ++ more ≡ lines_of t depth (shown view) ++ more
 shown_lines t depth view x more is = ap (λ o. lines_of t depth o ++ more) (sym is)
 
--- a step over an item that has nothing inside
-pub stepped_leaf : (t : Seen) (m : Mark) (view : NodeView) (x : Item) (old new : List Mark) → IsForest t.branches → IsMark t m → IsShownAt t.branches m view → shown view ≡ Some x → HasTag t.branches view → inside t.branches x ≡ []
-    → NextPushed t m old new → Stepped t m view old new
-stepped_leaf t m view x old new f is shows one tag leaf pushed =
-    let b = t.branches in
-    let item : IsItemAt b m x = shows ∙ one in
-    let room : m.level < length b = deep-room b f m.level (parent_of m.at) is.deep in
-    let none : lines b (length b - m.level - 1) (m.level + m.templates + 1 + extra b x) (inside b x) ≡ [] = ap (lines b (length b - m.level - 1) (m.level + m.templates + 1 + extra b x)) leaf ∙ lines-none b (length b - m.level - 1) (m.level + m.templates + 1 + extra b x) in
-    record {
-      text_is = rw (mark-text b m x room item) (leaf-text _ _ _ _ _ none pushed.text_is) ∙ shown_lines b (m.level + m.templates) view x (pending b new) one;
-      steps_are = omega (arith, mark-work b m x room item, pushed.steps_are);
-      marks = pushed.marks;
-      tag = tag;
-      there = element_there b m view f shows;
-    }
-
 -- a step over an item, and what stands inside it is marked
-pub stepped_element : (t : Seen) (m : Mark) (view : NodeView) (x : Item) (templates : ℕ) (old mid new : List Mark) → IsForest t.branches → IsMark t m → IsShownAt t.branches m view → shown view ≡ Some x → HasTag t.branches view
+pub stepped : (t : Seen) (m : Mark) (view : NodeView) (x : Item) (templates : ℕ) (old mid new : List Mark) → IsForest t.branches → IsMark t m → IsShownAt t.branches m view → shown view ≡ Some x → HasTag t.branches view
     → templates ≡ m.templates + extra t.branches x → NextPushed t m old mid
     → Pushed t mid new (lines_at t.branches (m.level + 1) templates (inside t.branches x)) (steps_at t.branches (m.level + 1) (inside t.branches x)) → Stepped t m view old new
-stepped_element t m view x templates old mid new f is shows one tag more pushed below =
+stepped t m view x templates old mid new f is shows one tag more pushed below =
     let b = t.branches in
     let item : IsItemAt b m x = shows ∙ one in
     let room : m.level < length b = deep-room b f m.level (parent_of m.at) is.deep in
@@ -158,7 +155,7 @@ stepped_element t m view x templates old mid new f is shows one tag more pushed 
     ap (λ l. lines b l (m.level + 1 + templates) (inside b x)) left ∙ ap (λ d. lines b (length b - m.level - 1) d (inside b x)) depth in
     let effort : work b (length b - (m.level + 1)) (inside b x) ≡ work b (length b - m.level - 1) (inside b x) = ap (λ l. work b l (inside b x)) left in
     record {
-      text_is = rw (mark-text b m x room item, ← inner) (element-text _ _ _ _ _ _ pushed.text_is below.text_is) ∙ shown_lines b (m.level + m.templates) view x (pending b new) one;
+      text_is = rw (mark-text b m x room item, ← inner) (step-text _ _ _ _ _ _ pushed.text_is below.text_is) ∙ shown_lines b (m.level + m.templates) view x (pending b new) one;
       steps_are = omega (arith, mark-work b m x room item, pushed.steps_are, below.steps_are, effort);
       marks = λ all. below.marks (pushed.marks all);
       tag = tag;

@@ -1,6 +1,7 @@
 //! Prints a document tree, without recursion.
 #![tactic(auto)]
 
+mod ahead;
 mod attributes;
 mod filled;
 mod items;

@@ -9,8 +9,9 @@ ghost use Rattle.hp_print.specs.Faults.{OnFault};
 ghost use Rattle.hp_print.specs.Print.{print};
 ghost use Rattle.hp_print.specs.Parts.{AreRoomy, IsPart, IsReady, PrintsOn};
 
+use crate::ahead::{next_node, pass};
 use crate::kept::Kept;
-use crate::walk::{ABSURD, Mark, Printing, Refusal, step};
+use crate::walk::{Mark, Printing, Refusal};
 use hp_arena::{At, Tree};
 use hp_elements::NoMemory;
 use hp_text::Sink;
@@ -18,14 +19,11 @@ use std::alloc::Global;
 use std::thread;
 use std::thread::Threads;
 
-/// How many items a part has at most.
-const STEPS: usize = 1 << 14;
-
 /// A part ends once more bytes than these were printed.
-const LONG: usize = 1 << 20;
+const LONG: usize = 1 << 21;
 
 /// A tree of fewer elements is printed by one thread: its text is written before threads would pay for their memory.
-const FEW: u32 = 1 << 17;
+const FEW: u32 = 1 << 15;
 
 /// A part of the text, which one thread prints.
 #[derive(Drop)]
@@ -36,6 +34,8 @@ pub struct Part<'t> {
     pub printing: Printing<'t>,
     /// What was printed.
     pub text: Kept,
+    /// The number by which the tree finds the item that the next part begins with. `None` where there is none.
+    pub stop: Option<u32>,
     /// Whether the text is all that came from the start on up to what is still to come.
     pub is_whole: bool,
 }
@@ -57,18 +57,11 @@ pub fn write_tree_by<R: Threads + Sync, K: Sink>(
 
     ensures nothing { result ≡ Err Refusal.NoMemory → sink.new ≡ sink.old }
 {
-    if tree.summed_levels() > ABSURD {
-        return Err(Refusal::NoMemory);
-    }
-    let Ok(mut printing) = Printing::new(alloc, tree) else {
+    let Ok(mut printing) = Printing::begin(alloc, tree) else {
         return Err(Refusal::NoMemory);
     };
     print_by(rt, alloc, tree, &mut printing, sink, threads);
-    printing.print_rest(alloc, tree, sink);
-    match printing.out.finish(sink) {
-        Ok(()) => Ok(()),
-        Err(fault) => Err(Refusal::Fault { taken: fault.taken }),
-    }
+    printing.finish(alloc, tree, sink)
 }
 
 /// Prints a large tree by rounds of parts where there is memory for these. As a rule nothing is left.
@@ -126,6 +119,7 @@ fn new_part<'t>(alloc: Global, tree: &'t Tree<'_>) -> Result<Part<'t>, NoMemory>
         start,
         printing,
         text: Kept::new(alloc),
+        stop: None,
         is_whole: false,
     })
 }
@@ -180,7 +174,7 @@ fn print_round<'t, R: Threads + Sync, K: Sink>(
     take_all(tree, printing, parts, sink)
 }
 
-/// Lets the parts begin where the marks stand: the first there, and each other one as many items after the one before as a part has.
+/// Lets the parts begin where the marks stand: the first there, and each other one about as many elements after the one before as a part has.
 fn lay_out<'t>(tree: &'t Tree<'_>, ahead: &mut Vec<Mark>, parts: &mut [Part<'t>])
     requires ahead { AreRoomy tree.now ahead.old.items (vec_capacity ahead.old) }
     requires parts { All (IsPart tree.now) parts.old }
@@ -192,7 +186,7 @@ fn lay_out<'t>(tree: &'t Tree<'_>, ahead: &mut Vec<Mark>, parts: &mut [Part<'t>]
     }
 }
 
-/// Lets a part begin where the marks stand, and moves these over as many items as a part has.
+/// Lets a part begin where the marks stand, and moves these over about as many elements as a part has: the part ends there.
 fn begin<'t>(tree: &'t Tree<'_>, ahead: &mut Vec<Mark>, part: &mut Part<'t>)
     requires ahead { AreRoomy tree.now ahead.old.items (vec_capacity ahead.old) }
     requires part { IsPart tree.now part.old }
@@ -202,19 +196,7 @@ fn begin<'t>(tree: &'t Tree<'_>, ahead: &mut Vec<Mark>, part: &mut Part<'t>)
     part.is_whole = false;
     copy_marks(tree, ahead.as_slice(), &mut part.start);
     pass(tree, ahead);
-}
-
-/// Moves marks over as many items as a part has, and prints nothing.
-fn pass(tree: &Tree<'_>, marks: &mut Vec<Mark>)
-    requires { AreRoomy tree.now marks.old.items (vec_capacity marks.old) }
-    ensures { AreRoomy tree.now marks.new.items (vec_capacity marks.new) }
-{
-    for _ in 0..STEPS {
-        let Some(mark) = marks.pop() else {
-            return;
-        };
-        let _view = step(tree, marks, mark);
-    }
+    part.stop = next_node(ahead.as_slice());
 }
 
 /// Prints each part, in a thread of its own.
@@ -242,21 +224,24 @@ fn render<'t>(alloc: Global, tree: &'t Tree<'_>, part: &mut Part<'t>)
         return;
     }
     copy_marks(tree, part.start.as_slice(), &mut part.printing.marks);
-    print_some(alloc, tree, &mut part.printing, &mut part.text);
+    print_some(alloc, tree, &mut part.printing, &mut part.text, part.stop);
     part.printing.out.flush(&mut part.text);
     part.is_whole = !part.printing.out.has_failed();
 }
 
-/// Prints as many items as a part has, and fewer where their text is long.
-fn print_some<'t>(alloc: Global, tree: &'t Tree<'_>, printing: &mut Printing<'t>, text: &mut Kept)
+/// Prints what comes before the item of this number, and less where the text of that is long.
+fn print_some<'t>(
+    alloc: Global,
+    tree: &'t Tree<'_>,
+    printing: &mut Printing<'t>,
+    text: &mut Kept,
+    stop: Option<u32>,
+)
     requires ready { IsReady tree.now printing.old }
     ensures ready { IsReady tree.now printing.new }
     ensures printed { PrintsOn tree.now.branches printing.old printing.new (Some text.old.bytes.items, text.old.faults) (Some text.new.bytes.items, text.new.faults) }
 {
-    for _ in 0..STEPS {
-        if text.as_slice().len() > LONG {
-            return;
-        }
+    while text.as_slice().len() <= LONG && next_node(printing.marks.as_slice()) != stop {
         if !printing.print_next(alloc, tree, text) {
             return;
         }

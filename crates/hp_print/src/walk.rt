@@ -1,13 +1,13 @@
 //! The walk over the tree, with a stack of its own.
 
-ghost use Rattle.std.specs.Prelude.{◌≡◌, ◌+◌, ◌<◌, ◌≤◌, [], Err, IfOk, OnOk, length, drop, true, false, vec_len, vec_capacity};
+ghost use Rattle.std.specs.Prelude.{◌≡◌, ◌+◌, ◌<◌, ◌≤◌, [], Err, IfOk, OnOk, Some, length, drop, true, false, vec_len, vec_capacity};
 ghost use Rattle.std.specs.Io.KnownBytes.{append_known};
 ghost use Rattle.hp_text.specs.Device.{Rose};
-ghost use Rattle.hp_arena.specs.Readers.{parent_of, place_of, HasTag};
-ghost use Rattle.hp_control.specs.Tree.{branch};
+ghost use Rattle.hp_arena.specs.Readers.{parent_of, place_of, shown, HasTag, IsShown};
+ghost use Rattle.hp_control.specs.Tree.{Item, branch};
 ghost use Rattle.hp_print.specs.Out.{Prints, Starts, TakesFirst};
-ghost use Rattle.hp_print.specs.Faults.{OnFault};
-ghost use Rattle.hp_print.specs.Print.{print};
+ghost use Rattle.hp_print.specs.Faults.{Ended, OnFault};
+ghost use Rattle.hp_print.specs.Print.{extra, inside, print};
 ghost use Rattle.hp_print.specs.Parts.{IsReady, PrintsOn};
 ghost use Rattle.hp_print.specs.Stack.{AreMarks, HasRoom, IsDeep, IsMark, Pushed, Stepped, lines_at, pending, steps_at, todo};
 
@@ -40,7 +40,7 @@ pub enum Refusal {
 }
 
 /// A text with more levels than these above its lines is of absurd length: that of a tree goes by the square of its depth.
-pub const ABSURD: u64 = 1 << 34;
+const ABSURD: u64 = 1 << 34;
 
 /// The tree as text, in UTF-8. An `Err` comes for want of memory, or where the text would be of absurd length.
 pub fn print_tree(alloc: Global, tree: &Tree<'_>) -> Result<Vec<u8>, NoMemory>
@@ -63,17 +63,10 @@ pub fn write_tree<K: Sink>(alloc: Global, tree: &Tree<'_>, sink: &mut K) -> Resu
 
     ensures nothing { result ≡ Err Refusal.NoMemory → sink.new ≡ sink.old }
 {
-    if tree.summed_levels() > ABSURD {
-        return Err(Refusal::NoMemory);
-    }
-    let Ok(mut printing) = Printing::new(alloc, tree) else {
+    let Ok(mut printing) = Printing::begin(alloc, tree) else {
         return Err(Refusal::NoMemory);
     };
-    printing.print_rest(alloc, tree, sink);
-    match printing.out.finish(sink) {
-        Ok(()) => Ok(()),
-        Err(fault) => Err(Refusal::Fault { taken: fault.taken }),
-    }
+    printing.finish(alloc, tree, sink)
 }
 
 /// The printing of a tree: the marks of what is still to come, and the memory that this takes.
@@ -88,6 +81,18 @@ pub struct Printing<'t> {
 }
 
 impl<'t> Printing<'t> {
+    /// All of the tree is still to come. An `Err` comes for want of memory, or where the text would be of absurd length.
+    pub fn begin(alloc: Global, tree: &'t Tree<'_>) -> Result<Printing<'t>, NoMemory>
+        ensures ready { IfOk result (IsReady tree.now) }
+        ensures starts { IfOk result (λ printing. Starts printing.out) }
+        ensures whole { IfOk result (λ printing. pending tree.now.branches printing.marks.items ≡ print tree.now.branches) }
+    {
+        if tree.summed_levels() > ABSURD {
+            return Err(NoMemory);
+        }
+        Printing::new(alloc, tree)
+    }
+
     /// All of the tree is still to come.
     pub fn new(alloc: Global, tree: &'t Tree<'_>) -> Result<Printing<'t>, NoMemory>
         ensures ready { IfOk result (IsReady tree.now) }
@@ -125,6 +130,23 @@ impl<'t> Printing<'t> {
     {
         while self.print_next(alloc, tree, sink) {}
     }
+
+    /// Prints all that is still to come, and writes what is gathered. At a fault, how many bytes of the whole text the sink took.
+    pub fn finish<K: Sink>(
+        &mut self,
+        alloc: Global,
+        tree: &'t Tree<'_>,
+        sink: &mut K,
+    ) -> Result<(), Refusal>
+        requires ready { IsReady tree.now self.old }
+        ensures { Ended self.old.out result (K.taken sink.old, K.faults sink.old) (K.taken sink.new, K.faults sink.new) (pending tree.now.branches self.old.marks.items) }
+    {
+        self.print_rest(alloc, tree, sink);
+        match self.out.finish(sink) {
+            Ok(()) => Ok(()),
+            Err(fault) => Err(Refusal::Fault { taken: fault.taken }),
+        }
+    }
 }
 
 /// A mark at the first item of the tree, if there is one, in a stack that is deep enough for the tree.
@@ -156,9 +178,29 @@ pub fn step<'t, 'p>(tree: &'t Tree<'p>, stack: &mut Vec<Mark>, mark: Mark) -> No
     ensures step { Stepped tree.now mark result stack.old.items stack.new.items }
     ensures room { length tree.now.branches ≤ vec_capacity stack.new }
 {
-    // `len` hands on that the tree is a forest: each child is there, and no level is past the number of elements.
+    // `len` hands on that the tree is a forest: no level is past the number of elements.
     let _elements = tree.len();
     push_next(tree, stack, mark);
+    push_inside(tree, stack, mark)
+}
+
+/// Marks what stands inside the first item at a mark. What stands at the mark.
+#[inline]
+pub fn push_inside<'t, 'p>(
+    tree: &'t Tree<'p>,
+    stack: &mut Vec<Mark>,
+    mark: Mark,
+) -> NodeView<'t, 'p>
+    requires mark { IsMark tree.now mark }
+    requires rising { vec_len stack.old ≤ mark.level + 1 }
+    requires room { length tree.now.branches ≤ vec_capacity stack.old }
+    ensures view { IsShown tree.now.branches mark.at result }
+    ensures tag { HasTag tree.now.branches result }
+    ensures pushed { (x : Item) → shown result ≡ Some x → let t = tree.now.branches in Pushed tree.now stack.old.items stack.new.items (lines_at t (mark.level + 1) (mark.templates + extra t x) (inside t x)) (steps_at t (mark.level + 1) (inside t x)) }
+    ensures room { length tree.now.branches ≤ vec_capacity stack.new }
+{
+    // `len` hands on that the tree is a forest: each child is there, and no level is past the number of elements.
+    let _elements = tree.len();
     let view = tree.view(mark.at);
     if let NodeView::Element { id, tag } = view {
         let templates = mark.templates + extra_depth(tag);
@@ -169,7 +211,7 @@ pub fn step<'t, 'p>(tree: &'t Tree<'p>, stack: &mut Vec<Mark>, mark: Mark) -> No
 
 /// Marks the item after the one at a mark, if there is one.
 #[inline]
-fn push_next(tree: &Tree<'_>, stack: &mut Vec<Mark>, mark: Mark)
+pub fn push_next(tree: &Tree<'_>, stack: &mut Vec<Mark>, mark: Mark)
     requires mark { IsMark tree.now mark }
     requires rising { vec_len stack.old ≤ mark.level }
     requires room { length tree.now.branches ≤ vec_capacity stack.old }

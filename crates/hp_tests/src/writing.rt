@@ -156,15 +156,18 @@ fn assert_taken_by<R: Abort + Threads + Sync>(
     assert!(rt; well, "{threads} threads, room for {room}");
 }
 
-/// A tree of so many elements, each in the one before, and of so many more in the document is printed the same by any number of threads.
+/// A tree of so many elements, each in the one before, of so many more in the document, and of so many comments and texts in the first
+/// element is printed the same by any number of threads.
 fn assert_printed_alike<R: Abort + Threads + Sync>(
     rt: &R,
     alloc: Global,
     elements: u64,
     more: u64,
+    pairs: u64,
 ) {
     let mut tree = nested(rt, alloc, elements);
     grow(rt, alloc, &mut tree, By::Sibling, more);
+    grow(rt, alloc, &mut tree, By::Pair, pairs);
     let text = print_tree(alloc, &tree).expect(rt, "there is memory");
     for threads in [1, 2, 4] {
         assert_taken_by(rt, alloc, &tree, &text, threads, text.len());
@@ -174,9 +177,10 @@ fn assert_printed_alike<R: Abort + Threads + Sync>(
     mem::forget(tree);
 }
 
-/// A part has 16,384 items at most. That of 1,100 levels ends early: their text takes more than a megabyte.
+/// A part has some 8,192 elements. That of 1,600 levels ends early: their text takes more than two megabytes.
 #[test]
 fn several_threads_print_as_one_does(rt: HostRuntime) {
-    assert_printed_alike(&rt, rt.alloc(), 0, 140_000);
-    assert_printed_alike(&rt, rt.alloc(), 1_100, 140_000);
+    assert_printed_alike(&rt, rt.alloc(), 0, 70_000, 0);
+    assert_printed_alike(&rt, rt.alloc(), 1_600, 70_000, 0);
+    assert_printed_alike(&rt, rt.alloc(), 2, 40_000, 20_000);
 }

@@ -1,6 +1,6 @@
 use Rattle.std.specs.Vec.{vec_capacity}
 use Rattle.hp_print.specs.Parts.{AreRoomy}
-use Rattle.hp_print.proofs.parts.pass.Given as goal
+use Rattle.hp_print.proofs.ahead.pass.Given as goal
 
 -- the marks are in the tree
 abbrev pub invariant-loop : goal.invariant-loop
