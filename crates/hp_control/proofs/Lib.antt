@@ -16,5 +16,6 @@ pub mod TellingLemmas
 pub mod QuestionLemmas
 pub mod RememberingLemmas
 pub mod Once
+pub mod ChainLemmas
 pub mod KeptOnce
 mod Setting

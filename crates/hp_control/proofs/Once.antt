@@ -1,16 +1,17 @@
 -- Pairs whose questions stand once, and how they are found.
 use Rattle.std.proofs.Common.{◌≡◌, ◌≢◌, ◌⊎◌, inl, inr, ℕ, suc, zero, Bool, true, false, List, [], ◌∷◌, ◌++◌, length, Some, refl, sym, ap, ◌∙◌, subst}
-use Rattle.std.specs.Prelude.{◌||◌, ◌<◌, slice_get, IfNone, Ok, None}
+use Rattle.std.specs.Prelude.{◌||◌, ◌<◌, ◌≤◌, ◌-◌, slice_get, slice_index, map, Ok, None}
 use Rattle.std.proofs.Common.{arith}
-use Rattle.std.specs.List.{Contains}
+use Rattle.std.proofs.lemmas.Bool.{cases_order}
+use Rattle.std.proofs.lemmas.List.{length-map, map-append}
 use Rattle.std.proofs.lemmas.List.Folds.{list_any-append}
-use Rattle.std.specs.HashMap.{HashMap}
 use Rattle.std.specs.Prelude.{Option}
 use Rattle.hp_control.specs.declared.question.Question.{Question}
 use Rattle.hp_control.specs.declared.question.Answer.{Answer}
 use Rattle.hp_control.specs.declared.question.Kept.{Kept}
-use Rattle.hp_control.specs.Guessing.{AreDistinct, AreSaid, IsIndexed, KeepsPlaces, places_at}
+use Rattle.hp_control.specs.Guessing.{AreDistinct, AreSaid, IsIndexed, noted}
 use Rattle.hp_control.specs.Hashing.{hash_of}
+use Rattle.hp_control.specs.Places.{Chained, IsLastOf, chain_of}
 use Rattle.hp_control.specs.Plan.{Heard, Runs, asks, gives, is_asked}
 use Rattle.hp_control.specs.QuestionParts.{same_question}
 use Rattle.hp_control.proofs.QuestionLemmas.{question_told, question_again, question_apart}
@@ -63,49 +64,83 @@ distinct_more (x ∷ xs) k d h =
       distinct_more xs k d.1 parts.1,
     )
 
--- the places of one more pair
-more_at : (kept : List Kept) (k p : Kept) (i : ℕ) → slice_get (kept ++ k ∷ []) i ≡ Some p → (slice_get kept i ≡ Some p) ⊎ ((i ≡ length kept) × (p ≡ k))
-more_at [] k p zero e = inr (refl, some_one p k (sym e))
-more_at [] k p (suc i) e = absurd (cc)
-more_at (x ∷ xs) k p zero e = inl e
-more_at (x ∷ xs) k p (suc i) e = go (more_at xs k p i e)
+from_or_below : (end i : ℕ) → (end ≤ i) ⊎ (i < end)
+from_or_below end i = go (cases_order i end)
   where
-    go : (slice_get xs i ≡ Some p) ⊎ ((i ≡ length xs) × (p ≡ k)) → (slice_get xs i ≡ Some p) ⊎ ((suc i ≡ suc (length xs)) × (p ≡ k))
-    go (inl h) = inl h
-    go (inr h) = inr (ap suc h.0, h.1)
+    go : (i ≡ end) ⊎ ((i < end) ⊎ (end < i)) → (end ≤ i) ⊎ (i < end)
+    go (inl e) = inl (omega (arith, e))
+    go (inr (inl below)) = inr below
+    go (inr (inr beyond)) = inl (omega (arith, beyond))
 
-module _ {S : Type 0} (kept : List Kept) (old new : Option (HashMap ℕ (List ℕ) S)) where
-  pub indexed_same : IsIndexed kept old → KeepsPlaces old new → IsIndexed kept new
-  indexed_same h stay = λ i k e. stay (hash_of k.question) i (h i k e)
+-- the hash of each question stands where its pair does
+hash_at : (kept : List Kept) (i : ℕ) (k : Kept) → slice_get kept i ≡ Some k → slice_index (map (λ (p : Kept). hash_of p.question) kept) i ≡ hash_of k.question
+hash_at [] i k e = absurd (cc)
+hash_at (x ∷ xs) zero k e = ap (λ (p : Kept). hash_of p.question) (some_one x k e)
+hash_at (x ∷ xs) (suc i) k e = hash_at xs i k e
 
-  pub indexed_more : (k : Kept) → IsIndexed kept old → KeepsPlaces old new → Contains (places_at new (hash_of k.question)) (length kept) → IsIndexed (kept ++ k ∷ []) new
-  indexed_more k h stay put = λ i p e. go i p (more_at kept k p i e)
+stands_below : (kept : List Kept) (i : ℕ) (k : Kept) → slice_get kept i ≡ Some k → i < length kept
+stands_below [] i k e = absurd (cc)
+stands_below (x ∷ xs) zero k e = omega arith
+stands_below (x ∷ xs) (suc i) k e = let h : i < length xs = stands_below xs i k e in omega (arith, h)
+
+pub hashes_long : (kept : List Kept) (places : Chained) → IsIndexed kept (Some places) → length places.hashes ≡ length kept
+hashes_long kept places h = ap length h ∙ length-map kept (λ (p : Kept). hash_of p.question)
+
+pub indexed_more : (kept : List Kept) (old new : Option Chained) (k : Kept) → IsIndexed kept old → noted new ≡ noted old ++ hash_of k.question ∷ [] → IsIndexed (kept ++ k ∷ []) new
+indexed_more kept old new k h put = put ∙ (ap (λ hashes. hashes ++ hash_of k.question ∷ []) h ∙ sym (map-append (λ (p : Kept). hash_of p.question) kept (k ∷ [])))
+
+-- a pair's question isn't that one, from a place on
+abbrev pub NoneFrom : List Kept → Question → ℕ → Type 0
+NoneFrom kept q place = (i : ℕ) (k : Kept) → place ≤ i → slice_get kept i ≡ Some k → k.question ≢ q
+
+-- from a place on no pair has that question, and the place is one of the chain of its hash
+abbrev pub IsLookedFrom : List Kept → Chained → Question → ℕ → ℕ → Type 0
+IsLookedFrom kept places q hash place = (place ≤ length kept) × NoneFrom kept q place × (0 < place → chain_of places.chains (slice_index places.hashes (place - 1)) ≡ chain_of places.chains hash)
+
+module _ (kept : List Kept) (places : Chained) (q : Question) (hash : ℕ) (h : IsIndexed kept (Some places)) (of : hash ≡ hash_of q) where
+  -- between the last hash of a chain before an end and that end no pair has the question
+  none_between : (end place : ℕ) → IsLastOf places (chain_of places.chains hash) end place → NoneFrom kept q end → NoneFrom kept q place
+  none_between end place last none = λ i k from e. go i k from e (from_or_below end i)
     where
-      go : (i : ℕ) (p : Kept) → (slice_get kept i ≡ Some p) ⊎ ((i ≡ length kept) × (p ≡ k)) → Contains (places_at new (hash_of p.question)) i
-      go i p (inl e) = stay (hash_of p.question) i (h i p e)
-      go i p (inr e) =
-          let P : ℕ → Kept → Type 0 = λ n q. Contains (places_at new (hash_of q.question)) n in
-          subst (λ n. P n p) (sym e.0) (subst (P (length kept)) (sym e.1) put)
+      go : (i : ℕ) (k : Kept) → place ≤ i → slice_get kept i ≡ Some k → (end ≤ i) ⊎ (i < end) → k.question ≢ q
+      go i k from e (inl beyond) = none i k beyond e
+      go i k from e (inr below) = λ same. last.1 i from below (ap (chain_of places.chains) (ap (λ hashes. slice_index hashes i) h ∙ (hash_at kept i k e ∙ (ap hash_of same ∙ sym of))))
 
-  -- under its hash are all places where a question may stand
-  pub none_in : (q : Question) (noted : List ℕ) → IsIndexed kept old → places_at old (hash_of q) ≡ noted → ((i : ℕ) (k : Kept) → Contains noted i → slice_get kept i ≡ Some k → k.question ≢ q) → is_asked kept q ≡ false
-  none_in q noted h told none = not_asked kept q (λ i k e same.
-      let P : Question → Type 0 = λ r. Contains (places_at old (hash_of r)) i in
-      let Q : List ℕ → Type 0 = λ places. Contains places i in
-      none i k (subst Q told (subst P same (h i k e))) e same)
+  pub looked_first : (place : ℕ) → IsLastOf places (chain_of places.chains hash) (length places.hashes) place → IsLookedFrom kept places q hash place
+  looked_first place last = (
+    omega (arith, last.0, hashes_long kept places h),
+    none_between (length places.hashes) place last (λ i k from e. absurd (omega (arith, from, stands_below kept i k e, hashes_long kept places h))),
+    last.2,
+  )
 
-  pub none_under : (q : Question) → IsIndexed kept old → places_at old (hash_of q) ≡ [] → is_asked kept q ≡ false
-  none_under q h told = none_in q [] h told (λ i k there. absurd (nowhere there.1))
+  pub looked_next : (at place : ℕ) → 0 < at → IsLookedFrom kept places q hash at → IsLastOf places (chain_of places.chains (slice_index places.hashes (at - 1))) (at - 1) place → ((k : Kept) → slice_get kept (at - 1) ≡ Some k → k.question ≢ q) → IsLookedFrom kept places q hash place
+  looked_next at place some looked last here =
+      let chain = looked.2 some in
+      let turned = subst (λ c. IsLastOf places c (at - 1) place) chain last in (
+        omega (arith, last.0, looked.0),
+        none_between (at - 1) place turned (λ i k from e. go i k e (from_or_below at i) from),
+        turned.2,
+      )
     where
-      nowhere : {n : ℕ} → n < length {A = ℕ} [] → ⊥
-      nowhere h = omega (arith, h)
+      go : (i : ℕ) (k : Kept) → slice_get kept i ≡ Some k → (at ≤ i) ⊎ (i < at) → at - 1 ≤ i → k.question ≢ q
+      go i k e (inl beyond) from = looked.1 i k beyond e
+      go i k e (inr below) from =
+          let same : at - 1 ≡ i = omega (arith, below, from, some) in
+          here k (ap (slice_get kept) same ∙ e)
+
+-- an equal question has that hash
+pub other_hash : (kept : List Kept) (places : Chained) (q : Question) (i : ℕ) (k : Kept) → IsIndexed kept (Some places) → slice_index places.hashes i ≢ hash_of q → slice_get kept i ≡ Some k → k.question ≢ q
+other_hash kept places q i k h other e = λ same. other (ap (λ hashes. slice_index hashes i) h ∙ (hash_at kept i k e ∙ ap hash_of same))
+
+pub none_noted : (kept : List Kept) (q : Question) → IsIndexed kept None → is_asked kept q ≡ false
+none_noted [] q h = refl
+none_noted (x ∷ xs) q h = absurd (cc)
+
+pub none_left : (kept : List Kept) (q : Question) (place : ℕ) → place ≡ 0 → NoneFrom kept q place → is_asked kept q ≡ false
+none_left kept q place e none = not_asked kept q (λ i k. none i k (omega (arith, e)))
 
 -- a question that was asked before is answered as then
 pub runs_again : (h now : Heard) (kept : List Kept) (i : ℕ) (k : Kept) (q : Question) (answer : Answer) → now ≡ h → h.kept ≡ Some kept → AreSaid h.says kept → slice_get kept i ≡ Some k → k.question ≡ q → answer ≡ k.answer → Runs h now (asks q gives) (Ok answer)
 runs_again h now kept i k q answer same is_kept said there is copied =
     let told : h.says q ≡ answer = sym (copied ∙ (said_at h.says kept i k said there ∙ ap h.says is)) in
     subst (λ (n : Heard). Runs h n (asks q gives) (Ok answer)) (sym same) (answered_again h kept q answer is_kept (asked_at kept i k q there is, told))
-
-pub none_weaker : {X : Type 0} (r : Option X) (P Q : Type 0) → (P → Q) → IfNone r P → IfNone r Q
-none_weaker None P Q f h = f h
-none_weaker (Some x) P Q f h = tt

@@ -13,6 +13,7 @@ pub mod Nothing
 pub mod Telling
 pub mod QuestionParts
 pub mod Hashing
+pub mod Places
 pub mod Plan
 pub mod Guessing
 pub mod Remembering

@@ -1,10 +1,12 @@
 //! An older state that is guessed.
 ghost use Rattle.std.specs.Prelude.{◌≡◌, ◌<◌, false, [], Ok, IfOk, OnErr};
 ghost use Rattle.hp_control.specs.Guessing.{AreDistinct, AreSaid, heard_by};
+ghost use Rattle.hp_control.specs.Hashing.{hash_of as spec_hash_of};
 ghost use Rattle.hp_control.specs.Plan.{Runs, asks, gives, is_asked};
 ghost use Rattle.hp_control.specs.Remembering.{WasAsked, question_of};
 
 use crate::below::{Below, Predictor};
+use crate::hashing::{hash_of, hash_of_same};
 use crate::items::lose;
 use crate::pairs::Pairs;
 use crate::question::{Answer, Assumptions, Kept, Question};
@@ -62,6 +64,17 @@ fn sort_of(question: &Question) -> usize
     }
 }
 
+/// A copy of an answer, which is mostly a count.
+#[inline(always)]
+fn copied_count(alloc: Global, answer: &Answer) -> Result<Answer, NoMemory>
+    ensures { IfOk result (λ copy. copy ≡ answer.now) }
+{
+    match answer {
+        Answer::Count(count) => Ok(Answer::Count(*count)),
+        _ => answer.copy(alloc),
+    }
+}
+
 impl<P: Predictor + Drop> Guess<P> {
     /// The guesses of that predictor, of which none was made yet.
     pub fn new(predictor: P) -> Guess<P>
@@ -104,22 +117,24 @@ impl<P: Predictor + Drop> Guess<P> {
 
 impl<P: Predictor + Drop> Guess<P> {
     /// Asks what wasn't asked before.
-    #[inline(never)]
+    #[inline(always)]
     fn ask_first(
         &mut self,
         alloc: Global,
+        hash: u64,
         question: Question,
         sort: usize,
     ) -> Result<Answer, NoMemory>
+        requires hash { hash ≡ spec_hash_of question }
         requires sort { sort < 8 }
         requires new { is_asked self.old.kept question ≡ false }
         ensures asked { IfOk result (λ answer. Runs (heard_by P.says self.old) (heard_by P.says self.new) (asks question gives) (Ok answer)) }
         ensures unchanged { OnErr result (self.new ≡ self.old) }
     {
         let answer = self.predictor.say(alloc, &question)?;
-        let copy = answer.copy(alloc)?;
+        let copy = copied_count(alloc, &answer)?;
         let place = self.pairs.kept().len();
-        self.pairs.add(alloc, Kept { question, answer })?;
+        self.pairs.add(alloc, hash, Kept { question, answer })?;
         self.last[sort] = place;
         Ok(copy)
     }
@@ -154,14 +169,20 @@ impl<P: Predictor + Drop> Below for Guess<P> {
 
     fn ask(&mut self, alloc: Global, question: Question) -> Result<Answer, NoMemory> {
         let sort = sort_of(&question);
-        match self.pairs.find(Sought::Made(&question), self.last[sort]) {
+        if let Some(pair) = self.pairs.at(self.last[sort], &question) {
+            let answer = pair.answer.copy(alloc);
+            lose(question);
+            return answer;
+        }
+        let hash = hash_of(&question);
+        match self.pairs.find(hash, Sought::Made(&question)) {
             Some((place, pair)) => {
                 let answer = pair.answer.copy(alloc);
                 self.last[sort] = place;
                 lose(question);
                 answer
             }
-            None => self.ask_first(alloc, question, sort),
+            None => self.ask_first(alloc, hash, question, sort),
         }
     }
 
@@ -174,15 +195,12 @@ impl<P: Predictor + Drop> Below for Guess<P> {
     }
 
     fn ask_same(&mut self, alloc: Global, cuts: u64, tag: &Tag) -> Result<Answer, NoMemory> {
-        match self.pairs.find(Sought::Same { cuts, tag }, self.last[SAME]) {
-            Some((place, pair)) => {
-                let answer = pair.answer.copy(alloc);
-                self.last[SAME] = place;
-                answer
-            }
+        let hash = hash_of_same(cuts, tag);
+        match self.pairs.find(hash, Sought::Same { cuts, tag }) {
+            Some((_, pair)) => copied_count(alloc, &pair.answer),
             None => {
                 let tag = tag.copy(alloc)?;
-                self.ask_first(alloc, Question::Same { cuts, tag }, SAME)
+                self.ask_first(alloc, hash, Question::Same { cuts, tag }, SAME)
             }
         }
     }

@@ -1,12 +1,13 @@
 //! A number for each question, by which it is found among many.
 ghost use Rattle.std.specs.Prelude.{◌≡◌};
 ghost use Rattle.std.specs.Str.{chars};
-ghost use Rattle.hp_control.specs.Hashing.{mixed, mixed_text, mixed_kinds, mixed_attributes, hash_of};
+ghost use Rattle.hp_control.specs.Hashing.{mixed, mixed_text, mixed_name, mixed_kinds, mixed_attributes, hash_of};
 ghost use Rattle.hp_control.specs.declared.question.Question.TheVariants.{Same};
 
 use crate::asked::{fact_place, set_place};
 use crate::question::Question;
-use hp_elements::{Attribute, Chain, Kinds, Tag};
+use hp_elements::{Attribute, Chain, Kinds, Name, Tag};
+use std::hash::{FoldHasher, Hasher};
 
 /// The hash with one number more.
 #[inline]
@@ -21,11 +22,19 @@ fn mixed(hash: u64, number: u64) -> u64
 fn mixed_text(hash: u64, text: &str) -> u64
     ensures { result ≡ mixed_text hash (chars text.now) }
 {
-    let mut mix = hash;
-    for c in text.chars() {
-        mix = mixed(mix, c as u64);
+    let mut hasher = FoldHasher::default();
+    hasher.write(text.as_bytes());
+    mixed(hash, hasher.finish())
+}
+
+/// The hash with a name more.
+fn mixed_name(hash: u64, name: &Name) -> u64
+    ensures { result ≡ mixed_name hash name.now }
+{
+    match name.known() {
+        Some(known) => mixed(hash, known.index() as u64),
+        None => mixed_text(hash, name.as_str()),
     }
-    mixed(mix, 0)
 }
 
 fn mixed_kinds(hash: u64, kinds: &Kinds) -> u64
@@ -36,8 +45,8 @@ fn mixed_kinds(hash: u64, kinds: &Kinds) -> u64
         Kinds::All => mixed(hash, 1),
         Kinds::AnyHtml => mixed(hash, 2),
         Kinds::HtmlOrPoint => mixed(hash, 3),
-        Kinds::Html(name) => mixed_text(mixed(hash, 4), name.as_str()),
-        Kinds::Foreign(name) => mixed_text(mixed(hash, 5), name.as_str()),
+        Kinds::Html(name) => mixed_name(mixed(hash, 4), name),
+        Kinds::Foreign(name) => mixed_name(mixed(hash, 5), name),
         Kinds::Set(set) => mixed(mixed(hash, 6), set_place(*set)),
     }
 }
@@ -47,8 +56,7 @@ fn mixed_attributes(hash: u64, attributes: &Chain<Attribute>) -> u64
 {
     let mut mix = hash;
     for attribute in attributes.iter() {
-        let name = mixed_text(mix, attribute.name.as_str());
-        mix = mixed_text(name, attribute.value.as_str());
+        mix = mixed_text(mixed_name(mix, &attribute.name), attribute.value.as_str());
     }
     mix
 }
@@ -57,7 +65,7 @@ fn mixed_attributes(hash: u64, attributes: &Chain<Attribute>) -> u64
 pub(crate) fn hash_of_same(cuts: u64, tag: &Tag) -> u64
     ensures { result ≡ hash_of (Same cuts tag.now) }
 {
-    let name = mixed_text(mixed(9, cuts), tag.name.as_str());
+    let name = mixed_name(mixed(9, cuts), &tag.name);
     mixed_attributes(name, &tag.attributes)
 }
 
@@ -83,7 +91,7 @@ pub(crate) fn hash_of(question: &Question) -> u64
         Question::ResetFrom { depth } => mixed(6, *depth),
         Question::Quiet { depth, cuts } => mixed(mixed(7, *depth), *cuts),
         Question::Listed { depth, cuts, name } => {
-            mixed_text(mixed(mixed(8, *depth), *cuts), name.as_str())
+            mixed_name(mixed(mixed(8, *depth), *cuts), name)
         }
         Question::Same { cuts, tag } => hash_of_same(*cuts, tag),
         Question::Pointer { depth } => mixed(10, *depth),

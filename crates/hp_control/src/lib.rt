@@ -18,6 +18,7 @@ pub mod laws;
 mod laying;
 mod open_elements;
 mod pairs;
+mod places;
 mod question;
 mod recurring;
 mod reset;

@@ -1,24 +1,24 @@
 //! Questions with their answers, each question once, in the order in which they came, and found by the question.
-ghost use Rattle.std.specs.Prelude.{◌≡◌, ◌≢◌, ℕ, false, [], ◌∷◌, ◌++◌, slice_get, Some, OnOk, OnErr, IfSome, IfNone};
-ghost use Rattle.std.specs.List.{Contains};
-ghost use Rattle.hp_control.specs.Guessing.{AreDistinct, KeepsPlaces, places_at, sought};
+ghost use Rattle.std.specs.Prelude.{◌≡◌, ◌≢◌, ◌<◌, false, [], ◌∷◌, ◌++◌, length, slice_get, Some, OnOk, OnErr, IfSome, IfNone, IsSome, None};
+ghost use Rattle.hp_control.specs.Guessing.{AreDistinct, IsIndexed, noted, sought};
+ghost use Rattle.hp_control.specs.Hashing.{hash_of};
 ghost use Rattle.hp_control.specs.Plan.{is_asked};
 ghost use Rattle.hp_control.specs.declared.question.Kept.{Kept};
 
-use crate::hashing::hash_of;
-use crate::question::{Assumptions, Kept};
+use crate::items::lose;
+use crate::places::Places;
+use crate::question::{Assumptions, Kept, Question};
 use crate::sought::Sought;
 use hp_elements::{List, NoMemory};
-use std::alloc::Global;
-use std::collections::HashMap;
+use std::alloc::{AllocError, Global};
 use std::marker::Model;
 
 /// Pairs of questions and answers.
 #[derive(Drop)]
 pub(crate) struct Pairs {
     kept: Assumptions,
-    /// Where they stand, by the hash of the question. There is none before the first pair.
-    places: Option<HashMap<u64, List<usize>>>,
+    /// Where they stand, by the hashes of the questions. There is none before the first pair.
+    places: Option<Places>,
 }
 
 impl Model for Pairs {
@@ -34,61 +34,75 @@ impl Model for Pairs {
     ghost invariant = { λ p. IsIndexed p.kept p.places × AreDistinct p.kept };
 }
 
-/// Notes a place under a hash.
-fn put_place(
-    alloc: Global,
-    places: &mut HashMap<u64, List<usize>>,
-    hash: u64,
-    place: usize,
-) -> Result<(), NoMemory>
-    ensures stay { KeepsPlaces (Some places.old) (Some places.new) }
-    ensures put { OnOk result (Contains (places_at (Some places.new) hash) place) }
+/// Makes the places, where there are none yet.
+#[inline(never)]
+fn begin(alloc: Global, places: &mut Option<Places>) -> Result<(), NoMemory>
+    requires { places.old ≡ None }
+    ensures made { OnOk result (IsSome places.new) }
+    ensures same { noted places.new ≡ noted places.old }
 {
-    match places.get_mut(&hash) {
-        Some(noted) => {
-            noted.push(alloc, place)?;
-        }
-        None => {
-            places.insert(hash, List::of_one(place))?;
-        }
-    }
+    *places = Some(Places::new(alloc)?);
     Ok(())
 }
 
-/// The same, where there may be none yet.
-fn note_place(
-    alloc: Global,
-    places: &mut Option<HashMap<u64, List<usize>>>,
-    hash: u64,
-    place: usize,
-) -> Result<(), NoMemory>
-    ensures stay { KeepsPlaces places.old places.new }
-    ensures put { OnOk result (Contains (places_at places.new hash) place) }
+/// Notes one more hash, where there may be none yet. At an `Err` the hashes are as before.
+#[inline(always)]
+fn note(alloc: Global, places: &mut Option<Places>, hash: u64) -> Result<(), NoMemory>
+    ensures ok { OnOk result (noted places.new ≡ noted places.old ++ hash ∷ []) }
+    ensures err { OnErr result (noted places.new ≡ noted places.old) }
 {
     if places.is_none() {
-        *places = Some(HashMap::new(alloc));
+        begin(alloc, places)?;
     }
     match places {
-        Some(places) => put_place(alloc, places, hash, place),
+        Some(places) => places.push(alloc, hash),
         None => unreachable!(),
     }
 }
 
-/// The first of these places where that question stands, with its pair.
-fn first_of<'a>(
+/// The pair at an index, where it is of that question, whose hash is given too.
+#[inline]
+fn pair_at<'a>(
     kept: &'a Assumptions,
-    places: &[usize],
+    places: &Places,
+    index: usize,
+    hash: u64,
+    question: Sought<'_>,
+) -> Option<&'a Kept>
+    requires indexed { IsIndexed kept.now (Some places.now) }
+    requires within { index < length kept.now }
+    requires hash { hash ≡ hash_of (sought question) }
+    ensures found { IfSome result (λ pair. (slice_get kept.now index ≡ Some pair.now) × (pair.now.question ≡ sought question.entry)) }
+    ensures none { IfNone result ((pair : Kept) → slice_get kept.now index ≡ Some pair → pair.question ≢ sought question.entry) }
+{
+    if places.at(index) != hash {
+        return None;
+    }
+    let pair = &kept.as_slice()[index];
+    if question.is(&pair.question) {
+        return Some(pair);
+    }
+    None
+}
+
+/// The pair of that question, whose hash is given too, and where it stands.
+fn pair_of<'a>(
+    kept: &'a Assumptions,
+    places: &Places,
+    hash: u64,
     question: Sought<'_>,
 ) -> Option<(usize, &'a Kept)>
+    requires indexed { IsIndexed kept.now (Some places.now) }
+    requires hash { hash ≡ hash_of (sought question) }
     ensures found { IfSome result (λ p. (slice_get kept.now p.0 ≡ Some p.1.now) × (p.1.now.question ≡ sought question.entry)) }
-    ensures none { IfNone result ((place : ℕ) (pair : Kept) → Contains places.now place → slice_get kept.now place ≡ Some pair → pair.question ≢ sought question.entry) }
+    ensures none { IfNone result (is_asked kept.now (sought question.entry) ≡ false) }
 {
-    for place in places {
-        if let Some(pair) = kept.as_slice().get(*place) {
-            if question.is(&pair.question) {
-                return Some((*place, pair));
-            }
+    let mut place = places.last(hash);
+    while place != 0 {
+        if let Some(pair) = pair_at(kept, places, place - 1, hash, question) {
+            return Some((place - 1, pair));
         }
+        place = places.before(place - 1);
     }
     None
 }
@@ -122,34 +136,46 @@ impl Pairs {
         kept
     }
 
-    /// Where the question stands, and the pair; `None` where it doesn't stand. The place where it may stand is looked at first.
-    pub(crate) fn find(&self, question: Sought<'_>, maybe: usize) -> Option<(usize, &Kept)>
+    /// The pair at a place, where it is one of that question.
+    pub(crate) fn at(&self, place: usize, question: &Question) -> Option<&Kept>
+        ensures found { IfSome result (λ pair. (slice_get self.now place ≡ Some pair.now) × (pair.now.question ≡ question.now)) }
+    {
+        match self.kept.as_slice().get(place) {
+            Some(pair) if pair.question.same(question) => Some(pair),
+            _ => None,
+        }
+    }
+
+    /// Where the question stands, whose hash is given too, and the pair; `None` where it doesn't stand.
+    pub(crate) fn find(&self, hash: u64, question: Sought<'_>) -> Option<(usize, &Kept)>
+        requires { hash ≡ hash_of (sought question) }
         ensures found { IfSome result (λ p. (slice_get self.now p.0 ≡ Some p.1.now) × (p.1.now.question ≡ sought question.entry)) }
         ensures none { IfNone result (is_asked self.now (sought question.entry) ≡ false) }
     {
-        if let Some(pair) = self.kept.as_slice().get(maybe) {
-            if question.is(&pair.question) {
-                return Some((maybe, pair));
-            }
-        }
         match &self.places {
             None => None,
-            Some(places) => match places.get(&question.hash()) {
-                None => None,
-                Some(noted) => first_of(&self.kept, noted.as_slice(), question),
-            },
+            Some(places) => pair_of(&self.kept, places, hash, question),
         }
     }
 
     /// Appends a pair whose question doesn't stand here yet. At an `Err` the pairs are as before.
-    pub(crate) fn add(&mut self, alloc: Global, pair: Kept) -> Result<(), NoMemory>
-        requires { is_asked self.old pair.question ≡ false }
+    #[inline(always)]
+    pub(crate) fn add(&mut self, alloc: Global, hash: u64, pair: Kept) -> Result<(), NoMemory>
+        requires hash { hash ≡ hash_of pair.question }
+        requires new { is_asked self.old pair.question ≡ false }
         ensures ok { OnOk result (self.new ≡ self.old ++ pair ∷ []) }
         ensures err { OnErr result (self.new ≡ self.old) }
     {
-        let hash = hash_of(&pair.question);
-        note_place(alloc, &mut self.places, hash, self.kept.len())?;
-        self.kept.push(alloc, pair)?;
-        Ok(())
+        if let Err(failed) = self.kept.push(alloc, pair) {
+            lose(failed);
+            return Err(AllocError);
+        }
+        match note(alloc, &mut self.places, hash) {
+            Ok(()) => Ok(()),
+            Err(failed) => {
+                lose(self.kept.pop());
+                Err(failed)
+            }
+        }
     }
 }

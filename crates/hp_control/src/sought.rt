@@ -1,9 +1,7 @@
 //! A question that is looked for among pairs.
 ghost use Rattle.std.specs.Prelude.{◌≡◌, ◌↔◌, IsTrue};
-ghost use Rattle.hp_control.specs.Hashing.{hash_of as spec_hash_of};
 ghost use Rattle.hp_control.specs.Guessing.{sought};
 
-use crate::hashing::{hash_of, hash_of_same};
 use crate::question::Question;
 use hp_elements::Tag;
 
@@ -15,16 +13,6 @@ pub(crate) enum Sought<'q> {
 }
 
 impl<'q> Sought<'q> {
-    /// Its hash.
-    pub(crate) fn hash(self) -> u64
-        ensures { result ≡ spec_hash_of (sought self.entry) }
-    {
-        match self {
-            Sought::Made(question) => hash_of(question),
-            Sought::Same { cuts, tag } => hash_of_same(cuts, tag),
-        }
-    }
-
     /// Whether it is that one.
     pub(crate) fn is(self, question: &Question) -> bool
         ensures { IsTrue result ↔ (question.now ≡ sought self.entry) }

@@ -1,4 +1,4 @@
-use Rattle.std.proofs.Common.{ap, subst, sym}
+use Rattle.std.proofs.Common.{ap, refl, subst, sym}
 use Rattle.std.proofs.lemmas.Result.{IfOk-weaker}
 use Rattle.hp_control.specs.Guessing.{AreSaid, heard_by}
 use Rattle.hp_control.specs.Plan.{Heard}
@@ -11,6 +11,7 @@ returns-in-Some-clause-asked g c =
     let says = g.P.Predictor.says in
     let turned = ap (heard_by says) c.self.view_is in
     let said = subst (λ (h : Heard). AreSaid h.says c.self.inside.pairs) turned c.self.invariant.0 in
-    IfOk-weaker c.copy-answer.result _ _ (λ answer e.
-    runs_again (heard_by says c.args.self.now) _ c.self.inside.pairs c.in-Some.place c.in-Some.pair.now (ask.Same c.args.cuts c.args.tag.now) answer
-    turned (ap (λ (h : Heard). h.kept) (sym turned)) said c.in-Some.ensures.found.0 c.in-Some.ensures.found.1 e) c.copy-answer.ensures
+    let h = heard_by says c.args.self.now in
+    IfOk-weaker c.copied_count.result _ _ (λ answer e.
+    runs_again h h c.self.inside.pairs _ c.in-Some.pair.now (ask.Same c.args.cuts c.args.tag.now) answer
+    refl (ap (λ (h : Heard). h.kept) (sym turned)) said c.in-Some.ensures.found.0 c.in-Some.ensures.found.1 e) c.copied_count.ensures
