@@ -53,7 +53,8 @@ use Rattle.hp_fragment.proofs.Guesses.{begins-over, heard-first, ok-same, pairs,
 use Rattle.hp_pieces.specs.Reaching.{IsSaid, ReachesFirst, ReachesIn}
 use Rattle.hp_fragment.specs.Guessing.{CrossesAt, HasBegun, IsReached}
 use Rattle.hp_fragment.specs.Reading.{AreRight, Crosses, GoesToEnd, HasRead, HasReadAll, IfCrossed, Stage, control_at}
-use Rattle.hp_fragment.specs.declared.sink.Sink.TheVariants.{Keeps}
+use Rattle.hp_fragment.specs.Making.{Amounts, SplitBy}
+use Rattle.hp_fragment.specs.declared.sink.Naming.TheVariants.{Numbers}
 
 -- a state that tells to be at rest is so, and one that doesn't isn't
 told-resting : (s : ControlState) (rest : Rest) (after_cr : Bool) (m : Mode) (original : Option Mode) (skip_lf : Bool) → answer_of s ask.Entry ≡ answer.Resting rest after_cr m original skip_lf → is_some (rest_of s.lex.machine.state) ≡ true
@@ -83,7 +84,7 @@ seeker-begun l input v rest after_cr m original skip_lf text is at begun =
     (ap (λ (w : Split). record { lexing = stands (record { lex = rest_state rest after_cr; names = built_in; asked = asked.Nothing; rested = 2 ^ 32 }) (text_at (2 ^ 32) text); split = w }) (sym begun)))
 
 -- Nothing was read of a front of a text yet, before which a state stands for which the answers are right.
-module _ (start : RightAtStart) (law : TextBegins) (views : ViewsBegin) (old : Stage) (b : HasBegun old.lexer old.heard old.split) (front : List ℕ) (input : old.input ≡ text_at (2 ^ 32) (chars front)) (keeps : old.sink ≡ Keeps) (s : ControlState) (may : MayStand built_in s) (right : IsRight old.heard.says built_in s (chars front)) where
+module _ (start : RightAtStart) (law : TextBegins) (views : ViewsBegin) (old : Stage) (b : HasBegun old.lexer old.heard old.split) (front : List ℕ) (input : old.input ≡ text_at (2 ^ 32) (chars front)) (s : ControlState) (empty : Amounts (SplitBy Numbers) old.sink s [] []) (may : MayStand built_in s) (right : IsRight old.heard.says built_in s (chars front)) where
   abbrev told : Answer
   told = answer.Resting b.rest b.after_cr b.mode b.original b.skip_lf
 
@@ -99,20 +100,20 @@ module _ (start : RightAtStart) (law : TextBegins) (views : ViewsBegin) (old : S
       (subst (λ (a : Answer). RightFrom built_in old.heard.says s (seeker_at a (chars front))) b.told ((start old.heard.says built_in s (chars front) right).1 (subst IsResting (sym b.told) tt)))
 
   read : HasRead (way_over s (chars front)) old
-  read = begins-over law s (chars front) may.valid b.rest b.after_cr b.mode b.original b.skip_lf old (views s told may.valid may.fits (entry ∙ b.told) tt) b.lexer input b.split keeps
+  read = begins-over law s (chars front) may.valid b.rest b.after_cr b.mode b.original b.skip_lf old (views s told may.valid may.fits (entry ∙ b.told) tt) b.lexer input b.split empty
 
   -- what was asked on the way to the end is answered truly
   kept-hold : KeptOnceWhereTrue → (new : Stage) (g : GoesToEnd old new) (kept : List Kept) → new.heard.kept ≡ Some kept → Holds kept s
   kept-hold once new g kept is =
       subst (λ (ks : List Kept). Holds ks s) (sym (pairs old new b g kept is))
-      ((once s old.heard.says [] (ask.Entry ∷ g.asked) tt).0 (All-nil (λ (k : Kept). answer_of s k.question ≡ k.answer)) (entry, g.right s keeps onward))
+      ((once s old.heard.says [] (ask.Entry ∷ g.asked) tt).0 (All-nil (λ (k : Kept). answer_of s k.question ≡ k.answer)) (entry, g.right s onward))
 
   -- and nothing older was touched
   all-own : (new : Stage) (g : GoesToEnd old new) → RunsOwn (table built_in) s (followed_by (parser_in s) (chars front))
   all-own new g = record { there = there; edits = all.edits; goes = all.ended.goes; rests = record { no_step = λ q fs e. none q fs (sym (ap (step_by there) all.ended.needs) ∙ e) } }
     where
       all : HasReadAll (way_over s (chars front)) new
-      all = g.reads (way_over s (chars front)) (g.right s keeps onward) read
+      all = g.reads (way_over s (chars front)) (g.right s onward) read
 
       there : Parser
       there = record { lexing = all.ended.at; control = control_at s new }
@@ -128,7 +129,7 @@ module _ (start : RightAtStart) (law : TextBegins) (views : ViewsBegin) (old : S
   first-crossed inside utf8 new c = (touched at_rest touches, subst (λ (n : ℕ). new.lexer.rested - 2 ^ 32 < n) (sym (bytes-length front utf8)) (inside built_in s (chars front) (new.lexer.rested - 2 ^ 32) may.valid at_rest touches).more)
     where
       touches : TouchesFrom (table built_in) s (followed_by (parser_in s) (chars front)) (new.lexer.rested - 2 ^ 32)
-      touches = c.touches (way_over s (chars front)) refl (c.right s keeps onward) read
+      touches = c.touches (way_over s (chars front)) refl (c.right s onward) read
 
 -- over each state for which the answers are right, this is true of what was kept, and so much can be covered
 abbrev pub Reaches : List Kept → ℕ → List ℕ → (Question → Answer) → Type 0
@@ -136,10 +137,10 @@ Reaches kept covered front says = (s : ControlState) → MayStand built_in s →
 
 -- so a front that was read to its end is covered whole,
 pub whole-reaches : ReadingsAlike → RightAtStart → TextBegins → ViewsBegin → KeptOnceWhereTrue → (old new : Stage) (b : HasBegun old.lexer old.heard old.split) (g : GoesToEnd old new) (front : List ℕ) (kept : List Kept)
-    → new.heard.kept ≡ Some kept → IsUtf8 front → old.input ≡ text_at (2 ^ 32) (chars front) → old.sink ≡ Keeps → Reaches kept (length front) front old.heard.says
-whole-reaches alike start law views once old new b g front kept is utf8 input keeps = λ s may singly.
+    → new.heard.kept ≡ Some kept → IsUtf8 front → old.input ≡ text_at (2 ^ 32) (chars front) → ((s : ControlState) → Amounts (SplitBy Numbers) old.sink s [] []) → Reaches kept (length front) front old.heard.says
+whole-reaches alike start law views once old new b g front kept is utf8 input empty = λ s may singly.
     let right : IsRight old.heard.says built_in s (chars front) = alike old.heard.says built_in s (chars front) may.valid may.fits singly in
-    (kept-hold start law views old b front input keeps s may right once new g kept is, first-whole start law views old b front input keeps s may right utf8 new g)
+    (kept-hold start law views old b front input s (empty s) may right once new g kept is, first-whole start law views old b front input s (empty s) may right utf8 new g)
 
 -- a refusal that isn't want of memory
 pub refused-crossed : (refused : Refusal) (crossing : Crossing) (fact : Type 0) → refused ≡ refusal.Crossed crossing → IfCrossed refused fact → fact
@@ -147,10 +148,10 @@ refused-crossed refused crossing fact is h = subst (λ (r : Refusal). IfCrossed 
 
 -- and one that was crossed is so at that place.
 pub crossed-at : ReadingsAlike → RightAtStart → TextBegins → ViewsBegin → TouchesInside → (old new : Stage) (b : HasBegun old.lexer old.heard old.split) → Crosses old new → (front : List ℕ) (at : ℕ)
-    → at ≡ new.lexer.rested - 2 ^ 32 → IsUtf8 front → old.input ≡ text_at (2 ^ 32) (chars front) → old.sink ≡ Keeps → CrossesAt built_in old.heard.says front at
-crossed-at alike start law views inside old new b c front at is utf8 input keeps =
+    → at ≡ new.lexer.rested - 2 ^ 32 → IsUtf8 front → old.input ≡ text_at (2 ^ 32) (chars front) → ((s : ControlState) → Amounts (SplitBy Numbers) old.sink s [] []) → CrossesAt built_in old.heard.says front at
+crossed-at alike start law views inside old new b c front at is utf8 input empty =
     subst (CrossesAt built_in old.heard.says front) (sym is)
-    (λ s may singly. first-crossed start law views old b front input keeps s may (alike old.heard.says built_in s (chars front) may.valid may.fits singly) inside utf8 new c)
+    (λ s may singly. first-crossed start law views old b front input s (empty s) may (alike old.heard.says built_in s (chars front) may.valid may.fits singly) inside utf8 new c)
 
 -- Where the chunk doesn't begin at rest, nothing can be covered.
 pub nothing-reaches : {P : Type 0} (says : P → Question → Answer) (predictor : P) (guess below : Guessing P) (v : Split) (a : Answer) → guess ≡ record { predictor = predictor; kept = [] } → Begins says guess below v a → NotResting a

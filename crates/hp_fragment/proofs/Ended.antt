@@ -2,7 +2,7 @@
 use Rattle.std.proofs.Common.{◌≡◌, ℕ, ◌^◌, ◌≤◌, List, [], ◌∷◌, ◌++◌, map, true, refl, ap, ◌∙◌, sym, subst, append-nil, inr, Option, None, Some}
 use Rattle.std.specs.Prelude.{All, IsSome}
 use Rattle.std.proofs.lemmas.Bool.{true≢false}
-use Rattle.std.proofs.lemmas.List.Elements.{All-append, All-cons, All-nil}
+use Rattle.std.proofs.lemmas.List.Elements.{All-cons, All-nil}
 use Rattle.std.specs.Option.{is_some, unwrap_or}
 use Rattle.std.specs.Str.{chars}
 use Rattle.hp_elements.specs.declared.token.Token.{Token}
@@ -30,8 +30,7 @@ use Rattle.hp_control.specs.declared.edit.Ref.{Ref}
 use Rattle.hp_control.specs.declared.edit.Ref.TheVariants.{Fixed, Older, Own}
 use Rattle.hp_control.specs.declared.question.Answer.{Answer}
 use Rattle.hp_control.specs.declared.question.Question.{Question}
-use Rattle.hp_growth.specs.Growing.{Grown, IsGrown}
-use Rattle.hp_growth.specs.Telling.{own_told}
+use Rattle.hp_growth.specs.Growing.{IsGrown}
 use Rattle.hp_groves.specs.Joining.{JoinTexts, Same, Back, Through}
 use Rattle.hp_lexer.specs.declared.lexer.Asked.TheVariants as asked
 use Rattle.hp_lexer.specs.declared.lexer.Lexer.{Lexer}
@@ -57,10 +56,13 @@ use Rattle.hp_runs.specs.Pages.{IsTreeOf}
 use Rattle.hp_runs.specs.Tokens.{AllRead}
 use Rattle.hp_fragment.proofs.Telling.{known-filled}
 use Rattle.hp_fragment.specs.Known.{EndsInput, LeadsPartlySplit, RanFrom, state_of, way_from}
-use Rattle.hp_fragment.specs.Making.{AllMade, Amounts, Applied, HasGrownBy, IsSplit, IsSplitIn, IsSplitting, Kept, SinkKind, SplitFrom, kind_of}
+use Rattle.hp_fragment.specs.Making.{AllMade, Amounts, Applied, HasGrownBy, IsSplit, IsSplitIn, IsSplitting, Kept, MayBeSplit, SinkKind, SplitBy, as_split, kind_of}
 use Rattle.hp_fragment.specs.Reading.{GoesToEnd, Handled, HasRead, HasReadAll, IsHandled, Stage, control_at}
+use Rattle.hp_fragment.specs.declared.sink.Naming.{Naming}
+use Rattle.hp_fragment.specs.declared.sink.Naming.TheVariants.{Ids, Numbers}
 use Rattle.hp_fragment.specs.declared.sink.Sink.{Sink}
 use Rattle.hp_fragment.specs.declared.sink.Sink.TheVariants.{Grows, Keeps, Splits}
+use Rattle.hp_fragment.specs.declared.sink.Splitting.{Splitting}
 
 pub some-is : {X : Type 0} (o : Option X) → IsSome o → is_some o ≡ true
 some-is (Some x) h = refl
@@ -166,53 +168,50 @@ kept-same (Grows tree) s made es am = absurd (by am.is_kind)
     by e = cc
 kept-same (Splits splitting) s made es am = absurd (by am.is_kind)
   where
-    by : SplitFrom splitting.next ≡ Kept → ⊥
+    by : SplitBy splitting.naming ≡ Kept → ⊥
     by e = cc
 
 -- the edits were split
-is-splitting : (x : Sink) (next : ℕ) (made es : List Edit) → Amounts (SplitFrom next) x nothing made es → IsSplitting x
-is-splitting (Splits splitting) next made es am = tt
-is-splitting Keeps next made es am = by am.is_kind
+pub is-splitting : (x : Sink) (naming : Naming) → kind_of x ≡ SplitBy naming → IsSplitting x
+is-splitting (Splits splitting) naming is = tt
+is-splitting Keeps naming is = by is
   where
-    by : Kept ≡ SplitFrom next → ⊥
+    by : Kept ≡ SplitBy naming → ⊥
     by e = cc
-is-splitting (Grows tree) next made es am = by am.is_kind
+is-splitting (Grows tree) naming is = by is
   where
-    by : Applied ≡ SplitFrom next → ⊥
+    by : Applied ≡ SplitBy naming → ⊥
     by e = cc
 
-split-so : (x : Sink) (next : ℕ) (made es : List Edit) (g : Grown) → Amounts (SplitFrom next) x nothing made es → IsSplitIn x g → IsSplit (record { growing = g; next = next }) made es
-split-so (Splits splitting) next made es g am is =
-    subst (λ (n : ℕ). IsSplit (record { growing = g; next = n }) made es) (by splitting.next am.is_kind) (subst (λ (h : Grown). IsSplit (record { growing = h; next = splitting.next }) made es) (sym is) (am.all_made refl))
+pub split-so : (x : Sink) (naming : Naming) (s : ControlState) (made es : List Edit) (g : Splitting) → Amounts (SplitBy naming) x s made es → IsSplitIn x g → IsSplit g s made es × (g.naming ≡ naming)
+split-so (Splits splitting) naming s made es g am is = subst (λ (h : Splitting). IsSplit h s made es × (h.naming ≡ naming)) (sym is) (am.all_made, by am.is_kind)
   where
-    by : (at : ℕ) → SplitFrom at ≡ SplitFrom next → at ≡ next
-    by at e = cc
-split-so Keeps next made es g am is = absurd is
-split-so (Grows tree) next made es g am is = absurd is
+    by : SplitBy splitting.naming ≡ SplitBy naming → splitting.naming ≡ naming
+    by e = cc
+split-so Keeps naming s made es g am is = absurd is
+split-so (Grows tree) naming s made es g am is = absurd is
 
 -- the run over a chunk
-pub run-splits : (text : List ℕ) (entry : ControlState) (next : ℕ) (p : Stage) → RanFrom entry text (SplitFrom next) p → IsSplitting p.sink
-run-splits text entry next p r = is-splitting p.sink next p.split.edits r.edits r.amounts
+pub run-splits : (text : List ℕ) (entry : ControlState) (naming : Naming) (p : Stage) → RanFrom entry text (SplitBy naming) p → IsSplitting p.sink
+run-splits text entry naming p r = is-splitting p.sink naming r.amounts.is_kind
 
-pub replayed : (text : List ℕ) (entry exit : ControlState) (next : ℕ) (growing : Grown) (rest : List Edit) (p : Stage) → next ≡ entry.next → RanFrom entry text (SplitFrom next) p → exit ≡ state_of p → IsSplitIn p.sink growing
-    → rest ≡ map (named_edit nothing) p.split.edits → LeadsPartlySplit text entry growing rest exit
-replayed text entry exit next growing rest p same r is_exit is_growing is_rest = record {
-  first = is.first;
-  grown = subst (λ (n : ℕ). IsGrown (map (own_told n) is.first) growing) same is.grown;
+pub replayed : (text : List ℕ) (entry exit : ControlState) (naming : Naming) (splitting : Splitting) (rest : List Edit) (p : Stage) → naming ≡ Ids entry.next → RanFrom entry text (SplitBy naming) p → exit ≡ state_of p → IsSplitIn p.sink splitting
+    → rest ≡ p.split.edits → LeadsPartlySplit text entry splitting rest exit
+replayed text entry exit naming splitting rest p same r is_exit is_splitting is_rest = record {
+  naming = is.1 ∙ same;
+  first = is.0.first;
+  grown = is.0.grown;
   leads = record {
-    leads = record {
-      made = r.leads.made;
-      there = r.leads.there;
-      run = r.leads.run;
-      reaches = is_exit ∙ r.leads.reaches;
-      same = subst (λ (es : List Edit). JoinTexts (is.first ++ es) r.leads.made) (sym is_rest) (Through _ _ _ is.same r.leads.same);
-    };
-    fixed = All-append IsFixedEdit is.first rest is.fixed (subst (All IsFixedEdit) (sym is_rest) (told-fixed p.split.edits));
+    made = r.leads.made;
+    there = r.leads.there;
+    run = r.leads.run;
+    reaches = is_exit ∙ r.leads.reaches;
+    same = subst (λ (es : List Edit). JoinTexts (map (named_edit nothing) (is.0.first ++ es)) r.leads.made) (sym is_rest) (Through _ _ _ is.0.same r.leads.same);
   };
 }
   where
-    is : IsSplit (record { growing = growing; next = next }) p.split.edits r.edits
-    is = split-so p.sink next p.split.edits r.edits growing r.amounts is_growing
+    is : IsSplit splitting nothing p.split.edits r.edits × (splitting.naming ≡ naming)
+    is = split-so p.sink naming nothing p.split.edits r.edits splitting r.amounts is_splitting
 
 -- the tokens of the end of input may come where nothing is older
 may-end : (ts : List Token) → AllRead ts → MayAllCome nothing ts
@@ -287,8 +286,19 @@ kept-empty = record { is_kind = refl; all_made = Same [] }
 pub grown-empty : (tree : Seen) → tree.branches ≡ document → Amounts Applied (Grows tree) nothing [] []
 grown-empty tree is = record { is_kind = refl; all_made = λ same. is }
 
-pub split-empty : (growing : Grown) (next : ℕ) → IsGrown [] growing → Amounts (SplitFrom next) (Splits (record { growing = growing; next = next })) nothing [] []
-split-empty growing next is = record { is_kind = refl; all_made = λ same. record { first = []; fixed = All-nil IsFixedEdit; grown = is; same = Same [] } }
+none-split : (naming : Naming) → MayBeSplit naming [] × (as_split naming [] ≡ [])
+none-split Numbers = (refl, refl)
+none-split (Ids next) = (tt, refl)
+
+pub split-empty : (splitting : Splitting) (naming : Naming) (s : ControlState) → IsGrown [] splitting.growing → splitting.naming ≡ naming → Amounts (SplitBy naming) (Splits splitting) s [] []
+split-empty splitting naming s is same = record {
+  is_kind = ap SplitBy same;
+  all_made = record {
+    first = [];
+    grown = record { may = (none-split splitting.naming).0; grown = subst (λ (es : List Edit). IsGrown es splitting.growing) (sym (none-split splitting.naming).1) is };
+    same = Same [];
+  };
+}
 
 -- a page was read
 pub page-read : (entry : ControlState) (bytes text : List ℕ) (p : Stage) → entry ≡ start → bytes ≡ text → RanFrom entry (chars bytes) Applied p → RanFrom start (chars text) Applied p

@@ -22,6 +22,7 @@ use Rattle.hp_control.specs.Holds.{Holds}
 use Rattle.hp_control.specs.Laws.{KeptOnceWhereTrue}
 use Rattle.hp_control.specs.Plan.{Heard, added, added_each, is_asked, kept_pairs, noting}
 use Rattle.hp_control.specs.States.{ControlState, Fits, IsValid, is_rooted, lex_start}
+use Rattle.hp_control.specs.Tree.{Tree}
 use Rattle.hp_control.specs.declared.change.Change.{Change}
 use Rattle.hp_control.specs.declared.edit.Edit.{Edit}
 use Rattle.hp_control.specs.declared.question.Answer.{Answer}
@@ -31,14 +32,12 @@ use Rattle.hp_control.specs.declared.question.Kept.{Kept}
 use Rattle.hp_control.specs.declared.question.Question.{Question}
 use Rattle.hp_control.specs.declared.question.Question.TheVariants as ask
 use Rattle.hp_lexer.specs.declared.lexer.Asked.TheVariants as asked
-use Rattle.hp_groves.specs.Naming.{own_grove, own_outer}
 use Rattle.hp_growing.specs.Laws.{FirstIsBelow}
-use Rattle.hp_growth.specs.Marking.{name_first}
+use Rattle.hp_groves.specs.Joining.{JoinTexts}
 use Rattle.hp_lexer.specs.declared.lexer.Lexer.{Lexer}
 use Rattle.hp_lexer.specs.Places.{text_at}
 use Rattle.hp_lexer.specs.Standing.{is_answered, stands}
 use Rattle.hp_lexer.specs.Table.{table}
-use Rattle.hp_model.proofs.JoinedTexts.{join-equal}
 use Rattle.hp_model.specs.Runs.{Parser, followed_by, goes, rests, step_by}
 use Rattle.hp_older.specs.Laws.{IsBegun, ViewsBegin}
 use Rattle.hp_older.specs.Over.{IsOver, before_html, of_chunk, of_known}
@@ -50,13 +49,15 @@ use Rattle.hp_runs.specs.Coming.{HasCome, TextBegins}
 use Rattle.hp_runs.specs.Filled.{filled}
 use Rattle.hp_views.specs.Begins.{Begins, begins, ended}
 use Rattle.hp_fragment.proofs.Asking.{noted-then}
-use Rattle.hp_fragment.proofs.Ended.{kept-same, some-is}
+use Rattle.hp_fragment.proofs.Ended.{some-is, split-so}
 use Rattle.hp_pieces.specs.Reaching.{IsSaid}
 use Rattle.hp_fragment.specs.Guessing.{HasBegun, IsGuessOf, made_by}
-use Rattle.hp_fragment.specs.Making.{AllMade, Kept as KeptEdits, kind_of}
+use Rattle.hp_fragment.specs.Making.{AllComeTo, Amounts, ComeTo, IsSplit, IsSplitIn, SplitBy}
 use Rattle.hp_fragment.specs.Reading.{GoesToEnd, HasRead, HasReadAll, IsReady, Stage, Way, control_at}
 use Rattle.hp_fragment.specs.declared.sink.Sink.{Sink}
-use Rattle.hp_fragment.specs.declared.sink.Sink.TheVariants.{Keeps}
+use Rattle.hp_fragment.specs.declared.sink.Naming.{Naming}
+use Rattle.hp_fragment.specs.declared.sink.Naming.TheVariants.{Numbers}
+use Rattle.hp_fragment.specs.declared.sink.Splitting.{Splitting}
 
 -- the run over a text behind s, which isn't known
 abbrev pub way_over : ControlState → List ℕ → Way
@@ -66,7 +67,7 @@ way_over s text = record {
   told = false;
   base = 0;
   from = followed_by (parser_in s) text;
-  kind = KeptEdits;
+  kind = SplitBy Numbers;
 }
 
 -- a lexer that isn't told the name of s is that of s, once it is told
@@ -142,10 +143,10 @@ module _ (law : TextBegins) (s : ControlState) (text : List ℕ) (valid : IsVali
 
   -- nothing was read yet
   pub begins-over : (rest : Rest) (after_cr : Bool) (m : Mode) (original : Option Mode) (skip_lf : Bool) (p : Stage) → IsBegun s (begins (answer.Resting rest after_cr m original skip_lf))
-      → p.lexer ≡ record { lex = rest_state rest after_cr; names = built_in; asked = asked.Nothing; rested = 2 ^ 32 } → p.input ≡ text_at (2 ^ 32) text → p.split ≡ begins (answer.Resting rest after_cr m original skip_lf) → p.sink ≡ Keeps
+      → p.lexer ≡ record { lex = rest_state rest after_cr; names = built_in; asked = asked.Nothing; rested = 2 ^ 32 } → p.input ≡ text_at (2 ^ 32) text → p.split ≡ begins (answer.Resting rest after_cr m original skip_lf) → Amounts (SplitBy Numbers) p.sink s [] []
       → HasRead (way_over s text) p
   unfolding name
-  begins-over rest after_cr m original skip_lf p begun lexer input split sink = record {
+  begins-over rest after_cr m original skip_lf p begun lexer input split empty = record {
     named = refl;
     unpaged = λ guess. ap (λ (v : Split). v.page) split;
     over = subst (IsOver s) (sym split) begun.over;
@@ -157,10 +158,7 @@ module _ (law : TextBegins) (s : ControlState) (text : List ℕ) (valid : IsVali
         (subst (λ (ahead : List ℕ). HasCome built_in name 0 s (followed_by (record { lexing = standing s.lex.machine 0 0 ahead; control = record s { lex = lex_start } }) text) (stands new (text_at (2 ^ 32) text)) (record s { lex = lex_start }) [])
         (ap (λ (l : LexState). l.ahead) same)
         (law built_in name s (record s { lex = lex_start }) new s.lex.machine text refl refl (lit≤ tt) (sym (ap (λ (l : LexState). l.machine) same) ∙ machine-filled own s refl some)))));
-    amounts = record {
-      is_kind = ap kind_of sink;
-      all_made = subst (λ (x : Sink). AllMade x s p.split.edits []) (sym sink) (join-equal (map (named_edit s) p.split.edits) [] (ap (λ (v : Split). map (named_edit s) v.edits) split));
-    };
+    amounts = subst (λ (es : List Edit). Amounts (SplitBy Numbers) p.sink s es []) (sym (ap (λ (v : Split). v.edits) split)) empty;
   }
     where
       own : LexState
@@ -179,14 +177,14 @@ module _ (law : TextBegins) (s : ControlState) (text : List ℕ) (valid : IsVali
       control = ap (λ (v : Split). record (state_over v s) { lex = lex_start }) split ∙ ap (λ (c : ControlState). record c { lex = lex_start }) begun.same
 
   -- the text is read to its end
-  ends-over : (p : Stage) → HasReadAll (way_over s text) p
-      → Leads built_in text s (map (named_edit s) p.split.edits) (applied (ended p.lexer.lex (is_some p.lexer.lex.machine.last_tag) p.split.change) s)
-  ends-over p all = record {
+  ends-over : (p : Stage) (all : HasReadAll (way_over s text) p) (edits : List Edit) → JoinTexts (map (named_edit s) edits) all.edits
+      → Leads built_in text s (map (named_edit s) edits) (applied (ended p.lexer.lex (is_some p.lexer.lex.machine.last_tag) p.split.change) s)
+  ends-over p all edits same = record {
     made = all.edits;
     there = there;
     run = record { goes = own-goes (table built_in) s all.ended.goes; rests = record { no_step = λ q fs e. none q fs (sym (ap (step_by there) all.ended.needs) ∙ e) } };
     reaches = ap (λ (l : LexState). record (applied p.split.change s) { lex = l }) lex ∙ sym (ap (λ (page : Option Page). record (with_page page (applied p.split.change s)) { lex = left }) (all.unpaged refl));
-    same = kept-same p.sink s p.split.edits all.edits all.amounts;
+    same = same;
   }
     where
       there : Parser
@@ -304,14 +302,15 @@ module _ (old new : Stage) (b : HasBegun old.lexer old.heard old.split) (g : Goe
   pub covered-said : (text : List ℕ) (f : Guessed) → f.names ≡ built_in → f.text ≡ text → f.assumptions ≡ kept → IsGuessOf old.heard.says text f
   covered-said text f names whole same = record { names = names; whole = whole; said = pairs-are-said old.heard.says g.asked f (same ∙ pairs) }
 
-  grows-over : TextBegins → ViewsBegin → KeptOnceWhereTrue → FirstIsBelow → (s : ControlState) (text : List ℕ) → IsValid s → Fits s → old.input ≡ text_at (2 ^ 32) text → old.sink ≡ Keeps → Holds kept s → name_first new.split.edits ≡ true
-      → GrowsTo built_in text s (own_grove new.split.edits) (own_outer new.split.edits) (applied (ended new.lexer.lex (is_some new.lexer.lex.machine.last_tag) new.split.change) s)
-  grows-over law views once below s text valid fits input sink holds first = record {
-    edits = new.split.edits;
+  grows-over : TextBegins → ViewsBegin → KeptOnceWhereTrue → FirstIsBelow → (s : ControlState) (text : List ℕ) → IsValid s → Fits s → old.input ≡ text_at (2 ^ 32) text → Amounts (SplitBy Numbers) old.sink s [] [] → Holds kept s
+      → (splitting : Splitting) (grove : Tree) (outer : List Edit) → IsSplitIn new.sink splitting → AllComeTo splitting new.split.edits grove outer
+      → GrowsTo built_in text s grove outer (applied (ended new.lexer.lex (is_some new.lexer.lex.machine.last_tag) new.split.change) s)
+  grows-over law views once below s text valid fits input empty holds splitting grove outer is_splitting comes = record {
+    edits = edits;
     leads = leads;
-    below = below built_in text s (applied (ended new.lexer.lex (is_some new.lexer.lex.machine.last_tag) new.split.change) s) new.split.edits valid fits leads first (rooted-or-none s new.split all.over (all.unpaged refl));
-    inner = refl;
-    others = refl;
+    below = below built_in text s (applied (ended new.lexer.lex (is_some new.lexer.lex.machine.last_tag) new.split.change) s) edits valid fits leads come.may (rooted-or-none s new.split all.over (all.unpaged refl));
+    inner = come.inner;
+    others = come.others;
   }
     where
       true_there : AllTrue s old.heard.says (ask.Entry ∷ g.asked)
@@ -321,19 +320,29 @@ module _ (old new : Stage) (b : HasBegun old.lexer old.heard old.split) (g : Goe
       begun = views s (answer.Resting b.rest b.after_cr b.mode b.original b.skip_lf) valid fits (true_there.0 ∙ b.told) tt
 
       all : HasReadAll (way_over s text) new
-      all = g.reads (way_over s text) true_there.1 (begins-over law s text valid b.rest b.after_cr b.mode b.original b.skip_lf old begun b.lexer input b.split sink)
+      all = g.reads (way_over s text) true_there.1 (begins-over law s text valid b.rest b.after_cr b.mode b.original b.skip_lf old begun b.lexer input b.split empty)
 
-      leads : Leads built_in text s (map (named_edit s) new.split.edits) (applied (ended new.lexer.lex (is_some new.lexer.lex.machine.last_tag) new.split.change) s)
-      leads = ends-over law s text valid new all
+      split : IsSplit splitting s new.split.edits all.edits × (splitting.naming ≡ Numbers)
+      split = split-so new.sink Numbers s new.split.edits all.edits splitting all.amounts is_splitting
+
+      edits : List Edit
+      edits = split.0.first ++ new.split.edits
+
+      come : ComeTo Numbers edits grove outer
+      come = subst (λ (naming : Naming). ComeTo naming edits grove outer) split.1 (comes split.0.first split.0.grown)
+
+      leads : Leads built_in text s (map (named_edit s) edits) (applied (ended new.lexer.lex (is_some new.lexer.lex.machine.last_tag) new.split.change) s)
+      leads = ends-over law s text valid new all edits split.0.same
 
   -- so what is made is sound
-  pub covered-sound : TextBegins → ViewsBegin → KeptOnceWhereTrue → FirstIsBelow → (text front : List ℕ) → IsUtf8 text → IsUtf8 front → front ≡ take (length front) text → old.input ≡ text_at (2 ^ 32) (chars front) → old.sink ≡ Keeps → name_first new.split.edits ≡ true
-      → IsSound (made_by text (length front) kept (ended new.lexer.lex (is_some new.lexer.lex.machine.last_tag) new.split.change) new.split.edits)
-  covered-sound law views once below text front utf8 own is_front input sink first = record {
+  pub covered-sound : TextBegins → ViewsBegin → KeptOnceWhereTrue → FirstIsBelow → (text front : List ℕ) → IsUtf8 text → IsUtf8 front → front ≡ take (length front) text → old.input ≡ text_at (2 ^ 32) (chars front) → ((s : ControlState) → Amounts (SplitBy Numbers) old.sink s [] [])
+      → (splitting : Splitting) (grove : Tree) (outer : List Edit) → IsSplitIn new.sink splitting → AllComeTo splitting new.split.edits grove outer
+      → IsSound (made_by text (length front) kept (ended new.lexer.lex (is_some new.lexer.lex.machine.last_tag) new.split.change) grove outer)
+  covered-sound law views once below text front utf8 own is_front input empty splitting grove outer is_splitting comes = record {
     utf8 = utf8;
     within = front-within text front is_front;
     boundary = IsCharBoundary-from_take text (length front) utf8 (front-within text front is_front) (subst IsUtf8 is_front own);
     sound = λ s valid fits holds some.
-        subst (λ (bytes : List ℕ). GrowsTo built_in (chars bytes) s (own_grove new.split.edits) (own_outer new.split.edits) (applied (ended new.lexer.lex (is_some new.lexer.lex.machine.last_tag) new.split.change) s)) is_front
-        (grows-over law views once below s (chars front) valid fits input sink holds first);
+        subst (λ (bytes : List ℕ). GrowsTo built_in (chars bytes) s grove outer (applied (ended new.lexer.lex (is_some new.lexer.lex.machine.last_tag) new.split.change) s)) is_front
+        (grows-over law views once below s (chars front) valid fits input (empty s) holds splitting grove outer is_splitting comes);
   }

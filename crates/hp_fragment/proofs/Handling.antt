@@ -46,9 +46,8 @@ use Rattle.hp_fragment.proofs.Quiet.{below-quiet}
 use Rattle.hp_fragment.proofs.Refusing.{refused-so}
 use Rattle.hp_fragment.proofs.Seeking.{one-sought, seeks-before, seeks-none, seeks-one, seeks-then, turned-stands}
 use Rattle.hp_fragment.proofs.Turning.{none-turned, turned-once, turned-then}
-use Rattle.hp_fragment.specs.Making.{Amounts, SinkKind}
+use Rattle.hp_fragment.specs.Making.{Amounts, SinkKind, kind_of}
 use Rattle.hp_fragment.specs.Reading.{Handled, IfCrossed, IsHandled, IsTurned, Seeks, Stage, TextHandled, TextTouched, Touched, TouchedBelow, control_at, seeker_of}
-use Rattle.hp_fragment.specs.declared.sink.Sink.TheVariants.{Keeps}
 
 abbrev sight_of : Stage → Sight
 sight_of p = record { heard = p.heard; split = p.split }
@@ -108,7 +107,8 @@ none-handled p = record {
     own = refl;
     amounts = λ kind es am. subst (Amounts kind p.sink s p.split.edits) (sym (append-nil es)) am;
   };
-  sought = λ keeps answered. (keeps, seeks-none p.heard.says (seeker_of p));
+  sought = λ answered. seeks-none p.heard.says (seeker_of p);
+  kind = refl;
 }
 
 both-handled : (s : ControlState) (a b c : Stage) (xs ys : List Token) → IsHandled s a b xs → IsHandled s b c ys → IsHandled s a c (xs ++ ys)
@@ -146,10 +146,9 @@ handled-then a b c xs ys f g = record {
   over = λ s all is may.
       let first = f.over s (true-front s a.heard.says f.asked g.asked all) is (may-front s xs ys may) in
       both-handled s a b c xs ys first (g.over s (true-then s a.heard b.heard f.asked g.asked f.noted all) first.over (may-back s xs ys may));
-  sought = λ keeps answered.
-      let first = f.sought keeps answered in
-      let second = g.sought first.0 (f.turned.asked ∙ answered) in
-      (second.0, seeks-then a.heard.says (seeker_of a) (seeker_of b) xs ys f.asked g.asked (Ok (seeker_of c)) first.1 (said-before a b ys f.asked g.asked (Ok (seeker_of c)) f.noted second.1));
+  sought = λ answered.
+      seeks-then a.heard.says (seeker_of a) (seeker_of b) xs ys f.asked g.asked (Ok (seeker_of c)) (f.sought answered) (said-before a b ys f.asked g.asked (Ok (seeker_of c)) f.noted (g.sought (f.turned.asked ∙ answered)));
+  kind = g.kind ∙ f.kind;
 }
 
 -- a token behind others touches something older
@@ -173,11 +172,10 @@ touched-then a b c xs ys t f g = record {
       let first = f.over s (true-front s a.heard.says f.asked g.asked all) is (may-front s xs (t ∷ ys) may) in
       let one = g.over s (true-then s a.heard b.heard f.asked g.asked f.noted all) first.over ((may-back s xs (t ∷ ys) may).0, tt) in
       touched-append s (control_at s a) xs (t ∷ ys) (touched-front s (left_after handle_at_once (control_at s a) xs) t ys (subst (λ (d : ControlState). untouched_at_once s d (t ∷ []) ≡ false) first.control one));
-  sought = λ keeps answered.
-      let first = f.sought keeps answered in
-      let second = g.sought first.0 (f.turned.asked ∙ answered) in
+  sought = λ answered.
+      let second = g.sought (f.turned.asked ∙ answered) in
       let whole = seeks-before b.heard.says (seeker_of b) (t ∷ []) ys g.asked second.0 second.1 in
-      (second.0, seeks-then a.heard.says (seeker_of a) (seeker_of b) xs (t ∷ ys) f.asked g.asked (Err second.0) first.1 (said-before a b (t ∷ ys) f.asked g.asked (Err second.0) f.noted whole));
+      (second.0, seeks-then a.heard.says (seeker_of a) (seeker_of b) xs (t ∷ ys) f.asked g.asked (Err second.0) (f.sought answered) (said-before a b (t ∷ ys) f.asked g.asked (Err second.0) f.noted whole));
 }
 
 -- what is left of the tokens is still to be handled
@@ -233,8 +231,8 @@ module _ (law : TokensHandled) (apart : AtOnceApart) (stay : StayUnedited) where
   -- and the lexer is switched where it calls for that
   pub one-handled : SwitchesFall → (old new : Stage) (w : Split) (edits : List Edit) (t : Token) (handled : Told) → Runs old.heard new.heard (handle_plan t old.split) (Ok (record { split = w; handled = handled }))
       → new.split ≡ record w { edits = edits } → ((kind : SinkKind) (c : ControlState) (es : List Edit) → Amounts kind old.sink c w.edits es → Amounts kind new.sink c edits es)
-      → (old.sink ≡ Keeps → (new.sink ≡ Keeps) × (edits ≡ w.edits)) → new.lexer ≡ turned handled.switch old.lexer → new.input ≡ old.input → Handled old new (t ∷ [])
-  one-handled falls old new w edits t handled runs split take keep lexer input = record {
+      → kind_of new.sink ≡ kind_of old.sink → new.lexer ≡ turned handled.switch old.lexer → new.input ≡ old.input → Handled old new (t ∷ [])
+  one-handled falls old new w edits t handled runs split take kind lexer input = record {
     input = input;
     turned = subst (IsTurned old.lexer) (sym lexer) (turned-once falls old.lexer handled.switch);
     asked = asked_by old.heard.says (handle_plan t old.split);
@@ -243,11 +241,10 @@ module _ (law : TokensHandled) (apart : AtOnceApart) (stay : StayUnedited) where
         let d : IsDoneOver s old.split w handled (handle_at_once (state_over old.split s) t) = law t s old.split old.heard new.heard (Ok (record { split = w; handled = handled })) runs all is may.0 in
         over-one s old new w edits t handled split take
         (lexer ∙ ap (λ (to : Option Rest). turned to old.lexer) (d.switch ∙ sym (ap (λ (h : Meant). h.switch) (apart lex_start (state_over old.split s) t)))) d;
-    sought = λ keeps answered. (
-      (keep keeps).0,
-      one-sought old new w edits t handled runs.ends split (keep keeps).1
-          (ap (λ (l : Lexer). stands l new.input) lexer ∙ (ap (stands (turned handled.switch old.lexer)) input ∙ turned-stands handled.switch old.lexer old.input answered)),
-    );
+    sought = λ answered.
+        one-sought old new w edits t handled runs.ends split
+        (ap (λ (l : Lexer). stands l new.input) lexer ∙ (ap (stands (turned handled.switch old.lexer)) input ∙ turned-stands handled.switch old.lexer old.input answered));
+    kind = kind;
   }
 
   -- or it crosses
@@ -259,7 +256,7 @@ module _ (law : TokensHandled) (apart : AtOnceApart) (stay : StayUnedited) where
     over = λ s all is may.
         let touched = law t s old.split old.heard new.heard (Err crossing) runs all is may.0 in
         ap (λ b. not b && true) (ap (λ (h : Meant). touches_any s h.outcome) (apart lex_start (state_over old.split s) t) ∙ any-touches s crossing (handle_at_once (state_over old.split s) t).outcome touched);
-    sought = λ keeps answered. (crossing, seeks-one old.heard.says (seeker_of old) t (Err crossing) runs.ends);
+    sought = λ answered. (crossing, seeks-one old.heard.says (seeker_of old) t (Err crossing) runs.ends);
   }
 
   pub one-refused : {X : Type 0} (old new : Stage) (t : Token) (result : Result X Refusal) (refused : Refusal) → IsErrAnd result (λ e. e ≡ refused) → Handles (Err refused) (sight_of old) (sight_of new) (handle_plan t) → new.lexer ≡ old.lexer
@@ -273,8 +270,8 @@ module _ (law : TokensHandled) (apart : AtOnceApart) (stay : StayUnedited) where
   -- a run of characters, which calls for no switch
   pub run-handled : (old new : Stage) (w : Split) (edits : List Edit) (class : CharClass) (text : List ℕ) (handled : Told) → Runs old.heard new.heard (handle_plan (Characters class text) old.split) (Ok (record { split = w; handled = handled }))
       → new.split ≡ record w { edits = edits } → ((kind : SinkKind) (c : ControlState) (es : List Edit) → Amounts kind old.sink c w.edits es → Amounts kind new.sink c edits es)
-      → (old.sink ≡ Keeps → (new.sink ≡ Keeps) × (edits ≡ w.edits)) → handled.switch ≡ None → new.lexer ≡ old.lexer → new.input ≡ old.input → Handled old new (Characters class text ∷ [])
-  run-handled old new w edits class text handled runs split take keep quiet lexer input = record {
+      → kind_of new.sink ≡ kind_of old.sink → handled.switch ≡ None → new.lexer ≡ old.lexer → new.input ≡ old.input → Handled old new (Characters class text ∷ [])
+  run-handled old new w edits class text handled runs split take kind quiet lexer input = record {
     input = input;
     turned = subst (IsTurned old.lexer) (sym lexer) (none-turned old.lexer);
     asked = asked_by old.heard.says (handle_plan (Characters class text) old.split);
@@ -282,20 +279,19 @@ module _ (law : TokensHandled) (apart : AtOnceApart) (stay : StayUnedited) where
     over = λ s all is may.
         over-one s old new w edits (Characters class text) handled split take (lexer ∙ ap (λ (to : Option Rest). turned to old.lexer) (sym (at_once-quiet class text (control_at s old))))
         (law (Characters class text) s old.split old.heard new.heard (Ok (record { split = w; handled = handled })) runs all is may.0);
-    sought = λ keeps answered. (
-      (keep keeps).0,
-      one-sought old new w edits (Characters class text) handled runs.ends split (keep keeps).1
-          (ap (λ (l : Lexer). stands l new.input) lexer ∙ (ap (stands old.lexer) input ∙ ap (λ (to : Option Rest). switched to (stands old.lexer old.input)) (sym quiet))),
-    );
+    sought = λ answered.
+        one-sought old new w edits (Characters class text) handled runs.ends split
+        (ap (λ (l : Lexer). stands l new.input) lexer ∙ (ap (stands old.lexer) input ∙ ap (λ (to : Option Rest). switched to (stands old.lexer old.input)) (sym quiet)));
+    kind = kind;
   }
 
   -- a text behind the question whether the older current node is HTML
   pub below-handled : TextsTakenBelow → (first : Heard) (old new : Stage) (w : Split) (edits : List Edit) (text : List ℕ) (handled : Told) → may_take_text old.split ≡ true → Runs first old.heard (current_is_plan kinds.AnyHtml old.split) (Ok true)
       → Runs first new.heard (handle_plan (as_run text) old.split) (Ok (record { split = w; handled = handled })) → new.split ≡ record w { edits = edits }
-      → ((kind : SinkKind) (c : ControlState) (es : List Edit) → Amounts kind old.sink c w.edits es → Amounts kind new.sink c edits es) → (old.sink ≡ Keeps → (new.sink ≡ Keeps) × (edits ≡ w.edits)) → new.lexer ≡ old.lexer → new.input ≡ old.input → TextHandled (record old { heard = first }) new text
+      → ((kind : SinkKind) (c : ControlState) (es : List Edit) → Amounts kind old.sink c w.edits es → Amounts kind new.sink c edits es) → kind_of new.sink ≡ kind_of old.sink → new.lexer ≡ old.lexer → new.input ≡ old.input → TextHandled (record old { heard = first }) new text
   unfolding run-handled
-  below-handled below first old new w edits text handled may found runs split take keep lexer input = record {
-    handled = run-handled (record old { heard = first }) new w edits (white_or_other (list_all is_white text)) text handled runs split take keep (below-quiet first.says text old.split w handled runs.ends may found.ends) lexer input;
+  below-handled below first old new w edits text handled may found runs split take kind lexer input = record {
+    handled = run-handled (record old { heard = first }) new w edits (white_or_other (list_all is_white text)) text handled runs split take kind (below-quiet first.says text old.split w handled runs.ends may found.ends) lexer input;
     takes = λ s all is. below text s old.split first old.heard may found all is;
   }
 

@@ -1,6 +1,7 @@
 pub mod Asking
 pub mod Amounting
 pub mod Refusing
+pub mod Unedited
 pub mod Seeking
 pub mod Quiet
 pub mod Leading

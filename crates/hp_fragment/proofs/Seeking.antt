@@ -25,7 +25,9 @@ use Rattle.hp_model.specs.AtOnce.{handle_at_once}
 use Rattle.hp_model.specs.Runs.{switched}
 use Rattle.hp_runs.proofs.Lexers.{stands-after}
 use Rattle.hp_runs.specs.Handling.{Handler, turned}
-use Rattle.hp_fragment.specs.Reading.{Seeks, Stage, seeker_of}
+use Rattle.hp_asked.proofs.TextRuns.{IsSame}
+use Rattle.hp_fragment.proofs.Unedited.{asked-same, end-same, ended-crossed, ended-in}
+use Rattle.hp_fragment.specs.Reading.{Seeks, Stage, seeker_of, unedited}
 
 -- plans of three parts, by their ends
 ends-of-three : {X Y Z : Type 0} (e : Result X Crossing) (f : X → Result Z Crossing) (g : X → Result Y Crossing) (h : Y → Result Z Crossing) → ((x : X) → f x ≡ on_end (g x) h) → on_end e f ≡ on_end (on_end e g) h
@@ -70,19 +72,27 @@ module _ (says : Question → Answer) where
   seeks-then k m xs ys qs rs end f g = record {
     asks =
         ap (λ (ps : List Question). ps ++ rs) f.asks
-        ∙ (ap (λ (ps : List Question). asked_by says (seek xs k) ++ ps) g.asks
-        ∙ sym (seek-asked xs ys k ∙ ap (λ (e : Result Seeker Crossing). asked_by says (seek xs k) ++ on_asked e (λ n. asked_by says (seek ys n))) f.ends));
-    ends = seek-end xs ys k ∙ (ap (λ (e : Result Seeker Crossing). on_end e (λ n. end_by says (seek ys n))) f.ends ∙ g.ends);
+        ∙ (ap (λ (ps : List Question). asked_by says (seek xs k) ++ ps) (g.asks ∙ sym (asked-same says ys there.0 m there.2))
+        ∙ sym (seek-asked xs ys k ∙ ap (λ (e : Result Seeker Crossing). asked_by says (seek xs k) ++ on_asked e (λ n. asked_by says (seek ys n))) there.1));
+    ends =
+        ap unedited (seek-end xs ys k ∙ ap (λ (e : Result Seeker Crossing). on_end e (λ n. end_by says (seek ys n))) there.1)
+        ∙ (end-same says ys there.0 m there.2 ∙ g.ends);
   }
+    where
+      there : (n : Seeker) × (end_by says (seek xs k) ≡ Ok n) × IsSame n m
+      there = ended-in (end_by says (seek xs k)) m f.ends
 
   -- a crossing ends it, whatever is behind
   pub seeks-before : (k : Seeker) (xs ys : List Token) (qs : List Question) (crossing : Crossing) → Seeks says k xs qs (Err crossing) → Seeks says k (xs ++ ys) qs (Err crossing)
   seeks-before k xs ys qs crossing f = record {
     asks =
         f.asks
-        ∙ sym (seek-asked xs ys k ∙ (ap (λ (e : Result Seeker Crossing). asked_by says (seek xs k) ++ on_asked e (λ n. asked_by says (seek ys n))) f.ends ∙ append-nil (asked_by says (seek xs k))));
-    ends = seek-end xs ys k ∙ ap (λ (e : Result Seeker Crossing). on_end e (λ n. end_by says (seek ys n))) f.ends;
+        ∙ sym (seek-asked xs ys k ∙ (ap (λ (e : Result Seeker Crossing). asked_by says (seek xs k) ++ on_asked e (λ n. asked_by says (seek ys n))) there ∙ append-nil (asked_by says (seek xs k))));
+    ends = ap unedited (seek-end xs ys k ∙ ap (λ (e : Result Seeker Crossing). on_end e (λ n. end_by says (seek ys n))) there);
   }
+    where
+      there : end_by says (seek xs k) ≡ Err crossing
+      there = ended-crossed (end_by says (seek xs k)) crossing f.ends
 
   pub seeks-none : (k : Seeker) → Seeks says k [] [] (Ok k)
   seeks-none k = record { asks = refl; ends = refl }
@@ -94,7 +104,7 @@ module _ (says : Question → Answer) where
       let next : Reached → Plan Seeker = λ r. gives (led_to r k) in
       record {
         asks = sym (asked_then says plan next ∙ (ap (λ (qs : List Question). asked_by says plan ++ qs) (none-asked (end_by says plan)) ∙ append-nil (asked_by says plan)));
-        ends = end_then says plan next ∙ ap (λ (e : Result Reached Crossing). on_end e (λ r. Ok (led_to r k))) ends;
+        ends = ap unedited (end_then says plan next ∙ ap (λ (e : Result Reached Crossing). on_end e (λ r. Ok (led_to r k))) ends);
       }
 
 -- the lexer in code stands where the run's is switched to
@@ -104,13 +114,13 @@ turned-stands to l u none = stands-after does nothing (EndOfInput ∷ []) l u no
     does : Handler
     does c t = record (handle_at_once c t) { switch = to }
 
--- one token was handled, where the edits stay in the view
-pub one-sought : (old new : Stage) (w : Split) (edits : List Edit) (t : Token) (handled : Told) → end_by old.heard.says (handle_plan t old.split) ≡ Ok (record { split = w; handled = handled }) → new.split ≡ record w { edits = edits } → edits ≡ w.edits
+-- one token was handled, and of the view's edits some may have gone on
+pub one-sought : (old new : Stage) (w : Split) (edits : List Edit) (t : Token) (handled : Told) → end_by old.heard.says (handle_plan t old.split) ≡ Ok (record { split = w; handled = handled }) → new.split ≡ record w { edits = edits }
     → stands new.lexer new.input ≡ switched handled.switch (stands old.lexer old.input) → Seeks old.heard.says (seeker_of old) (t ∷ []) (asked_by old.heard.says (handle_plan t old.split)) (Ok (seeker_of new))
-one-sought old new w edits t handled ends split same there =
+one-sought old new w edits t handled ends split there =
     subst (λ (m : Seeker). Seeks old.heard.says (seeker_of old) (t ∷ []) (asked_by old.heard.says (handle_plan t old.split)) (Ok m))
-    (ap (λ (l : Lexing). record { lexing = l; split = w }) (sym there) ∙ ap (λ (v : Split). record { lexing = stands new.lexer new.input; split = v }) (sym whole))
-    (seeks-one old.heard.says (seeker_of old) t (Ok (record { split = w; handled = handled })) ends)
+    (ap (λ (l : Lexing). record { lexing = l; split = record w { edits = edits } }) (sym there) ∙ ap (λ (v : Split). record { lexing = stands new.lexer new.input; split = v }) (sym split))
+    (record { asks = one.asks; ends = one.ends })
   where
-    whole : new.split ≡ w
-    whole = split ∙ ap (λ (es : List Edit). record w { edits = es }) same
+    one : Seeks old.heard.says (seeker_of old) (t ∷ []) (asked_by old.heard.says (handle_plan t old.split)) (Ok (record { lexing = switched handled.switch (stands old.lexer old.input); split = w }))
+    one = seeks-one old.heard.says (seeker_of old) t (Ok (record { split = w; handled = handled })) ends

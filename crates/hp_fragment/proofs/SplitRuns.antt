@@ -2,32 +2,35 @@
 use Rattle.std.proofs.Common.{◌≡◌, ℕ, List, ◌++◌, map, sym, subst}
 use Rattle.std.specs.Str.{chars, IsUtf8}
 use Rattle.hp_names.specs.BuiltIn.{built_in}
+use Rattle.hp_control.specs.Apply.{named_edit}
+use Rattle.hp_control.specs.Nothing.{nothing}
 use Rattle.hp_control.specs.States.{IsValid}
 use Rattle.hp_control.specs.Tree.{Tree}
 use Rattle.hp_control.specs.declared.edit.Edit.{Edit}
-use Rattle.hp_groves.specs.Naming.{own_grove, own_outer}
+use Rattle.hp_groves.specs.Naming.{own_grove}
 use Rattle.hp_growing.specs.Laws.{RunGrows}
-use Rattle.hp_growth.specs.Growing.{Grown, IsGrown}
-use Rattle.hp_growth.specs.Telling.{own_told}
 use Rattle.hp_pieces.specs.Fragments.{IsRun, Known}
 use Rattle.hp_pieces.specs.Growth.{Grows}
+use Rattle.hp_fragment.proofs.Ended.{told-fixed}
 use Rattle.hp_fragment.specs.Known.{LeadsPartlySplit}
+use Rattle.hp_fragment.specs.Making.{AllComeTo, ComeTo, as_split}
+use Rattle.hp_fragment.specs.declared.sink.Naming.{Naming}
+use Rattle.hp_fragment.specs.declared.sink.Naming.TheVariants.{Ids}
+use Rattle.hp_fragment.specs.declared.sink.Splitting.{Splitting}
 
-pub split-run : RunGrows → (known : Known) (text : List ℕ) (growing : Grown) (rest : List Edit) (next : ℕ) → known.text ≡ text → IsUtf8 known.text → IsValid known.entry → next ≡ known.entry.next
-    → ((first : List Edit) → IsGrown (map (own_told next) first) growing → known.grove ≡ own_grove (map (own_told next) (first ++ rest)))
-    → ((first : List Edit) → IsGrown (map (own_told next) first) growing → known.outer ≡ own_outer (map (own_told next) (first ++ rest)))
-    → LeadsPartlySplit (chars text) known.entry growing rest known.exit → IsRun known
-split-run law known text growing rest next same utf8 valid is_next grove outer l = record {
+pub split-run : RunGrows → (known : Known) (text : List ℕ) (splitting : Splitting) (rest : List Edit) → known.text ≡ text → IsUtf8 known.text → IsValid known.entry → AllComeTo splitting rest known.grove known.outer
+    → LeadsPartlySplit (chars text) known.entry splitting rest known.exit → IsRun known
+split-run law known text splitting rest same utf8 valid comes l = record {
   utf8 = utf8;
   grows =
       subst (λ (bytes : List ℕ). Grows built_in (chars bytes) known.entry known.grove known.outer known.exit) (sym same)
-      (subst (λ (made : Tree). Grows built_in (chars text) known.entry made known.outer known.exit) (sym (inner known.entry.next is_next l.grown))
-      (subst (λ (edits : List Edit). Grows built_in (chars text) known.entry (own_grove (map (own_told known.entry.next) (l.first ++ rest))) edits known.exit) (sym (others known.entry.next is_next l.grown))
-      (law built_in (chars text) known.entry known.exit (l.first ++ rest) valid l.leads.fixed l.leads.leads)));
+      (subst (λ (made : Tree). Grows built_in (chars text) known.entry made known.outer known.exit) (sym come.inner)
+      (subst (λ (edits : List Edit). Grows built_in (chars text) known.entry (own_grove (as_split (Ids known.entry.next) all)) edits known.exit) (sym come.others)
+      (law built_in (chars text) known.entry known.exit (map (named_edit nothing) all) valid (told-fixed all) l.leads)));
 }
   where
-    inner : (n : ℕ) → next ≡ n → IsGrown (map (own_told n) l.first) growing → known.grove ≡ own_grove (map (own_told n) (l.first ++ rest))
-    inner n is = subst (λ (m : ℕ). IsGrown (map (own_told m) l.first) growing → known.grove ≡ own_grove (map (own_told m) (l.first ++ rest))) is (grove l.first)
+    all : List Edit
+    all = l.first ++ rest
 
-    others : (n : ℕ) → next ≡ n → IsGrown (map (own_told n) l.first) growing → known.outer ≡ own_outer (map (own_told n) (l.first ++ rest))
-    others n is = subst (λ (m : ℕ). IsGrown (map (own_told m) l.first) growing → known.outer ≡ own_outer (map (own_told m) (l.first ++ rest))) is (outer l.first)
+    come : ComeTo (Ids known.entry.next) all known.grove known.outer
+    come = subst (λ (naming : Naming). ComeTo naming all known.grove known.outer) l.naming (comes l.first l.grown)

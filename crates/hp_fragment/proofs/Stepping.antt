@@ -47,7 +47,7 @@ use Rattle.hp_fragment.proofs.Asking.{noted-none}
 use Rattle.hp_fragment.proofs.Further.{none-further}
 use Rattle.hp_fragment.proofs.Leading.{blanks-led, handled-rightly, html-right, html-rightly, lexed, name-rightly, section-rightly, silence-rightly, tag-led, text-led, tokens-led}
 use Rattle.hp_fragment.proofs.Telling.{after-named, asked-named, leads-named, same-named, section-named, told-named}
-use Rattle.hp_fragment.specs.Making.{Amounts}
+use Rattle.hp_fragment.specs.Making.{Amounts, kind_of}
 use Rattle.hp_fragment.specs.Reading.{AreRight, GoesFurther, GoesToEnd, Handled, HandledBelow, HasRead, IsAtText, IsHandled, IsNamed, IsReady, Stage, TextHandled, Way, control_at}
 
 pub may-all : (s : ControlState) (ts : List Token) → AllRead ts → AllInside ts → MayAllCome s ts
@@ -89,6 +89,7 @@ tokens-further valid law reading right lead old new l u began tokens ready stepp
       reads-on w old new l u tokens done handled.input (leads-named w.told w.name w.older old.lexer.names old.lexer l old.input u stepped.0.es stepped.0.leads r.named) r
       (law built_in w.name w.base w.older w.from (control_at w.older old) r.edits old.lexer l old.input u began tokens r.comes ready.names (control-valid valid w.older old r.over) stepped batch done.own);
   rightly = handled-rightly right old new l u tokens (tokens-led lead old l u began tokens ready stepped batch) handled;
+  kind = handled.kind;
 }
 
 -- a tag that was read straight
@@ -102,6 +103,7 @@ tag-further valid law reading right lead old new l u tag ready stepped handled =
       reads-on w old new l u (tag ∷ []) done handled.input (leads-named w.told w.name w.older old.lexer.names old.lexer l old.input u stepped.0.0.es stepped.0.0.leads r.named) r
       (law built_in w.name w.base w.older w.from (control_at w.older old) r.edits old.lexer l old.input u tag r.comes ready.names (control-valid valid w.older old r.over) stepped done.own);
   rightly = handled-rightly right old new l u (tag ∷ []) (tag-led lead old l u tag ready stepped) handled;
+  kind = handled.kind;
 }
 
 -- a run of characters switches the lexer nowhere
@@ -131,6 +133,7 @@ text-further valid law right lead old new l u text ready stepped whole h = recor
       (law built_in w.name w.base w.older w.from c r.edits old.lexer l old.input u text r.comes ready.names (control-valid valid w.older old r.over) stepped on
       (untouched-one w.older c (as_run text) done.own)));
   rightly = handled-rightly right old new l u (as_run text ∷ []) (text-led lead old l u text ready stepped whole) h.handled;
+  kind = h.handled.kind;
 }
 
 -- the view takes it so
@@ -166,6 +169,7 @@ blanks-further valid law right lead old new l u text ready stepped blank handled
       (law built_in w.name w.base w.older w.from c r.edits old.lexer l old.input u text r.comes ready.names (control-valid valid w.older old r.over) stepped blank
       (untouched-one w.older c (Characters White text) done.own)));
   rightly = handled-rightly right old new l u (Characters White text ∷ []) (blanks-led lead old l u text ready stepped blank) handled;
+  kind = handled.kind;
 }
 
 -- moves that emit nothing
@@ -182,6 +186,7 @@ silent-further law right lead old l u ready reached = record {
     amounts = r.amounts;
   };
   rightly = silence-rightly right lead old l u ready reached;
+  kind = refl;
 }
 
 -- nothing was done
@@ -211,6 +216,7 @@ html-further law old h v b at_text may runs split = record {
   noted = runs.noted;
   reads = λ w all r. told-reads w old (record old { heard = h; split = v }) r split refl r.named r.comes;
   rightly = html-rightly law old h v b at_text may runs split;
+  kind = refl;
 }
 
 -- the question after `<![CDATA[`
@@ -225,7 +231,8 @@ section-further law found right lead old new l u foreign ready reached runs spli
       (sym (ap (λ (x : Lexer). stands x new.input) lexer ∙ ap (λ (v : Unread). stands (record l { asked = asked.CdataAnswered foreign }) v) input))
       (law built_in w.name w.base w.older w.from (control_at w.older old) r.edits old.lexer l old.input u foreign r.comes ready.names reached
       (found w.older old.split old.heard new.heard foreign runs all r.over)));
-  rightly = section-rightly right lead old new l u foreign ready reached runs split sink lexer input;
+  rightly = section-rightly right lead old new l u foreign ready reached runs split lexer input;
+  kind = ap kind_of sink;
 }
 
 -- the last start tag's name, which is asked only where it isn't known
@@ -241,7 +248,8 @@ name-further law found right lead old new l u name ready stepped runs split sink
       (subst (λ (k : Lexing). HasCome built_in w.name w.base w.older w.from k (control_at w.older old) r.edits)
       (sym (ap (λ (x : Lexer). stands x new.input) lexer ∙ (ap (λ (n : List ℕ). stands (told n l) new.input) own ∙ ap (λ (v : Unread). stands (told w.name l) v) input)))
       (law built_in w.name w.base w.older w.from (control_at w.older old) r.edits old.lexer l old.input u r.comes ready.names stepped));
-  rightly = name-rightly right lead found old new l u name ready stepped runs split sink lexer input;
+  rightly = name-rightly right lead found old new l u name ready stepped runs split lexer input;
+  kind = ap kind_of sink;
 }
 
 -- the text is used up
@@ -257,7 +265,8 @@ cut-ends law old l u ready stepped = record {
     ended = law built_in w.name w.base w.older w.from (control_at w.older old) r.edits old.lexer l old.input u r.comes ready.names stepped;
     amounts = r.amounts;
   };
-  right = λ s keeps right. tt;
+  right = λ s right. tt;
+  kind = refl;
 }
   where
     cut-named : (w : Way) → HasRead w old → IsNamed w.told w.name w.older l

@@ -12,6 +12,7 @@ use Rattle.hp_control.specs.Faithful.{Split}
 use Rattle.hp_control.specs.Guessing.{Guessing}
 use Rattle.hp_control.specs.Plan.{Heard}
 use Rattle.hp_control.specs.States.{ControlState}
+use Rattle.hp_control.specs.Tree.{Tree}
 use Rattle.hp_control.specs.declared.change.Change.{Change}
 use Rattle.hp_control.specs.declared.edit.Edit.{Edit}
 use Rattle.hp_control.specs.declared.question.Answer.{Answer}
@@ -19,7 +20,6 @@ use Rattle.hp_control.specs.declared.question.Answer.TheVariants as answer
 use Rattle.hp_control.specs.declared.question.Kept.{Kept}
 use Rattle.hp_control.specs.declared.question.Question.{Question}
 use Rattle.hp_control.specs.declared.question.Question.TheVariants as ask
-use Rattle.hp_groves.specs.Naming.{own_grove, own_outer}
 use Rattle.hp_lexer.specs.declared.lexer.Asked.TheVariants as asked
 use Rattle.hp_lexer.specs.declared.lexer.Lexer.{Lexer}
 use Rattle.hp_views.specs.Begins.{begins, ended}
@@ -47,22 +47,22 @@ pub record HasBegun (l : Lexer) (h : Heard) (v : Split) : Type 0 where
   pub split : v ≡ begins (answer.Resting rest after_cr mode original skip_lf)
   pub lexer : l ≡ record { lex = rest_state rest after_cr; names = built_in; asked = asked.Nothing; rested = 2 ^ 32 }
 
--- what was guessed of a text: of these edits what the inner ones make, and the outer ones
-abbrev pub made_by : List ℕ → ℕ → List Kept → Change → List Edit → GuessedOf
-made_by text covered kept change edits = record {
+-- what was guessed of a text
+abbrev pub made_by : List ℕ → ℕ → List Kept → Change → Tree → List Edit → GuessedOf
+made_by text covered kept change grove outer = record {
   names = built_in;
   text = text;
   covered = covered;
   assumptions = kept;
   change = change;
-  grove = own_grove edits;
-  outer = own_outer edits;
+  grove = grove;
+  outer = outer;
   by = None;
 }
 
 -- what a view has changed and was told, once the lexer stands so behind that much of the text
-abbrev pub made_of : {P : Type 0} → List ℕ → ℕ → LexState → View (Guessing P) → GuessedOf
-made_of text covered lex view = made_by text covered view.below.kept (ended lex (is_some lex.machine.last_tag) view.change) view.edits
+abbrev pub made_of : {P : Type 0} → List ℕ → ℕ → LexState → View (Guessing P) → Tree → List Edit → GuessedOf
+made_of text covered lex view = made_by text covered view.below.kept (ended lex (is_some lex.machine.last_tag) view.change)
 
 pub record IsGuessOf (says : Question → Answer) (text : List ℕ) (f : GuessedOf) : Type 0 where
   pub names : f.names ≡ built_in

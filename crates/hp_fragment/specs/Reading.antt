@@ -16,6 +16,7 @@ use Rattle.hp_control.specs.declared.question.Question.{Question}
 use Rattle.hp_control.specs.Agree.{AllTrue}
 use Rattle.hp_control.specs.Faithful.{Split, state_over}
 use Rattle.hp_control.specs.Plan.{Heard, Runs, asked_by, end_by, noting}
+use Rattle.hp_control.specs.Running.{on_end}
 use Rattle.hp_control.specs.States.{ControlState, lex_start}
 use Rattle.hp_control.specs.declared.change.Refusal.{Refusal}
 use Rattle.hp_control.specs.declared.change.Refusal.TheVariants as refusal
@@ -35,10 +36,9 @@ use Rattle.hp_asked.specs.Right.{RightFrom}
 use Rattle.hp_asked.specs.Seeking.{Seeker, seek}
 use Rattle.hp_older.specs.Over.{IsOver}
 use Rattle.hp_older.specs.Tokens.{MayAllCome}
-use Rattle.hp_fragment.specs.Making.{Amounts, SinkKind}
+use Rattle.hp_fragment.specs.Making.{Amounts, SinkKind, kind_of}
 use Rattle.hp_fragment.specs.declared.parsing.Parsing.{Parsing}
 use Rattle.hp_fragment.specs.declared.sink.Sink.{Sink}
-use Rattle.hp_fragment.specs.declared.sink.Sink.TheVariants.{Keeps}
 
 -- a parser, whatever is below it
 pub record Stage : Type 0 where
@@ -96,11 +96,9 @@ seeker_of p = record { lexing = stands p.lexer p.input; split = p.split }
 abbrev pub AreRight : ControlState → Stage → Type 0
 AreRight s p = RightFrom built_in p.heard.says s (seeker_of p)
 
--- Where the edits stay in the view: over a state for which the answers are right from there on, these questions were answered truly, and
--- the answers are right from here on.
-pub record AsksRightly (old new : Stage) (asked : List Question) : Type 0 where
-  pub keeps : old.sink ≡ Keeps → new.sink ≡ Keeps
-  pub right : (s : ControlState) → old.sink ≡ Keeps → AreRight s old → AllTrue s old.heard.says asked × AreRight s new
+-- Over a state for which the answers are right from there on, these questions were answered truly, and the answers are right from here on.
+abbrev pub AsksRightly : Stage → Stage → List Question → Type 0
+AsksRightly old new asked = (s : ControlState) → AreRight s old → AllTrue s old.heard.says asked × AreRight s new
 
 -- These questions were asked, and nothing else; and over each older state of which the answers are true the run goes on.
 pub record GoesFurther (old new : Stage) : Type 0 where
@@ -108,13 +106,15 @@ pub record GoesFurther (old new : Stage) : Type 0 where
   pub noted : new.heard ≡ noting old.heard asked
   pub reads : (w : Way) → AllTrue w.older old.heard.says asked → HasRead w old → HasRead w new
   pub rightly : AsksRightly old new asked
+  pub kind : kind_of new.sink ≡ kind_of old.sink
 
 -- the same, to the end of the text
 pub record GoesToEnd (old new : Stage) : Type 0 where
   pub asked : List Question
   pub noted : new.heard ≡ noting old.heard asked
   pub reads : (w : Way) → AllTrue w.older old.heard.says asked → HasRead w old → HasReadAll w new
-  pub right : (s : ControlState) → old.sink ≡ Keeps → AreRight s old → AllTrue s old.heard.says asked
+  pub right : (s : ControlState) → AreRight s old → AllTrue s old.heard.says asked
+  pub kind : kind_of new.sink ≡ kind_of old.sink
 
 -- These questions were asked, the last of them for a token that touches something older, over each older state of which the answers are
 -- true: it began where the lexer rested last. Places of its text count from 2 ^ 32 on.
@@ -122,7 +122,7 @@ pub record Crosses (old new : Stage) : Type 0 where
   pub asked : List Question
   pub noted : new.heard ≡ noting old.heard asked
   pub touches : (w : Way) → w.base ≡ 0 → AllTrue w.older old.heard.says asked → HasRead w old → TouchesFrom (table built_in) w.older w.from (new.lexer.rested - 2 ^ 32)
-  pub right : (s : ControlState) → old.sink ≡ Keeps → AreRight s old → AllTrue s old.heard.says asked
+  pub right : (s : ControlState) → AreRight s old → AllTrue s old.heard.says asked
 
 -- want of memory says nothing
 abbrev pub IfCrossed : Refusal → Type 0 → Type 0
@@ -195,29 +195,34 @@ pub record IsHandled (s : ControlState) (old new : Stage) (tokens : List Token) 
 abbrev pub AsksNothing : Lexer → Type 0
 AsksNothing l = l.asked ≡ asked.Nothing
 
--- by these answers the run asks this for the tokens, and comes to that end
+-- an end without the view's edits, which may have gone on
+abbrev pub unedited : Result Seeker Crossing → Result Seeker Crossing
+unedited end = on_end end (λ k. Ok (record k { split = record k.split { edits = [] } }))
+
+-- by these answers the run asks this for the tokens, and comes to that end, but for the view's edits
 pub record Seeks (says : Question → Answer) (from : Seeker) (tokens : List Token) (asked : List Question) (end : Result Seeker Crossing) : Type 0 where
   pub asks : asked ≡ asked_by says (seek tokens from)
-  pub ends : end_by says (seek tokens from) ≡ end
+  pub ends : unedited (end_by says (seek tokens from)) ≡ unedited end
 
--- These questions were asked, and over each older state of which the answers are true the tokens were handled. Where the edits stay in
--- the view and the lexer asks nothing, the run asks the same, and comes to where the parser stands.
+-- These questions were asked, and over each older state of which the answers are true the tokens were handled. Where the lexer asks
+-- nothing, the run asks the same, and comes to where the parser stands.
 pub record Handled (old new : Stage) (tokens : List Token) : Type 0 where
   pub input : new.input ≡ old.input
   pub turned : IsTurned old.lexer new.lexer
   pub asked : List Question
   pub noted : new.heard ≡ noting old.heard asked
   pub over : (s : ControlState) → AllTrue s old.heard.says asked → IsOver s old.split → MayAllCome s tokens → IsHandled s old new tokens
-  pub sought : old.sink ≡ Keeps → AsksNothing old.lexer → (new.sink ≡ Keeps) × Seeks old.heard.says (seeker_of old) tokens asked (Ok (seeker_of new))
+  pub sought : AsksNothing old.lexer → Seeks old.heard.says (seeker_of old) tokens asked (Ok (seeker_of new))
+  pub kind : kind_of new.sink ≡ kind_of old.sink
 
 -- These questions were asked for the tokens, and over each older state of which the answers are true one of them touches something older.
--- Where the edits stay in the view and the lexer asks nothing, the run asks the same, and crosses.
+-- Where the lexer asks nothing, the run asks the same, and crosses.
 pub record Touched (old new : Stage) (tokens : List Token) : Type 0 where
   pub asked : List Question
   pub noted : new.heard ≡ noting old.heard asked
   pub rested : new.lexer.rested ≡ old.lexer.rested
   pub over : (s : ControlState) → AllTrue s old.heard.says asked → IsOver s old.split → MayAllCome s tokens → untouched_at_once s (control_at s old) tokens ≡ false
-  pub sought : old.sink ≡ Keeps → AsksNothing old.lexer → (crossing : Crossing) × Seeks old.heard.says (seeker_of old) tokens asked (Err crossing)
+  pub sought : AsksNothing old.lexer → (crossing : Crossing) × Seeks old.heard.says (seeker_of old) tokens asked (Err crossing)
 
 -- A text was handled as one run, and over each older state of which the answers are true it goes into the current node as it comes.
 pub record TextHandled (old new : Stage) (text : List ℕ) : Type 0 where

@@ -2,9 +2,8 @@
 ghost use Rattle.std.specs.Prelude.{◌≡◌};
 
 use crate::parsing::Parsing;
-use crate::sink::Sink;
+use crate::sink::{Sink, Splitting};
 use hp_control::{Assumptions, Change, Control, Edits, Guess, Nothing, Predictor};
-use hp_growth::Growing;
 use hp_lexer::Lexer;
 use hp_predict::Prescan;
 use hp_tokens::LexState;
@@ -28,6 +27,11 @@ pub(crate) fn leave_guess<P: Predictor + Drop>(parsing: Parsing<'_, Guess<P>>) {
     let _ = parsing;
 }
 
+/// Gives back a view of a guess.
+pub(crate) fn leave_view<P: Predictor + Drop>(view: View<'_, Guess<P>>) {
+    let _ = view;
+}
+
 /// Gives back a state.
 pub(crate) fn leave_control(control: Control) {
     let Control { lex, .. } = control;
@@ -41,9 +45,9 @@ pub(crate) fn leave_change(change: Change, kept: Assumptions) {
     let _ = kept;
 }
 
-/// Gives back what edits come to.
-pub(crate) fn leave_growing(growing: Growing<'_>) {
-    let _ = growing;
+/// Gives back edits that were split.
+pub(crate) fn leave_splitting(splitting: Splitting<'_>) {
+    let _ = splitting;
 }
 
 /// Gives back edits.

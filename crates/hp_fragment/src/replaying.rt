@@ -11,10 +11,9 @@ use crate::grown::grown_run;
 use crate::laws::runs_stay_valid;
 use crate::leaving::leave_control;
 use crate::parsing::Parsing;
-use crate::sink::{Sink, Splitting};
+use crate::sink::{Naming, Sink, Splitting};
 use crate::told::told_state;
 use hp_control::{Control, Edits};
-use hp_growth::Growing;
 use hp_pieces::Fragment;
 use hp_text::Chunk;
 use std::alloc::Global;
@@ -27,8 +26,8 @@ pub fn replay<'p>(alloc: Global, chunk: Chunk<'p>, from: Control) -> Result<Frag
     let text = &chunk.page.as_str()[chunk.from as usize..chunk.to as usize];
     from.is_kept();
     match run_from(alloc, text, &from) {
-        Ok((exit, growing, rest)) => {
-            let exact = grown_run(alloc, text, from, exit, growing, rest)?;
+        Ok((exit, splitting, rest)) => {
+            let exact = grown_run(alloc, text, from, exit, splitting, rest)?;
             Ok(Fragment::Exact(exact))
         }
         Err(fault) => {
@@ -38,20 +37,18 @@ pub fn replay<'p>(alloc: Global, chunk: Chunk<'p>, from: Control) -> Result<Frag
     }
 }
 
-/// The state to which the run over the text leads, what the first of its edits come to, and the others, which tell each element by its
-/// id.
+/// The state to which the run over the text leads, what the first of its edits come to, and the others.
 fn run_from<'p>(
     alloc: Global,
     text: &'p str,
     from: &Control,
-) -> Result<(Control, Growing<'p>, Edits<'p>), NoMemory>
+) -> Result<(Control, Splitting<'p>, Edits<'p>), NoMemory>
     requires { IsValid from.now }
     ensures { IfOk result (λ parts. LeadsPartlySplit (chars text.now) from.now parts.1 parts.2 parts.0) }
 {
     runs_stay_valid();
-    let growing = Growing::start(alloc)?;
-    let next = from.next;
-    let sink = Sink::Splits(Splitting { growing, next });
-    let parsing = Parsing::behind(alloc, from, text, sink)?;
+    let naming = Naming::Ids { next: from.next };
+    let splitting = Splitting::start(alloc, naming)?;
+    let parsing = Parsing::behind(alloc, from, text, Sink::Splits(splitting))?;
     Ok(told_state(parsing))
 }

@@ -1,9 +1,9 @@
 //! Where the edits of a parser go.
-ghost use Rattle.std.specs.Prelude.{◌≡◌, [], List, OnOk};
+ghost use Rattle.std.specs.Prelude.{◌≡◌, [], List, IfOk, OnOk};
 ghost use Rattle.hp_control.specs.States.{ControlState};
 ghost use Rattle.hp_control.specs.declared.edit.Edit.{Edit as EditOf};
-ghost use Rattle.hp_fragment.specs.Making.{Amounts, HasGrown, HasSplit, IsSplitIn, IsSplitting, SinkKind};
-ghost use Rattle.hp_fragment.specs.declared.sink.Sink.TheVariants.{Keeps};
+ghost use Rattle.hp_growth.specs.Growing.{IsGrown};
+ghost use Rattle.hp_fragment.specs.Making.{kind_of, Amounts, HasGrown, HasSplit, IsSplitIn, IsSplitting, SinkKind};
 
 use crate::NoMemory;
 use hp_arena::Tree;
@@ -30,15 +30,34 @@ pub(crate) enum Sink<'p> {
 pub(crate) struct Splitting<'p> {
     /// What those come to that were split.
     pub growing: Growing<'p>,
-    /// Own elements have the ids from this one on.
-    pub next: u64,
+    pub naming: Naming,
+}
+
+/// How own elements are named where edits are split.
+#[derive(Clone, Copy)]
+pub(crate) enum Naming {
+    /// By their numbers, behind a guess.
+    Numbers,
+    /// By their ids, which are those from `next` on, behind a known state.
+    Ids { next: u64 },
+}
+
+impl<'p> Splitting<'p> {
+    /// Nothing was split yet.
+    pub fn start(alloc: Global, naming: Naming) -> Result<Splitting<'p>, NoMemory>
+        ensures growing { IfOk result (λ splitting. IsGrown [] splitting.growing) }
+        ensures naming { IfOk result (λ splitting. splitting.naming ≡ naming) }
+    {
+        let growing = Growing::start(alloc)?;
+        Ok(Splitting { growing, naming })
+    }
 }
 
 impl<'p> Sink<'p> {
     /// Takes the edits that were made, where they are many and don't stay.
     #[inline(always)]
     pub fn take(&mut self, alloc: Global, edits: &mut Edits<'p>) -> Result<(), NoMemory>
-        ensures keeps { OnOk result (self.old ≡ Keeps → (self.new ≡ Keeps) × (edits.new ≡ edits.old)) }
+        ensures kind { OnOk result (kind_of self.new ≡ kind_of self.old) }
         ensures amounts { OnOk result ((kind : SinkKind) (s : ControlState) (es : List EditOf) → Amounts kind self.old s edits.old es → Amounts kind self.new s edits.new es) }
     {
         match self {
@@ -74,7 +93,7 @@ pub(crate) fn grow<'p>(
 
 /// Splits the edits.
 #[inline(never)]
-fn split<'p>(
+pub(crate) fn split<'p>(
     alloc: Global,
     splitting: &mut Splitting<'p>,
     edits: &mut Edits<'p>,
@@ -82,18 +101,22 @@ fn split<'p>(
     ensures split { OnOk result (HasSplit splitting.old edits.old splitting.new) }
     ensures edits { OnOk result (edits.new ≡ []) }
 {
-    edits.tell();
-    let next = splitting.next;
-    splitting.growing.put_all_told(alloc, next, edits)
+    match splitting.naming {
+        Naming::Numbers => splitting.growing.put_all(alloc, edits),
+        Naming::Ids { next } => {
+            edits.tell();
+            splitting.growing.put_all_told(alloc, next, edits)
+        }
+    }
 }
 
-/// What the edits come to that were split.
-pub(crate) fn into_growing<'p>(sink: Sink<'p>) -> Growing<'p>
+/// The edits that were split.
+pub(crate) fn into_splitting<'p>(sink: Sink<'p>) -> Splitting<'p>
     requires splits { IsSplitting sink }
     ensures { IsSplitIn sink.entry result }
 {
     match sink {
-        Sink::Splits(splitting) => splitting.growing,
+        Sink::Splits(splitting) => splitting,
         Sink::Keeps | Sink::Grows(_) => unreachable!(),
     }
 }

@@ -1,23 +1,26 @@
 //! The run over a chunk behind a guessed state.
-ghost use Rattle.std.specs.Prelude.{◌≡◌, true, false, length, take, IfOk, slice_range};
+ghost use Rattle.std.specs.Prelude.{◌≡◌, false, length, take, IfOk, List, slice_range};
 ghost use Rattle.std.specs.Str.{IsCharBoundary};
 ghost use Rattle.hp_text.specs.Page.{text_of as page_text};
 ghost use Rattle.hp_elements.specs.declared.token.Rest.TheVariants.{Data};
 ghost use Rattle.hp_names.specs.BuiltIn.{built_in};
 ghost use Rattle.hp_tokens.specs.Advancing.{rest_state};
 ghost use Rattle.hp_control.specs.Guessing.{heard_by};
-ghost use Rattle.hp_growth.specs.Marking.{name_first};
+ghost use Rattle.hp_control.specs.Tree.{Tree as TreeOf};
+ghost use Rattle.hp_control.specs.declared.edit.Edit.{Edit as EditOf};
 ghost use Rattle.hp_pieces.specs.Guesses.{IsSound};
 ghost use Rattle.hp_pieces.specs.Texts.{text_of};
 ghost use Rattle.hp_views.specs.View.{split_of};
 ghost use Rattle.hp_fragment.specs.Guessing.{made_of, CrossesAt, HasBegun, IsGuessBy, IsReached, IsTried};
+ghost use Rattle.hp_fragment.specs.Making.{AllComeTo, IsSplitIn, IsSplitting};
+ghost use Rattle.hp_fragment.specs.declared.sink.Splitting.{Splitting as SplittingOf};
 
 use crate::NoMemory;
 use crate::grown::grown_guess;
-use crate::leaving::{leave_guess, leave_sink};
+use crate::leaving::{leave_change, leave_edits, leave_guess, leave_lexer, leave_view};
 use crate::parsing::Parsing;
 use crate::reading::read_to_end;
-use crate::sink::Sink;
+use crate::sink::{Naming, Sink, Splitting, into_splitting};
 use hp_control::{Answer, Guess, Predictor, Refusal};
 use hp_elements::Rest;
 use hp_lexer::{Cursor, Lexer};
@@ -149,11 +152,16 @@ fn read_front<'p, P: Predictor + Drop>(
     hp_older::view_begins();
     hp_pieces::firsts();
     hp_runs::comes_on();
+    let Ok(splitting) = Splitting::start(alloc, Naming::Numbers) else {
+        leave_lexer(lexer);
+        leave_view(view);
+        return Err(NoMemory);
+    };
     let mut parsing = Parsing {
         lexer,
         input: Cursor::of_str(front),
         view,
-        sink: Sink::Keeps,
+        sink: Sink::Splits(splitting),
     };
     match read_to_end(alloc, &mut parsing) {
         Ok(()) => {
@@ -179,8 +187,9 @@ fn cover<'p, P: Predictor + Drop>(
     covered: u64,
     parsing: Parsing<'p, Guess<P>>,
 ) -> Result<Guessed<'p>, NoMemory>
-    requires sound { name_first parsing.view.edits ≡ true → IsSound (made_of text.now covered parsing.lexer.lex parsing.view) }
-    ensures { IfOk result (λ guessed. guessed ≡ made_of text.now covered parsing.entry.lexer.lex parsing.entry.view) }
+    requires splits { IsSplitting parsing.sink }
+    requires sound { (splitting : SplittingOf) (grove : TreeOf) (outer : List EditOf) → IsSplitIn parsing.sink splitting → AllComeTo splitting parsing.view.edits grove outer → IsSound (made_of text.now covered parsing.lexer.lex parsing.view grove outer) }
+    ensures { IfOk result (λ guessed. guessed ≡ made_of text.now covered parsing.entry.lexer.lex parsing.entry.view guessed.grove guessed.outer) }
 {
     let Parsing {
         lexer,
@@ -188,11 +197,11 @@ fn cover<'p, P: Predictor + Drop>(
         sink,
         ..
     } = parsing;
-    leave_sink(sink);
+    let splitting = into_splitting(sink);
     let Lexer { lex, .. } = lexer;
     let is_set = lex.machine.last_tag.is_some();
-    let (change, kept, edits) = view.into_change(lex, is_set);
-    grown_guess(alloc, text, covered, kept, change, edits)
+    let (change, kept, rest) = view.into_change(lex, is_set);
+    grown_guess(alloc, text, covered, kept, change, splitting, rest)
 }
 
 /// A guess of which nothing was read.
@@ -201,9 +210,16 @@ fn cover_nothing<'p, P: Predictor + Drop>(
     text: &'p str,
     view: View<'p, Guess<P>>,
 ) -> Result<Guessed<'p>, NoMemory>
-    ensures { IfOk result (λ guessed. guessed ≡ made_of text.now 0 (rest_state Data false) view.entry) }
+    ensures { IfOk result (λ guessed. guessed ≡ made_of text.now 0 (rest_state Data false) view.entry guessed.grove guessed.outer) }
 {
     let lex = LexState::at_rest(Rest::Data, false);
     let (change, kept, edits) = view.into_change(lex, false);
-    grown_guess(alloc, text, 0, kept, change, edits)
+    match Splitting::start(alloc, Naming::Numbers) {
+        Ok(splitting) => grown_guess(alloc, text, 0, kept, change, splitting, edits),
+        Err(fault) => {
+            leave_change(change, kept);
+            leave_edits(edits);
+            Err(fault)
+        }
+    }
 }

@@ -1,4 +1,4 @@
-//! What a parser made, with each element told by its id.
+//! What a parser made behind a known state.
 ghost use Rattle.std.specs.Prelude.{◌≡◌, map};
 ghost use Rattle.hp_control.specs.Apply.{named_edit};
 ghost use Rattle.hp_control.specs.Nothing.{nothing};
@@ -8,18 +8,17 @@ ghost use Rattle.hp_fragment.specs.Making.{IsSplitIn, IsSplitting};
 
 use crate::leaving::{into_edits, leave_lexer, leave_sink};
 use crate::parsing::Parsing;
-use crate::sink::into_growing;
+use crate::sink::{Splitting, into_splitting};
 use hp_control::{Control, Edits, Nothing};
-use hp_growth::Growing;
 use hp_lexer::Lexer;
 
 /// The state that a parser has reached, what its edits come to that were split, and the others.
-pub(crate) fn told_state<'p>(parsing: Parsing<'p, Nothing>) -> (Control, Growing<'p>, Edits<'p>)
+pub(crate) fn told_state<'p>(parsing: Parsing<'p, Nothing>) -> (Control, Splitting<'p>, Edits<'p>)
     requires valid { IsValid (state_of (stage_of parsing)) }
     requires splits { IsSplitting parsing.sink }
     ensures state { result.0 ≡ state_of (stage_of parsing.entry) }
-    ensures growing { IsSplitIn parsing.entry.sink result.1 }
-    ensures edits { result.2 ≡ map (named_edit nothing) parsing.entry.view.edits }
+    ensures splitting { IsSplitIn parsing.entry.sink result.1 }
+    ensures edits { result.2 ≡ parsing.entry.view.edits }
 {
     let Parsing {
         lexer,
@@ -27,14 +26,13 @@ pub(crate) fn told_state<'p>(parsing: Parsing<'p, Nothing>) -> (Control, Growing
         sink,
         ..
     } = parsing;
-    let growing = into_growing(sink);
+    let splitting = into_splitting(sink);
     let Lexer { lex, .. } = lexer;
-    let (control, mut edits) = view.into_control(lex);
-    edits.tell();
-    (control, growing, edits)
+    let (control, edits) = view.into_control(lex);
+    (control, splitting, edits)
 }
 
-/// The edits that a parser has made.
+/// The edits that a parser has made, with each element told by its id.
 pub(crate) fn told_edits<'p>(parsing: Parsing<'p, Nothing>) -> Edits<'p>
     ensures { result ≡ map (named_edit nothing) parsing.entry.view.edits }
 {

@@ -1,6 +1,3 @@
-use Rattle.std.proofs.Common.{ap, map, ◌∙◌}
-use Rattle.hp_control.specs.Apply.{named_edit}
-use Rattle.hp_control.specs.Nothing.{nothing}
 use Rattle.hp_fragment.proofs.told.told_state.Goals as goal
 
 pub into_control-control-requires : goal.into_control-control-requires
@@ -10,4 +7,4 @@ pub returns-clause-state : goal.returns-clause-state
 returns-clause-state c = c.into_control-control.ensures.state
 
 pub returns-clause-edits : goal.returns-clause-edits
-returns-clause-edits c = c.tell.ensures ∙ ap (map (named_edit nothing)) c.into_control-control.ensures.edits
+returns-clause-edits c = c.into_control-control.ensures.edits

@@ -10,12 +10,12 @@ use Rattle.hp_fragment.proofs.parsing.Parsing.handle_one.Goals as goal
 pub returns-in-None-clause-handled : goal.returns-in-None-clause-handled
 returns-in-None-clause-handled g c =
     one-handled c.tokens_over.ensures.handled c.lexer_apart.ensures.at_once c.views_over.ensures.edits c.steps_fall.ensures.switches (stage g.B.Below.heard c.args.self.now) _ (split_of c.handle.new.view) c.take.new.edits
-    c.args.token c.in_ok-handled.handled c.in_ok-handled.ensures.plan refl c.in_ok-take.ensures.amounts c.in_ok-take.ensures.keeps (ap (λ (to : Option Rest). turned to c.args.self.now.lexer) (sym c.in-None.is)) refl
+    c.args.token c.in_ok-handled.handled c.in_ok-handled.ensures.plan refl c.in_ok-take.ensures.amounts c.in_ok-take.ensures.kind (ap (λ (to : Option Rest). turned to c.args.self.now.lexer) (sym c.in-None.is)) refl
 
 pub returns-in-Some-clause-handled : goal.returns-in-Some-clause-handled
 returns-in-Some-clause-handled g c =
     one-handled c.tokens_over.ensures.handled c.lexer_apart.ensures.at_once c.views_over.ensures.edits c.steps_fall.ensures.switches (stage g.B.Below.heard c.args.self.now) _ (split_of c.handle.new.view) c.take.new.edits
-    c.args.token c.in_ok-handled.handled c.in_ok-handled.ensures.plan refl c.in_ok-take.ensures.amounts c.in_ok-take.ensures.keeps (c.switch.ensures ∙ ap (λ (to : Option Rest). turned to c.args.self.now.lexer) (sym c.in-Some.is)) refl
+    c.args.token c.in_ok-handled.handled c.in_ok-handled.ensures.plan refl c.in_ok-take.ensures.amounts c.in_ok-take.ensures.kind (c.switch.ensures ∙ ap (λ (to : Option Rest). turned to c.args.self.now.lexer) (sym c.in-Some.is)) refl
 
 pub returns-in_err-handled-clause-crossed : goal.returns-in_err-handled-clause-crossed
 returns-in_err-handled-clause-crossed g c =

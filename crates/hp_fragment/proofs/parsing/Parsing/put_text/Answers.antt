@@ -11,7 +11,7 @@ use Rattle.hp_fragment.proofs.parsing.Parsing.put_text.Goals as goal
 pub returns-clause-handled : goal.returns-clause-handled
 returns-clause-handled g c =
     run-handled c.tokens_over.ensures.handled c.lexer_apart.ensures.at_once c.views_over.ensures.edits (stage g.B.Below.heard c.args.self.now) _ (split_of c.handle_text.new.view) c.take.new.edits
-    (white_or_other (list_all is_white c.args.text)) c.args.text c.in_ok-handle_text.field-0 c.in_ok-handle_text.ensures.plan refl c.in_ok-take.ensures.amounts c.in_ok-take.ensures.keeps
+    (white_or_other (list_all is_white c.args.text)) c.args.text c.in_ok-handle_text.field-0 c.in_ok-handle_text.ensures.plan refl c.in_ok-take.ensures.amounts c.in_ok-take.ensures.kind
     (text-quiet (g.B.Below.heard c.args.self.now.view.below).says c.args.text (split_of c.args.self.now.view) (split_of c.handle_text.new.view) c.in_ok-handle_text.field-0 c.in_ok-handle_text.ensures.plan.ends c.requires.takes) refl refl
 
 pub returns-in_err-handle_text-clause-crossed : goal.returns-in_err-handle_text-clause-crossed
