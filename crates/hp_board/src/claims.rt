@@ -1,5 +1,5 @@
 //! Claims of chunks, and what takes them back.
-ghost use Rattle.std.specs.Prelude.{◌≡◌, ◌+◌, ◌-◌, ◌<◌, ◌≤◌, ◌^◌, IfNone, IfOk, IfSome, OnErr, count_by, is_some, length, min, true};
+ghost use Rattle.std.specs.Prelude.{Bool, ◌≡◌, ◌+◌, ◌-◌, ◌<◌, ◌≤◌, ◌^◌, IfNone, IfOk, IfSome, OnErr, count_by, is_some, length, min, true};
 ghost use Rattle.std.specs.Bool.{OnFalse, OnTrue};
 ghost use Rattle.hp_board.specs.Calls.{IsAllClaimed, IsClaim, is_claimed, is_yours, recalled, released, released_slot};
 ghost use Rattle.hp_board.specs.Desk.{SamePage, slot_at, statuses};
@@ -44,6 +44,15 @@ impl<'p> Board<'p> {
         self.journal.push_reserved(Entry { worker, step });
         tally.raise();
         Ok(Some(Claim { chunk, from }))
+    }
+
+    /// How many chunks the next one to claim stands behind the front chunk. `None` where there is none to claim.
+    pub fn lead(&self) -> Option<u32>
+        ensures some { IfSome result (λ lead. (again : Bool) × (is_next (statuses self.now) (self.now.done + lead) again ≡ true)) }
+        ensures none { IfNone result (IsAllClaimed self.now) }
+    {
+        let (number, _) = self.next_chunk()?;
+        Some(number - self.done)
     }
 
     /// The next chunk to claim, and whether it is Again.

@@ -50,6 +50,7 @@ impl<'p> Board<'p> {
             place: 0,
             front,
             owed: 0,
+            spent: Vec::new(alloc),
         };
         Ok((board, tallies))
     }

@@ -14,6 +14,7 @@ use crate::laws::stays_fair;
 use crate::pairs::{pair_at, question_at};
 use crate::posts::told;
 use crate::slot::Slot;
+use crate::spent::spent_of;
 use crate::steps::Advance;
 use crate::tally::Tally;
 use hp_control::Kept;
@@ -56,6 +57,13 @@ impl<'p> Board<'p> {
             Some(Look::Fails { kind, place }) => Ok(self.roll_back(tally, kind, place)),
             Some(Look::Holds) => self.commit(alloc, tally, steps),
         }
+    }
+
+    /// Whether there is a front chunk to judge: it is posted.
+    pub fn is_to_judge(&self) -> bool
+        ensures { result ≡ is_posted (at (statuses self.now) self.now.done) }
+    {
+        matches!(self.slots.get(self.done as usize), Some(Slot::Posted(_)))
     }
 
     /// What comes of looking at the front chunk's fragment, where that chunk is posted.
@@ -108,7 +116,9 @@ impl<'p> Board<'p> {
         else {
             unreachable!()
         };
-        match pair_at(guessed.into_assumptions(), place) {
+        let (assumptions, spent) = spent_of(guessed);
+        self.keep_spent(spent);
+        match pair_at(assumptions, place) {
             Some(Kept { question, answer }) => Advance::RolledBack { question, answer },
             None => unreachable!(),
         }

@@ -67,7 +67,7 @@ unreachable-requires-in-None c =
     let done_is = ap (λ (d : Desk). d.done) c.self.view_is in
     let was : c.put.result ≡ slot.Posted (fragment.Guessed guess) = c.in-Posted-Guessed.is ∙ ap slot.Posted c.in-Posted-Guessed.field-0-is in
     let wrong = guess_false desk c.self.inside.done r.0 r.1 r.2 c.args.place c.put.result guess done_is r.3 r.4 r.7 c.put.ensures.before was in
-    let pair = one_pair c.into_assumptions.result guess.assumptions c.args.place c.pair_at.result r.1 r.2 c.into_assumptions.ensures c.pair_at.ensures wrong.2 in
+    let pair = one_pair c.spent_of-assumptions.result.0 guess.assumptions c.args.place c.pair_at.result r.1 r.2 c.spent_of-assumptions.ensures c.pair_at.ensures wrong.2 in
     not_none c.pair_at.result (record { question = r.1; answer = r.2 }) c.in-None.is pair
 
 pub returns-clause-judged : goal.returns-clause-judged
@@ -79,7 +79,7 @@ returns-clause-judged c =
     let done_is = ap (λ (d : Desk). d.done) c.self.view_is in
     let was : c.put.result ≡ slot.Posted (fragment.Guessed guess) = c.in-Posted-Guessed.is ∙ ap slot.Posted c.in-Posted-Guessed.field-0-is in
     let wrong = guess_false desk c.self.inside.done r.0 r.1 r.2 c.args.place c.put.result guess done_is r.3 r.4 r.7 c.put.ensures.before was in
-    let found = one_pair c.into_assumptions.result guess.assumptions c.args.place c.pair_at.result r.1 r.2 c.into_assumptions.ensures c.pair_at.ensures wrong.2 in
+    let found = one_pair c.spent_of-assumptions.result.0 guess.assumptions c.args.place c.pair_at.result r.1 r.2 c.spent_of-assumptions.ensures c.pair_at.ensures wrong.2 in
     let both : Some c.in-Some.field-0 ≡ Some (record { question = r.1; answer = r.2 }) = sym c.in-Some.is ∙ found in
     let pair : c.in-Some.field-0 ≡ record { question = r.1; answer = r.2 } = cc in
     let kind_is : c.args.kind ≡ kind_of c.in-Some.field-0.question = r.5 ∙ ap (λ (k : Kept). kind_of k.question) (sym pair) in (
@@ -87,8 +87,9 @@ returns-clause-judged c =
       wrong.0,
       (
         subst (λ (k : Kept). IsFirstFalse desk.control guess.assumptions k.question k.answer) (sym pair) wrong.1,
-        c.put.ensures.board
+        c.keep_spent.ensures.board
+            ∙ (c.put.ensures.board
             ∙ (ap (λ (n : ℕ). put desk n slot.Again (entry w (step.RolledBack n c.args.kind))) done_is
-            ∙ ap (λ (k : QuestionKind). put desk desk.done slot.Again (entry w (step.RolledBack desk.done k))) kind_is),
+            ∙ ap (λ (k : QuestionKind). put desk desk.done slot.Again (entry w (step.RolledBack desk.done k))) kind_is)),
       ),
     )
