@@ -5,7 +5,7 @@ ghost use Rattle.hp_cut.specs.Places.{IsOf};
 
 use crate::chunks::{PAGE, TREE, page_of};
 use hp_board::{BoardStep, Entry, Journal, QuestionKind};
-use hp_cut::{Cuts, cuts_at_tags, cuts_listed};
+use hp_cut::{Cuts, cuts_at_tags, cuts_by_size, cuts_listed};
 use hp_predict::GuessKind;
 use hp_print::print_tree;
 use hp_text::Page;
@@ -279,5 +279,53 @@ fn assert_page<R: Threads + Wait + Sync + Abort>(rt: &R, alloc: Global, workers:
 fn a_page_has_one_tree_whoever_works(rt: HostRuntime) {
     for workers in [1, 2, 8] {
         assert_page(&rt, rt.alloc(), workers);
+    }
+}
+
+/// A text of 64 chunks of two bytes each.
+const TEXT: &str =
+    "the quick brown fox jumps over the lazy dog, and then it sits down beside the dog and waits until it wakes up to jump once more:";
+
+const TEXT_TREE: &str =
+    "| <html>\n|   <head>\n|   <body>\n|     \"the quick brown fox jumps over the lazy dog, and then it sits down beside the dog and waits until it wakes up to jump once more:\"\n";
+
+/// The most chunks by which a claimed chunk was ahead of the front chunk.
+fn most_ahead(journal: &[Entry]) -> u32 {
+    let mut front = 0u32;
+    let mut most = 0;
+    for entry in journal {
+        match entry.step {
+            BoardStep::Kept { .. } => front = front.saturating_add(1),
+            BoardStep::Claimed { chunk, .. } => most = most.max(chunk.saturating_sub(front)),
+            _ => {}
+        }
+    }
+    most
+}
+
+/// So many workers claim no chunk that is far ahead of the front: two chunks for each, and what the others claim between a worker's look
+/// and its claim.
+fn assert_near<R: Threads + Wait + Sync + Abort>(rt: &R, alloc: Global, workers: u32)
+    requires some { 1 ≤ workers }
+    requires most { workers ≤ 64 }
+{
+    let page = page_of(rt, TEXT);
+    let cuts = cuts_by_size(alloc, page, 2).expect(rt, "there is memory");
+    let by = By {
+        kind: GuessKind::Contrary,
+        workers,
+        gate: &OpenGate,
+    };
+    let journal = journal_of(rt, alloc, page, &cuts, by, TEXT_TREE);
+    let most = most_ahead(journal.as_slice());
+    assert!(rt; most < 3 * workers, "{most} ahead by {workers} workers");
+    mem::forget(journal);
+    mem::forget(cuts);
+}
+
+#[test]
+fn workers_stay_near_the_front(rt: HostRuntime) {
+    for workers in [1, 2, 4] {
+        assert_near(&rt, rt.alloc(), workers);
     }
 }

@@ -1,7 +1,7 @@
 //! What is left over is given back here, one function for each type, so that its drop stands in one place.
 
 use crate::page::Progress;
-use hp_board::{Advance, Board, PostRefusal};
+use hp_board::{Advance, Board, PostRefusal, Spent};
 use hp_merge::{Front, JoinRefusal};
 use hp_pieces::Fragment;
 
@@ -38,4 +38,9 @@ pub(crate) fn leave_front(front: Front<'_>) {
 /// Gives back a fragment that there was no memory to join.
 pub(crate) fn leave_refusal(refusal: JoinRefusal<'_>) {
     let _ = refusal;
+}
+
+/// Gives back what guesses had made that were rolled back.
+pub(crate) fn leave_spent(spent: Vec<Spent<'_>>) {
+    let _ = spent;
 }

@@ -6,6 +6,7 @@ mod joining;
 mod leaving;
 mod mains;
 mod order;
+mod pace;
 mod page;
 mod turns;
 mod uncounted;

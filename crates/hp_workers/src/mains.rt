@@ -8,7 +8,7 @@ ghost use Rattle.hp_workers.specs.Turns.{HasGoneOn, IsFree, weight};
 
 use crate::NoMemory;
 use crate::gate::OpenGate;
-use crate::leaving::leave_advance;
+use crate::leaving::{leave_advance, leave_spent};
 use crate::turns::{is_idle, make};
 use crate::uncounted::advance_by;
 use hp_board::{Board, Tally};
@@ -48,6 +48,7 @@ fn take<'p>(
     ensures less { OnOk result (weight board.new < weight board.old) }
 {
     board.kept();
+    leave_spent(board.take_spent(alloc));
     let Some(claim) = board.claim(alloc, tally)? else {
         unreachable!()
     };

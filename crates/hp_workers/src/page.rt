@@ -13,7 +13,8 @@ use crate::gate::Gate;
 use crate::leaving::{leave_board, leave_front, leave_progress};
 use crate::mains::finish_alone;
 use crate::order::end_page;
-use crate::turns::work;
+use crate::pace::PacedDesk;
+use crate::turns::work_at;
 use hp_arena::Tree;
 use hp_board::{Board, BoardStep, Entry, Journal, Origin, Tally};
 use hp_cut::Cuts;
@@ -153,13 +154,15 @@ fn run_threads<'p, R: Threads + Wait + Sync, G: Gate + Sync>(
 ) -> Board<'p> {
     let threads = tallies.len().max(1);
     let desk = Mutex::new(board);
-    let shared = &desk;
+    let paced = PacedDesk::of(&desk, threads);
+    let shared = &paced;
     thread::for_each_mut(
         rt,
         tallies,
         threads,
-        &|_, tally| { work(rt, alloc, shared, tally, kind, gate, turns) },
+        &|_, tally| { work_at(rt, alloc, shared, tally, kind, gate, turns) },
     );
+    drop(paced);
     desk.into_inner()
 }
 

@@ -7,7 +7,8 @@ ghost use Rattle.hp_workers.specs.Turns.{is_idle};
 
 use crate::NoMemory;
 use crate::gate::Gate;
-use crate::leaving::{leave_advance, leave_post_refusal};
+use crate::leaving::{leave_advance, leave_post_refusal, leave_spent};
+use crate::pace::PacedDesk;
 use crate::uncounted::advance_by;
 use hp_board::{Advance, Board, Claim, Tally};
 use hp_fragment::{replay, speculate_by};
@@ -74,24 +75,31 @@ pub(crate) fn is_idle(advance: &Advance) -> bool
     matches!(advance, Advance::Idle)
 }
 
-/// Judges front chunks until there is none to judge, but at most so many, each under a holding of its own.
-fn advance_until_idle<R: Wait>(
+/// Judges front chunks until there is none to judge and the next chunk to claim isn't far, but looks at most so many times, each time
+/// under a holding of its own.
+fn advance_until_near<R: Wait>(
     rt: &R,
     alloc: Global,
-    desk: &Mutex<Board<'_>>,
+    paced: &PacedDesk<'_, '_>,
     tally: &mut Tally,
     turns: u32,
 )
     ensures { IsLater tally.old tally.new }
 {
     for _turn in 0..turns {
-        let advanced = advance_by::<Brand>(&mut desk.lock(rt), alloc, tally, Blank::new(1));
+        let advanced = advance_by::<Brand>(&mut paced.desk.lock(rt), alloc, tally, Blank::new(1));
         let Ok(advance) = advanced else {
             return;
         };
         let idle = is_idle(&advance);
         leave_advance(advance);
-        if idle {
+        if !idle {
+            paced.tell();
+            continue;
+        }
+        let spent = paced.desk.lock(rt).take_spent(alloc);
+        leave_spent(spent);
+        if !paced.wait(rt) {
             return;
         }
     }
@@ -101,7 +109,7 @@ fn advance_until_idle<R: Wait>(
 fn turn<'p, R: Wait, G: Gate>(
     rt: &R,
     alloc: Global,
-    desk: &Mutex<Board<'p>>,
+    paced: &PacedDesk<'_, 'p>,
     tally: &mut Tally,
     kind: GuessKind,
     gate: &G,
@@ -109,14 +117,16 @@ fn turn<'p, R: Wait, G: Gate>(
 ) -> bool
     ensures { IsLater tally.old tally.new }
 {
-    advance_until_idle(rt, alloc, desk, tally, turns);
-    let claimed = desk.lock(rt).claim(alloc, tally);
+    advance_until_near(rt, alloc, paced, tally, turns);
+    let claimed = paced.desk.lock(rt).claim(alloc, tally);
     let Ok(Some(claim)) = claimed else {
         return false;
     };
     let chunk = claim.chunk.number;
     let made = make(alloc, claim, tally.worker(), kind, gate).ok();
-    hand_in(&mut desk.lock(rt), tally, chunk, made)
+    let posted = hand_in(&mut paced.desk.lock(rt), tally, chunk, made);
+    paced.tell();
+    posted
 }
 
 /// Works on the board behind the lock for at most so many turns. In a turn the worker judges what there is to judge, claims a chunk,
@@ -133,8 +143,23 @@ pub fn work<'p, R: Threads + Wait + Sync, G: Gate + Sync>(
 )
     ensures { IsLater tally.old tally.new }
 {
+    work_at(rt, alloc, &PacedDesk::free(desk), tally, kind, gate, turns);
+}
+
+/// The same at the desk's pace: a worker waits before its claim while the next chunk is far.
+pub(crate) fn work_at<'p, R: Threads + Wait + Sync, G: Gate + Sync>(
+    rt: &R,
+    alloc: Global,
+    paced: &PacedDesk<'_, 'p>,
+    tally: &mut Tally,
+    kind: GuessKind,
+    gate: &G,
+    turns: u32,
+)
+    ensures { IsLater tally.old tally.new }
+{
     for _turn in 0..turns {
-        if !turn(rt, alloc, desk, tally, kind, gate, turns) {
+        if !turn(rt, alloc, paced, tally, kind, gate, turns) {
             return;
         }
     }

@@ -8,7 +8,7 @@ use Rattle.hp_workers.proofs.mains.take.Goals as goal
 pub unreachable-requires : goal.unreachable-requires
 unreachable-requires c =
     c.requires.undone (all_done c.args.board.now c.kept.ensures.kept c.requires.free
-    (all_claimed c.in_ok-claim.field-0 c.args.board.now c.claim.new.self c.args.tally.now c.claim.new.tally c.in_default.is c.in_ok-claim.ensures.none) c.requires.idle)
+    (all_claimed c.in_ok-claim.field-0 c.args.board.now c.claim.new.self c.args.tally.now c.claim.new.tally c.in_default.is (rw c.take_spent.ensures.board at c.in_ok-claim.ensures.none)) c.requires.idle)
 
 pub unreachable-requires-in-Err : goal.unreachable-requires-in-Err
 unreachable-requires-in-Err c =
@@ -26,7 +26,7 @@ returns-clause-on c =
     let mid = c.claim.new.self in
     let some : IsClaim c.args.board.now c.args.tally.now.worker claim mid × IsRaised c.args.tally.now c.claim.new.tally = search rules in
     taken_on c.args.board.now mid c.post.new.self c.args.tally.now c.claim.new.tally c.post.new.tally c.args.kind claim c.in_ok-fragment.fragment c.kept.ensures.kept c.requires.free c.requires.main c.requires.short
-    c.in_ok-claim.ensures.page some.0 some.1 c.in_ok-fragment.ensures c.in-Ok.ensures.page c.in-Ok.ensures.board c.in-Ok.ensures.raised
+    (rw c.take_spent.ensures.board at c.in_ok-claim.ensures.page) some.0 some.1 c.in_ok-fragment.ensures c.in-Ok.ensures.page c.in-Ok.ensures.board c.in-Ok.ensures.raised
 
 pub returns-clause-less : goal.returns-clause-less
 returns-clause-less c =
