@@ -1,6 +1,6 @@
 //! Tests of the crates from outside: short texts, whole and cut at each place, against an independent lexer; guesses of open elements; the
 //! steps of tree construction on views; whole pages, and pages that are read in two parts from known states, and how much of the second a right guess covers; large trees that edits make,
-//! printed.
+//! printed; pages and their HTML text.
 #![tactic(auto)]
 
 #[cfg(test)]
@@ -15,6 +15,8 @@ mod growing;
 mod guessed;
 #[cfg(test)]
 mod guessing;
+#[cfg(test)]
+mod html;
 #[cfg(test)]
 mod known;
 #[cfg(test)]
