@@ -5,7 +5,7 @@ ghost use Rattle.hp_cut.specs.Places.{IsOf};
 
 use crate::chunks::{PAGE, TREE, page_of};
 use hp_board::{BoardStep, Entry, Journal, QuestionKind};
-use hp_cut::{Cuts, cuts_at_tags, cuts_by_size, cuts_listed};
+use hp_cut::{Cuts, cuts_at_tags, cuts_listed};
 use hp_predict::GuessKind;
 use hp_print::print_tree;
 use hp_text::Page;
@@ -282,12 +282,17 @@ fn a_page_has_one_tree_whoever_works(rt: HostRuntime) {
     }
 }
 
-/// A text of 64 chunks of two bytes each.
+/// A text of 32 chunks of four bytes each.
 const TEXT: &str =
     "the quick brown fox jumps over the lazy dog, and then it sits down beside the dog and waits until it wakes up to jump once more:";
 
 const TEXT_TREE: &str =
     "| <html>\n|   <head>\n|   <body>\n|     \"the quick brown fox jumps over the lazy dog, and then it sits down beside the dog and waits until it wakes up to jump once more:\"\n";
+
+const PLACES: &[u64] = &[
+    4, 8, 12, 16, 20, 24, 28, 32, 36, 40, 44, 48, 52, 56, 60, 64, 68, 72, 76, 80, 84, 88, 92, 96,
+    100, 104, 108, 112, 116, 120, 124,
+];
 
 /// The most chunks by which a claimed chunk was ahead of the front chunk.
 fn most_ahead(journal: &[Entry]) -> u32 {
@@ -310,7 +315,10 @@ fn assert_near<R: Threads + Wait + Sync + Abort>(rt: &R, alloc: Global, workers:
     requires most { workers ≤ 64 }
 {
     let page = page_of(rt, TEXT);
-    let cuts = cuts_by_size(alloc, page, 2).expect(rt, "there is memory");
+    let cuts = match cuts_listed(alloc, page, PLACES) {
+        Ok(cuts) => cuts,
+        Err(_) => panic!(rt; "the places cut the page"),
+    };
     let by = By {
         kind: GuessKind::Contrary,
         workers,
