@@ -1,0 +1,12 @@
+pub mod Wraps
+pub mod Rows
+pub mod Listed
+pub mod Laying
+pub mod Bare
+pub mod Standing
+pub mod Whole
+pub mod Shrinking
+pub mod Pushing
+pub mod Hanging
+pub mod Moving
+pub mod Texts
