@@ -5,9 +5,10 @@ use Rattle.std.proofs.lemmas.List.{ext_get_or, get_or-map, length-map, get_or-se
 use Rattle.std.proofs.Math.ListN.{length-set}
 use Rattle.hp_control.specs.Tree.{Item, Tree, in_one, with_inside, no_branch, branch}
 use Rattle.hp_arena.specs.Nodes.{inside}
-use Rattle.hp_arena.specs.Shape.{item_of, branch_of, branches_of, node_of, no_element}
-use Rattle.hp_arena.specs.declared.links.Node.{Node}
-use Rattle.hp_arena.specs.declared.arena.Element.{Element as ElementOf}
+use Rattle.hp_arena.specs.Shape.{item_of, branch_of, branches_of}
+use Rattle.hp_store.specs.Lists.{node_of, no_element}
+use Rattle.hp_store.specs.declared.node.Node.{Node}
+use Rattle.hp_store.specs.Store.{Element as ElementOf}
 use Rattle.hp_arena.proofs.Shapes.{make_branch}
 
 -- the items of the list of children of an element

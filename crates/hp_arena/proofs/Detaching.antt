@@ -4,10 +4,11 @@ use Rattle.std.proofs.lemmas.Bool.{cond_both, cond-true, eq-eqb}
 use Rattle.hp_control.specs.Tree.{Item, is_element, detached}
 use Rattle.hp_arena.specs.Ring.{Path, unlinked}
 use Rattle.hp_arena.specs.Nodes.{links_of, kind_of, stops, inside, IsRinged, SameKinds, IsRelinked}
-use Rattle.hp_arena.specs.Shape.{IsTree, IsListed, item_of, kind_item, branches_of, node_of}
-use Rattle.hp_arena.specs.declared.links.Node.{Node}
-use Rattle.hp_arena.specs.declared.links.Kind.TheVariants.{End, Element}
-use Rattle.hp_arena.specs.declared.arena.Element.{Element as ElementOf}
+use Rattle.hp_arena.specs.Shape.{IsTree, IsListed, item_of, kind_item, branches_of}
+use Rattle.hp_store.specs.Lists.{node_of}
+use Rattle.hp_store.specs.declared.node.Node.{Node}
+use Rattle.hp_store.specs.declared.node.Kind.TheVariants.{End, Element}
+use Rattle.hp_store.specs.Store.{Element as ElementOf}
 use Rattle.hp_arena.proofs.Paths.{without_node, Path-unlinked, in-without_node}
 use Rattle.hp_arena.proofs.Rings.{Turns, Turns-unlinked, alone-unlinked}
 use Rattle.hp_arena.proofs.Walks.{Inner, inside-inner}

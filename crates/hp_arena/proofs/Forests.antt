@@ -4,9 +4,10 @@ use Rattle.std.specs.List.{list_any}
 use Rattle.std.proofs.lemmas.Bool.{true≢false, cases_eq}
 use Rattle.hp_arena.specs.Ring.{Links, Path}
 use Rattle.hp_arena.specs.Nodes.{links_of, stops, inside}
-use Rattle.hp_arena.specs.Shape.{IsTree, node_of}
-use Rattle.hp_arena.specs.declared.links.Node.{Node}
-use Rattle.hp_arena.specs.declared.arena.Element.{Element as ElementOf}
+use Rattle.hp_arena.specs.Shape.{IsTree}
+use Rattle.hp_store.specs.Lists.{node_of}
+use Rattle.hp_store.specs.declared.node.Node.{Node}
+use Rattle.hp_store.specs.Store.{Element as ElementOf}
 use Rattle.hp_arena.proofs.Walks.{Inner, Later, Path-later, inside-inner}
 use Rattle.hp_arena.proofs.Shapes.{stops-end}
 use Rattle.hp_arena.proofs.Intos.{ends-apart}

@@ -6,10 +6,11 @@ use Rattle.std.proofs.lemmas.List.{length-map}
 use Rattle.hp_control.specs.Tree.{Item, Branch, is_element, beside, put_before, has_parent, stands_in, branch, no_branch}
 use Rattle.hp_arena.specs.Ring.{Links, Path}
 use Rattle.hp_arena.specs.Nodes.{links_of, kind_of, stops, inside, is_end, end_from}
-use Rattle.hp_arena.specs.Shape.{IsTree, IsListed, item_of, branches_of, branch_of, node_of}
-use Rattle.hp_arena.specs.declared.links.Kind.TheVariants.{End}
-use Rattle.hp_arena.specs.declared.links.Node.{Node}
-use Rattle.hp_arena.specs.declared.arena.Element.{Element as ElementOf}
+use Rattle.hp_arena.specs.Shape.{IsTree, IsListed, item_of, branches_of, branch_of}
+use Rattle.hp_store.specs.Lists.{node_of}
+use Rattle.hp_store.specs.declared.node.Kind.TheVariants.{End}
+use Rattle.hp_store.specs.declared.node.Node.{Node}
+use Rattle.hp_store.specs.Store.{Element as ElementOf}
 use Rattle.hp_arena.proofs.Branches.{branch-at}
 use Rattle.hp_arena.proofs.Detaching.{end-not_node}
 use Rattle.hp_arena.proofs.Forests.{one_list}

@@ -9,50 +9,30 @@ use Rattle.hp_control.specs.Tree.{Item, Tree, branch, no_branch, is_element}
 use Rattle.hp_control.specs.Tree as item
 use Rattle.hp_groves.specs.Grafts.{renumbered_item, renumbered, graft}
 use Rattle.hp_arena.specs.Groves.{behind_document}
-use Rattle.hp_arena.specs.Grafting.{raised_kind, raised_leaf}
-use Rattle.hp_arena.specs.Leaves.{leaf_item, leaf_items, leaf_at, no_doctype, doctype_item, IsDoctypeIn}
+use Rattle.hp_arena.proofs.Grafting.{raised_kind}
+use Rattle.hp_store.specs.Leaves.{leaf_item, leaf_items}
 use Rattle.hp_arena.specs.Nodes.{kind_of, stops, inside, is_end}
-use Rattle.hp_arena.specs.Shape.{IsTree, IsAtHome, item_of, kind_item, no_item, branch_of, branches_of, node_of, tag_at}
-use Rattle.hp_arena.specs.declared.links.Node.{Node}
-use Rattle.hp_arena.specs.declared.links.Kind.{Kind}
-use Rattle.hp_arena.specs.declared.links.Kind.TheVariants.{End, Element, Leaf}
-use Rattle.hp_arena.specs.declared.arena.Element.{Element as ElementOf}
-use Rattle.hp_arena.specs.declared.leaves.Doctype.{Doctype as DoctypeOf}
-use Rattle.hp_arena.specs.declared.leaves.Leaf.{Leaf as LeafOf}
-use Rattle.hp_arena.specs.declared.leaves.Leaf.TheVariants.{Run, Text, Comment, Doctype}
-use Rattle.hp_arena.specs.declared.grafting.Rise.{Rise}
+use Rattle.hp_arena.specs.Shape.{IsTree, IsAtHome, item_of, kind_item, no_item, branch_of, branches_of}
+use Rattle.hp_store.specs.Lists.{node_of, tag_at}
+use Rattle.hp_store.specs.declared.node.Node.{Node}
+use Rattle.hp_store.specs.declared.node.Kind.{Kind}
+use Rattle.hp_store.specs.declared.node.Kind.TheVariants.{End, Element, Leaf}
+use Rattle.hp_store.specs.Store.{Element as ElementOf}
+use Rattle.hp_store.specs.declared.part.Leaf.{Leaf as LeafOf}
+use Rattle.hp_store.specs.declared.node.Counts.{Counts}
 use Rattle.hp_arena.proofs.Paths.{Avoids}
 use Rattle.hp_arena.proofs.Walks.{Inner, inside-inner, inner-below}
 use Rattle.hp_arena.proofs.Shapes.{AreLeaves, make_branch}
 use Rattle.hp_arena.proofs.Branches.{items_of, branch-at}
 use Rattle.hp_arena.proofs.Making.{items-grown}
-use Rattle.hp_arena.proofs.Items.{leaf_items-more}
 use Rattle.hp_arena.proofs.Raised.{IsBehind, AreBehind, avoids, inside-raised}
 
 pub add-turned : (n m : ℕ) → n + m ≡ m + n
 add-turned n m = omega arith
 
--- a leaf whose doctype was raised
-leaf_item-raised : (old more : List DoctypeOf) (leaf : LeafOf) → leaf_item (old ++ more) (raised_leaf (length old) leaf) ≡ leaf_item more leaf
-leaf_item-raised old more (Run run) = refl
-leaf_item-raised old more (Text runs) = refl
-leaf_item-raised old more (Comment text) = refl
-leaf_item-raised old more (Doctype number) =
-    ap (λ n. doctype_item (get_or (old ++ more) n no_doctype)) (add-turned number (length old)) ∙ ap doctype_item (get_or-append-add old more number no_doctype)
-
-leaf_items-raised : (old more : List DoctypeOf) (leaves : List LeafOf) → leaf_items (old ++ more) (map (raised_leaf (length old)) leaves) ≡ leaf_items more leaves
-leaf_items-raised old more [] = refl
-leaf_items-raised old more (leaf ∷ leaves) =
-    let first : leaf_item (old ++ more) (raised_leaf (length old) leaf) ≡ leaf_item more leaf = leaf_item-raised old more leaf in
-    let rest : leaf_items (old ++ more) (map (raised_leaf (length old)) leaves) ≡ leaf_items more leaves = leaf_items-raised old more leaves in cc
-
 -- the leaves with those of a grove behind them
-pub leaf_items-behind : (old more : List DoctypeOf) (leaves others : List LeafOf) → ((number : ℕ) → IsDoctypeIn (length old) (leaf_at leaves number))
-    → leaf_items (old ++ more) (leaves ++ map (raised_leaf (length old)) others) ≡ leaf_items old leaves ++ leaf_items more others
-leaf_items-behind old more leaves others h =
-    map-append (leaf_item (old ++ more)) leaves (map (raised_leaf (length old)) others)
-    ∙ ap (λ xs. xs ++ leaf_items (old ++ more) (map (raised_leaf (length old)) others)) (leaf_items-more old more leaves h)
-    ∙ ap (λ xs. leaf_items old leaves ++ xs) (leaf_items-raised old more others)
+pub leaf_items-behind : (leaves others : List LeafOf) → leaf_items (leaves ++ others) ≡ leaf_items leaves ++ leaf_items others
+leaf_items-behind leaves others = map-append leaf_item leaves others
 
 -- what is no element has no number
 plain-renumbered : (f : ℕ → ℕ) (x : Item) → ((id : ℕ) → is_element id x ≡ false) → renumbered_item f x ≡ x
@@ -83,7 +63,7 @@ graft-length t u =
 make_branch-same : (a b : Option Tag) (xs ys : List Item) → a ≡ b → xs ≡ ys → make_branch a xs ≡ make_branch b ys
 make_branch-same a b xs ys p q = cc
 
-module _ (old grove new : List Node) (oldE groveE newE : List ElementOf) (rise : Rise) (b : IsBehind old grove new rise (node_of groveE 0)) (e : AreBehind oldE groveE newE rise)
+module _ (old grove new : List Node) (oldE groveE newE : List ElementOf) (rise : Counts) (b : IsBehind old grove new rise (node_of groveE 0)) (e : AreBehind oldE groveE newE rise)
     (leaves more : List Item) (t : IsTree old oldE (length leaves)) (g : IsTree grove groveE (length more)) (nothing : inside grove (node_of groveE 0 + 1) ≡ []) (numbers : rise.leaves ≡ length leaves)
     (plain : AreLeaves more) where
   kind-raised : (s : ℕ) (k : Kind) → is_end k ≡ false → s ≢ node_of groveE 0 → IsAtHome groveE (length more) s k

@@ -5,13 +5,14 @@ use Rattle.std.proofs.lemmas.List.{length-append, get_or_append_left, get_or-app
 use Rattle.std.proofs.Math.Seq.{get_or-append_seam}
 use Rattle.hp_control.specs.Tree.{Item}
 use Rattle.hp_arena.specs.Ring.{Path, Follows}
-use Rattle.hp_arena.specs.Nodes.{links_of, kind_of, stops, inside, node_at, blank, is_end, IsRinged, IsClosed}
+use Rattle.hp_arena.specs.Nodes.{links_of, kind_of, stops, inside, is_end, IsRinged, IsClosed}
+use Rattle.hp_store.specs.Lists.{node_at, blank, node_of, no_element, alone}
 use Rattle.std.specs.List.{list_any}
-use Rattle.hp_arena.specs.Shape.{IsTree, IsListed, IsAtHome, node_of, item_of, kind_item, no_item, no_element, alone, with_leaf}
-use Rattle.hp_arena.specs.declared.links.Node.{Node}
-use Rattle.hp_arena.specs.declared.links.Kind.{Kind}
-use Rattle.hp_arena.specs.declared.links.Kind.TheVariants.{End, Element, Leaf}
-use Rattle.hp_arena.specs.declared.arena.Element.{Element as ElementOf}
+use Rattle.hp_arena.specs.Shape.{IsTree, IsListed, IsAtHome, item_of, kind_item, no_item, with_leaf}
+use Rattle.hp_store.specs.declared.node.Node.{Node}
+use Rattle.hp_store.specs.declared.node.Kind.{Kind}
+use Rattle.hp_store.specs.declared.node.Kind.TheVariants.{End, Element, Leaf}
+use Rattle.hp_store.specs.Store.{Element as ElementOf}
 use Rattle.hp_arena.proofs.Walks.{Inner, inside-path, inside-inner, inner-below}
 use Rattle.hp_arena.proofs.Shapes.{stops-end}
 

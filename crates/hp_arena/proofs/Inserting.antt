@@ -3,9 +3,10 @@ use Rattle.std.proofs.Common.{◌≡◌, ◌≢◌, ℕ, ◌+◌, ◌<◌, List,
 use Rattle.std.proofs.lemmas.Bool.{cond_both, true≢false, ne_eqb, cases_eq}
 use Rattle.hp_arena.specs.Ring.{Path, inserted}
 use Rattle.hp_arena.specs.Nodes.{is_end, links_of, stops, inside, IsRinged, IsRelinked}
-use Rattle.hp_arena.specs.Shape.{IsTree, IsListed, node_of}
-use Rattle.hp_arena.specs.declared.links.Node.{Node}
-use Rattle.hp_arena.specs.declared.arena.Element.{Element as ElementOf}
+use Rattle.hp_arena.specs.Shape.{IsTree, IsListed}
+use Rattle.hp_store.specs.Lists.{node_of}
+use Rattle.hp_store.specs.declared.node.Node.{Node}
+use Rattle.hp_store.specs.Store.{Element as ElementOf}
 use Rattle.hp_arena.proofs.Paths.{put_in, Path-inserted, Avoids, alone-not_on_path, is_in, in-put_in, new-put_in, end-put_in}
 use Rattle.hp_arena.proofs.Rings.{Turns, Turns-inserted, alone-inserted}
 use Rattle.hp_arena.proofs.Walks.{Inner, inside-inner, inner-below}

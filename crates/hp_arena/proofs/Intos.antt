@@ -5,10 +5,11 @@ use Rattle.std.proofs.lemmas.List.{map-append, append-nil}
 use Rattle.hp_control.specs.Tree.{Item, Element, Text, Comment, Doctype, beside, put_last, in_one}
 use Rattle.hp_arena.specs.Ring.{Links, Path, inserted}
 use Rattle.hp_arena.specs.Nodes.{links_of, kind_of, stops, inside, IsRelinked}
-use Rattle.hp_arena.specs.Shape.{IsTree, item_of, branches_of, node_of}
-use Rattle.hp_arena.specs.declared.links.Node.{Node}
-use Rattle.hp_arena.specs.declared.links.Kind.TheVariants as kind
-use Rattle.hp_arena.specs.declared.arena.Element.{Element as ElementOf}
+use Rattle.hp_arena.specs.Shape.{IsTree, item_of, branches_of}
+use Rattle.hp_store.specs.Lists.{node_of}
+use Rattle.hp_store.specs.declared.node.Node.{Node}
+use Rattle.hp_store.specs.declared.node.Kind.TheVariants as kind
+use Rattle.hp_store.specs.Store.{Element as ElementOf}
 use Rattle.hp_arena.proofs.Walks.{inside-inner}
 use Rattle.hp_arena.proofs.Shapes.{stops-end}
 use Rattle.hp_arena.proofs.Detaching.{map-same_items}

@@ -1,9 +1,13 @@
 -- The levels along the links, one link after the other.
 use Rattle.std.proofs.Common.{◌≡◌, ◌≤◌, ◌+◌, ◌-◌, ◌*◌, ◌^◌, ℕ, zero, suc, List, Option, Some, None, max, min, refl, ap, ◌∙◌, arith}
-use Rattle.hp_arena.specs.declared.links.Node.{Node}
-use Rattle.hp_arena.specs.declared.links.Kind.{Kind}
-use Rattle.hp_arena.specs.declared.links.Kind.TheVariants.{End, Element, Leaf}
+use Rattle.hp_store.specs.declared.node.Node.{Node}
+use Rattle.hp_store.specs.declared.node.Kind.{Kind}
+use Rattle.hp_store.specs.declared.node.Kind.TheVariants.{End, Element, Leaf}
 use Rattle.hp_arena.specs.Levels.{Link, counted, deepest_from, level_after, link_at, onward, summed_from}
+
+-- a link as the code tells it, with the part that it leads into
+abbrev pub told : ℕ × Kind × ℕ → Link
+told link = record { to = link.0; kind = link.1 }
 
 -- a level rises by one at most
 pub level_near : (kind : Kind) (level : ℕ) → level_after kind level ≤ level + 1

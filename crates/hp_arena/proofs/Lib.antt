@@ -25,8 +25,11 @@ pub mod Tagging
 pub mod RootItems
 pub mod Grown
 pub mod LevelLemmas
+pub mod Grafting
 pub mod Raised
-pub mod Turning
 pub mod Grafted
 pub mod Raises
 pub mod Behind
+pub mod Linking
+pub mod Relinking
+pub mod Elements

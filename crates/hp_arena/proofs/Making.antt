@@ -4,9 +4,10 @@ use Rattle.std.proofs.lemmas.Bool.{true≢false}
 use Rattle.std.proofs.lemmas.List.{map-append, append-nil}
 use Rattle.hp_control.specs.Tree.{Item}
 use Rattle.hp_arena.specs.Nodes.{inside}
-use Rattle.hp_arena.specs.Shape.{IsTree, item_of, branch_of, branches_of, node_of}
-use Rattle.hp_arena.specs.declared.links.Node.{Node}
-use Rattle.hp_arena.specs.declared.arena.Element.{Element as ElementOf}
+use Rattle.hp_arena.specs.Shape.{IsTree, item_of, branch_of, branches_of}
+use Rattle.hp_store.specs.Lists.{node_of}
+use Rattle.hp_store.specs.declared.node.Node.{Node}
+use Rattle.hp_store.specs.Store.{Element as ElementOf}
 use Rattle.hp_arena.proofs.Walks.{inside-inner}
 use Rattle.hp_arena.proofs.Shapes.{make_branch}
 use Rattle.hp_arena.proofs.Growing.{IsGrown, with_element, IsAdded-element, inside-new, inside-grown, map-grown_items}

@@ -6,9 +6,10 @@ use Rattle.std.proofs.Math.ListN.{length-set}
 use Rattle.hp_control.specs.Tree.{Item, Tree, branch, no_branch, with_inside, in_one, children_moved}
 use Rattle.hp_arena.specs.Ring.{Path, spliced}
 use Rattle.hp_arena.specs.Nodes.{is_end, links_of, stops, inside, IsRinged, IsRelinked}
-use Rattle.hp_arena.specs.Shape.{IsTree, IsListed, branches_of, branch_of, node_of, item_of, no_element}
-use Rattle.hp_arena.specs.declared.links.Node.{Node}
-use Rattle.hp_arena.specs.declared.arena.Element.{Element as ElementOf}
+use Rattle.hp_arena.specs.Shape.{IsTree, IsListed, branches_of, branch_of, item_of}
+use Rattle.hp_store.specs.Lists.{node_of, no_element}
+use Rattle.hp_store.specs.declared.node.Node.{Node}
+use Rattle.hp_store.specs.Store.{Element as ElementOf}
 use Rattle.hp_arena.proofs.Paths.{is_in, in-append_left, in-append_right}
 use Rattle.hp_arena.proofs.Rings.{Turns, alone-spliced}
 use Rattle.hp_arena.proofs.Walks.{Inner, inside-inner, inside-path}

@@ -7,9 +7,10 @@ use Rattle.hp_control.specs.declared.edit.Ref.{Ref}
 use Rattle.hp_control.specs.declared.edit.Place.TheVariants.{Into, Foster}
 use Rattle.hp_arena.specs.Ring.{inserted}
 use Rattle.hp_arena.specs.Nodes.{links_of, stops, inside, IsRelinked, end_from}
-use Rattle.hp_arena.specs.Shape.{IsTree, item_of, branches_of, node_of, at_of, IsPlaceIn}
-use Rattle.hp_arena.specs.declared.links.Node.{Node}
-use Rattle.hp_arena.specs.declared.arena.Element.{Element as ElementOf}
+use Rattle.hp_arena.specs.Shape.{IsTree, item_of, branches_of, at_of, IsPlaceIn}
+use Rattle.hp_store.specs.Lists.{node_of}
+use Rattle.hp_store.specs.declared.node.Node.{Node}
+use Rattle.hp_store.specs.Store.{Element as ElementOf}
 use Rattle.hp_arena.proofs.Detaching.{node-below, end-not_node, map-same_items}
 use Rattle.hp_arena.proofs.Fosters.{put_before-path, has_parent-none, has_parent-some, tests-own, distinct, inner-own, stands_in-document}
 use Rattle.hp_arena.proofs.Growing.{IsGrown, next-grown}

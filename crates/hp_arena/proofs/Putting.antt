@@ -5,10 +5,11 @@ use Rattle.hp_control.specs.Tree.{detached, put, Element, Item}
 use Rattle.hp_control.specs.declared.edit.Place.{Place}
 use Rattle.hp_arena.specs.Nodes.{links_of, IsRelinked, kind_of, stops, is_end}
 use Rattle.hp_arena.specs.Ring.{unlinked, inserted}
-use Rattle.hp_arena.specs.Shape.{IsTree, node_of, branches_of, item_of, kind_item, at_of, IsPlaceIn}
-use Rattle.hp_arena.specs.declared.links.Node.{Node}
-use Rattle.hp_arena.specs.declared.links.Kind.TheVariants as kind
-use Rattle.hp_arena.specs.declared.arena.Element.{Element as ElementOf}
+use Rattle.hp_arena.specs.Shape.{IsTree, branches_of, item_of, kind_item, at_of, IsPlaceIn}
+use Rattle.hp_store.specs.Lists.{node_of}
+use Rattle.hp_store.specs.declared.node.Node.{Node}
+use Rattle.hp_store.specs.declared.node.Kind.TheVariants as kind
+use Rattle.hp_store.specs.Store.{Element as ElementOf}
 use Rattle.hp_arena.proofs.Shapes.{AreLeaves}
 use Rattle.hp_arena.proofs.Detaching.{IsTree-detached, branches-detached}
 use Rattle.hp_arena.proofs.Intos.{element-apart, StaysApart}

@@ -4,20 +4,21 @@ use Rattle.std.specs.List.{list_any}
 use Rattle.std.proofs.lemmas.Bool.{true≢false, cases_lt, cases_eq, or_cases, eqb-true, eq-eqb}
 use Rattle.hp_arena.specs.Ring.{Path, Follows}
 use Rattle.hp_arena.specs.Nodes.{links_of, kind_of, stops, inside, is_end}
-use Rattle.hp_arena.specs.Shape.{IsTree, IsListed, IsAtHome, node_of, tag_at}
-use Rattle.hp_arena.specs.Grafting.{raised_kind}
-use Rattle.hp_arena.specs.declared.links.Node.{Node}
-use Rattle.hp_arena.specs.declared.links.Kind.{Kind}
-use Rattle.hp_arena.specs.declared.links.Kind.TheVariants.{End, Element, Leaf}
-use Rattle.hp_arena.specs.declared.arena.Element.{Element as ElementOf}
-use Rattle.hp_arena.specs.declared.grafting.Rise.{Rise}
+use Rattle.hp_arena.specs.Shape.{IsTree, IsListed, IsAtHome}
+use Rattle.hp_store.specs.Lists.{node_of, tag_at}
+use Rattle.hp_arena.proofs.Grafting.{raised_kind}
+use Rattle.hp_store.specs.declared.node.Node.{Node}
+use Rattle.hp_store.specs.declared.node.Kind.{Kind}
+use Rattle.hp_store.specs.declared.node.Kind.TheVariants.{End, Element, Leaf}
+use Rattle.hp_store.specs.Store.{Element as ElementOf}
+use Rattle.hp_store.specs.declared.node.Counts.{Counts}
 use Rattle.hp_arena.proofs.Paths.{Avoids, alone-not_on_path, or-left, or-right}
 use Rattle.hp_arena.proofs.Walks.{Inner, inside-path, inside-inner, inner-below}
 use Rattle.hp_arena.proofs.Detaching.{end-not_node, node-below}
 use Rattle.hp_arena.proofs.Growing.{IsGrown, kind-grown, next-grown, prev-grown, inside-grown, ring-grown}
 
 -- the nodes of a grove stand behind those that were there, raised; the node of its document is no element any more
-pub record IsBehind (old grove new : List Node) (rise : Rise) (document : ℕ) : Type 0 where
+pub record IsBehind (old grove new : List Node) (rise : Counts) (document : ℕ) : Type 0 where
   pub grown : IsGrown old new
   pub by : rise.nodes ≡ length old
   pub count : length new ≡ length old + length grove
@@ -27,7 +28,7 @@ pub record IsBehind (old grove new : List Node) (rise : Rise) (document : ℕ) :
   pub blank : kind_of new (document + rise.nodes) ≡ End rise.elements
 
 -- and its elements but the document behind those that were there
-pub record AreBehind (old grove new : List ElementOf) (rise : Rise) : Type 0 where
+pub record AreBehind (old grove new : List ElementOf) (rise : Counts) : Type 0 where
   pub some : 0 < length grove
   pub by : rise.elements + 1 ≡ length old
   pub count : length new ≡ rise.elements + length grove
@@ -36,13 +37,13 @@ pub record AreBehind (old grove new : List ElementOf) (rise : Rise) : Type 0 whe
   pub tag_kept : (id : ℕ) → id < length old → tag_at new id ≡ tag_at old id
   pub tag_raised : (id : ℕ) → 0 < id → id < length grove → tag_at new (id + rise.elements) ≡ tag_at grove id
 
-pub is_end-raised : (rise : Rise) (k : Kind) → is_end (raised_kind rise k) ≡ is_end k
+pub is_end-raised : (rise : Counts) (k : Kind) → is_end (raised_kind rise k) ≡ is_end k
 is_end-raised rise (End id) = refl
 is_end-raised rise (Element id) = refl
 is_end-raised rise (Leaf number) = refl
 
 -- a leaf that was raised
-leaf-lowered : (rise : Rise) (k : Kind) (number : ℕ) → raised_kind rise k ≡ Leaf number → (low : ℕ) × ((k ≡ Leaf low) × (number ≡ low + rise.leaves))
+leaf-lowered : (rise : Counts) (k : Kind) (number : ℕ) → raised_kind rise k ≡ Leaf number → (low : ℕ) × ((k ≡ Leaf low) × (number ≡ low + rise.leaves))
 leaf-lowered rise (End id) number h = let e : End (id + rise.elements) ≡ Leaf number = h in absurd (cc e)
 leaf-lowered rise (Element id) number h = let e : Element (id + rise.elements) ≡ Leaf number = h in absurd (cc e)
 leaf-lowered rise (Leaf low) number h =
@@ -61,7 +62,7 @@ in-raised by s (x ∷ xs) h =
 one_more : (n by : ℕ) → n + 1 + by ≡ n + by + 1
 one_more n by = omega arith
 
-module _ (old grove new : List Node) (oldE groveE newE : List ElementOf) (rise : Rise) (b : IsBehind old grove new rise (node_of groveE 0)) (e : AreBehind oldE groveE newE rise)
+module _ (old grove new : List Node) (oldE groveE newE : List ElementOf) (rise : Counts) (b : IsBehind old grove new rise (node_of groveE 0)) (e : AreBehind oldE groveE newE rise)
     (leaves more : ℕ) (t : IsTree old oldE leaves) (g : IsTree grove groveE more) (nothing : inside grove (node_of groveE 0 + 1) ≡ []) (numbers : rise.leaves ≡ leaves) where
   Follows-raised : (x y : ℕ) → x < length grove → y < length grove → Follows (links_of grove) x y → Follows (links_of new) (x + rise.nodes) (y + rise.nodes)
   Follows-raised x y hx hy f = record { ahead = b.next x hx ∙ ap (λ n. n + rise.nodes) f.ahead; back = b.prev y hy ∙ ap (λ n. n + rise.nodes) f.back }

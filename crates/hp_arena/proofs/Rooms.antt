@@ -1,17 +1,14 @@
 -- The room after an edit.
-use Rattle.std.proofs.Common.{◌≡◌, ◌≢◌, None, ℕ, ◌+◌, ◌-◌, ◌*◌, ◌^◌, ◌<◌, ◌≤◌, List, [], ◌∷◌, ◌++◌, length, All, arith, ap, subst, sym, ◌∙◌, vec_len, vec_capacity, Vec, Global, slice_index_or, inl, inr}
+use Rattle.std.proofs.Common.{◌≡◌, ℕ, ◌+◌, ◌-◌, ◌^◌, ◌<◌, ◌≤◌, List, [], ◌∷◌, ◌++◌, length, All, arith, ap, subst, sym, ◌∙◌, vec_len, slice_index_or, inl, inr}
 use Rattle.std.proofs.lemmas.Bool.{cases_lt, cases_eq}
 use Rattle.std.proofs.lemmas.List.{get_or_append_left, get_or_past, length-append}
 use Rattle.std.proofs.Math.Seq.{get_or-append_seam}
-use Rattle.std.specs.Vec.{with_items}
-use Rattle.std.proofs.lemmas.List.{with_items_is}
-use Rattle.hp_arena.specs.Leaves.{IsCell, run_count, leaf_at, no_leaf, IsDoctypeIn, IsTextAdded}
-use Rattle.hp_arena.specs.Room.{IsWidened}
-use Rattle.hp_arena.specs.Shape.{IsSound, IsTree, HasRoom, attribute_count, tag_at, no_element}
+use Rattle.hp_store.specs.Leaves.{IsCell, run_count, IsTextAdded}
+use Rattle.hp_store.specs.Lists.{attribute_count, leaf_at, no_leaf, node_of, tag_at, no_element}
+use Rattle.hp_store.specs.Store.{Element as ElementOf, HasFree, KeepsFree}
+use Rattle.hp_store.specs.declared.part.Leaf.{Leaf as LeafOf}
+use Rattle.hp_arena.specs.Shape.{IsSound, IsTree, HasRoom}
 use Rattle.hp_arena.specs.declared.arena.Arena.TheInside.{Inside}
-use Rattle.hp_arena.specs.declared.arena.Element.{Element as ElementOf}
-use Rattle.hp_arena.specs.declared.leaves.Leaf.{Leaf as LeafOf}
-use Rattle.hp_arena.specs.declared.leaves.Leaf.TheVariants.{Run, Text, Comment, Doctype}
 
 -- what holds of each leaf and of one more
 pub each-leaf : (P : LeafOf → Type 0) (leaves : List LeafOf) (leaf : LeafOf) → P no_leaf → P leaf → ((k : ℕ) → P (leaf_at leaves k)) → (k : ℕ) → P (leaf_at (leaves ++ leaf ∷ []) k)
@@ -39,53 +36,29 @@ each-element P elements e none last all k =
       ]
     ]
 
--- each element but the document has a tag, also one more
-pub tags-more : (elements : List ElementOf) (e : ElementOf) → e.tag ≢ None → ((id : ℕ) → 0 < id → id < length elements → tag_at elements id ≢ None) → (id : ℕ) → 0 < id → id < length (elements ++ e ∷ []) → tag_at (elements ++ e ∷ []) id ≢ None
-tags-more elements e own all id some h =
-    elim (cases_lt id (length elements)) [
-      | inl below ↦ subst (λ x. x.tag ≢ None) (sym (get_or_append_left elements (e ∷ []) no_element id below)) (all id some below)
-      | inr past ↦
-          let same : id ≡ length elements = omega (arith, length-append elements (e ∷ [])) in
-          subst (λ i. tag_at (elements ++ e ∷ []) i ≢ None) (sym same) (subst (λ x. x.tag ≢ None) (sym (get_or-append_seam elements e [] no_element)) own)
-    ]
-
-pub doctype-more : (n m : ℕ) (leaf : LeafOf) → n ≤ m → IsDoctypeIn n leaf → IsDoctypeIn m leaf
-doctype-more n m (Run run) le h = h
-doctype-more n m (Text runs) le h = h
-doctype-more n m (Comment text) le h = h
-doctype-more n m (Doctype number) le h = omega arith
-
 -- one more leaf and its node, for one place of the room
-pub IsSound-leaf : (a b : Inside) (leaf : LeafOf) → IsSound a → 0 < a.spare → run_count leaf ≤ 1
-    → b.elements ≡ a.elements → b.spare ≡ a.spare - 1 → a.used ≤ b.used → b.used ≤ a.used + 1 → (run_count leaf ≤ b.used)
-    → vec_len b.nodes ≡ vec_len a.nodes + 1 → vec_capacity a.nodes ≤ vec_capacity b.nodes
-    → vec_len b.leaves ≡ vec_len a.leaves + 1 → vec_capacity a.leaves ≤ vec_capacity b.leaves
-    → vec_len a.doctypes ≤ vec_len b.doctypes → vec_len b.doctypes ≤ vec_len a.doctypes + 1 → vec_capacity a.doctypes ≤ vec_capacity b.doctypes
-    → b.leaves.items ≡ a.leaves.items ++ leaf ∷ []
-    → IsDoctypeIn (length b.doctypes.items) leaf
+pub IsSound-leaf : (a b : Inside) (leaf : LeafOf) → IsSound a → 0 < a.spare → b.store.elements ≡ a.store.elements → b.spare ≡ a.spare - 1 → a.used ≤ b.used → b.used ≤ a.used + 1 → run_count leaf ≤ b.used
+    → length b.store.nodes ≡ length a.store.nodes + 1 → b.store.leaves ≡ a.store.leaves ++ leaf ∷ []
+    → a.store.free.nodes ≤ b.store.free.nodes + 1 → a.store.free.elements ≤ b.store.free.elements → a.store.free.leaves ≤ b.store.free.leaves + 1
     → b.spare ≤ vec_len b.cells → All IsCell b.cells.items
-    → IsTree b.nodes.items b.elements.items (length b.leaves.items) → IsSound b
-IsSound-leaf a b leaf sound some few elements spare used used' enough nodes_len nodes_cap leaves_len leaves_cap doctypes_len doctypes_len' doctypes_cap leaves doctype cells cell tree =
+    → IsTree b.store.nodes b.store.elements (length b.store.leaves) → IsSound b
+IsSound-leaf a b leaf sound some elements spare used used' enough count leaves nodes_left elements_left leaves_left cells cell tree =
     let room = sound.room in
-    let count : vec_len b.elements ≡ vec_len a.elements = ap (λ v. vec_len v) elements in
-    let capacity : vec_capacity b.elements ≡ vec_capacity a.elements = ap (λ v. vec_capacity v) elements in
-    let docs : length a.doctypes.items ≤ length b.doctypes.items = omega (arith, a.doctypes.ok.0, b.doctypes.ok.0) in
+    let ids : length b.store.elements ≡ length a.store.elements = ap length elements in
+    let more : length b.store.leaves ≡ length a.store.leaves + 1 = ap length leaves ∙ length-append a.store.leaves (leaf ∷ []) in
     record {
-      document = subst (λ v. 0 < length v.items) (sym elements) sound.document;
-      tags = subst (λ v. (id : ℕ) → 0 < id → id < length v.items → tag_at v.items id ≢ None) (sym elements) sound.tags;
+      document = omega (arith, sound.document);
+      first = ap (λ es. node_of es 0) elements ∙ sound.first;
       tree = tree;
-      doctypes = rw leaves (each-leaf (λ l. IsDoctypeIn (length b.doctypes.items) l) a.leaves.items leaf tt doctype (λ k. doctype-more (length a.doctypes.items) (length b.doctypes.items) (leaf_at a.leaves.items k) docs (sound.doctypes k)));
       room = record {
         nodes = omega (arith, room.nodes);
-        numbers = omega (arith, room.numbers);
         elements = omega (arith, room.elements);
         leaves = omega (arith, room.leaves);
-        doctypes = omega (arith, room.doctypes);
+        numbers = omega (arith, room.numbers);
         ids = omega (arith, room.ids);
         leaf_numbers = omega (arith, room.leaf_numbers);
-        doctype_numbers = omega (arith, room.doctype_numbers);
-        runs = rw leaves (each-leaf (λ l. run_count l ≤ b.used) a.leaves.items leaf (omega arith) enough (λ k. omega (arith, room.runs k)));
-        attributes = λ k. subst (λ v. attribute_count (tag_at v.items k) ≤ b.used) (sym elements) (omega (arith, room.attributes k));
+        runs = rw leaves (each-leaf (λ l. run_count l ≤ b.used) a.store.leaves leaf (omega arith) enough (λ k. omega (arith, room.runs k)));
+        attributes = λ k. subst (λ es. attribute_count (tag_at es k) ≤ b.used) (sym elements) (omega (arith, room.attributes k));
         used = omega (arith, room.used);
         cells = cells;
         cell = cell;
@@ -93,67 +66,70 @@ IsSound-leaf a b leaf sound some few elements spare used used' enough nodes_len 
     }
 
 -- one text more within a leaf, for one place of the room
-pub IsSound-text : (a : Inside) (leaves : List LeafOf) (cells : Vec (List (List ℕ)) Global) (number : ℕ) (text : List ℕ) → IsSound a → 0 < a.spare → IsTextAdded a.leaves.items leaves number text
-    → a.spare - 1 ≤ vec_len cells → All IsCell cells.items
-    → IsSound (record a { leaves = with_items a.leaves leaves; cells = cells; spare = a.spare - 1; used = a.used + 1 })
-IsSound-text a leaves cells number text sound some more enough cell =
+pub IsSound-text : (a b : Inside) (number : ℕ) (text : List ℕ) → IsSound a → 0 < a.spare → b.store ≡ record a.store { leaves = b.store.leaves } → IsTextAdded a.store.leaves b.store.leaves number text
+    → b.spare ≡ a.spare - 1 → b.used ≡ a.used + 1 → b.spare ≤ vec_len b.cells → All IsCell b.cells.items → IsSound b
+IsSound-text a b number text sound some rest more spare used enough cell =
     let room = sound.room in
-    let kept : (with_items a.leaves leaves).items ≡ leaves = with_items_is a.leaves leaves (more.count ∙ sym a.leaves.ok.0) in
-    let count : length leaves ≡ length a.leaves.items = more.count in
+    let nodes : b.store.nodes ≡ a.store.nodes = ap (λ s. s.nodes) rest in
+    let elements : b.store.elements ≡ a.store.elements = ap (λ s. s.elements) rest in
+    let free : b.store.free ≡ a.store.free = ap (λ s. s.free) rest in
+    let count : length b.store.leaves ≡ length a.store.leaves = more.count in
     record {
-      document = sound.document;
-      tags = sound.tags;
-      tree = subst (λ n. IsTree a.nodes.items a.elements.items n) (sym (ap length kept ∙ count)) sound.tree;
-      doctypes = rw kept (λ k. more.doctypes (length a.doctypes.items) k (sound.doctypes k));
+      document = subst (λ es. 0 < length es) (sym elements) sound.document;
+      first = ap (λ es. node_of es 0) elements ∙ sound.first;
+      tree = rw (nodes, elements, count) sound.tree;
       room = record {
-        nodes = omega (arith, room.nodes);
-        numbers = omega (arith, room.numbers);
-        elements = omega (arith, room.elements);
-        leaves = omega (arith, room.leaves);
-        doctypes = omega (arith, room.doctypes);
-        ids = omega (arith, room.ids);
+        nodes = rw free (omega (arith, room.nodes));
+        elements = rw free (omega (arith, room.elements));
+        leaves = rw free (omega (arith, room.leaves));
+        numbers = rw nodes (omega (arith, room.numbers));
+        ids = rw elements (omega (arith, room.ids));
         leaf_numbers = omega (arith, room.leaf_numbers);
-        doctype_numbers = omega (arith, room.doctype_numbers);
-        runs = rw kept (λ k. omega (arith, room.runs k, more.runs k));
-        attributes = λ k. omega (arith, room.attributes k);
+        runs = λ k. omega (arith, room.runs k, more.runs k);
+        attributes = λ k. rw elements (omega (arith, room.attributes k));
         used = omega (arith, room.used);
         cells = enough;
         cell = cell;
       };
     }
 
--- the same tree, in lists that may be wider
-module _ (a b : Inside) (sound : IsSound a) (nodes : IsWidened a.nodes b.nodes) (elements : IsWidened a.elements b.elements) (leaves : IsWidened a.leaves b.leaves) (doctypes : IsWidened a.doctypes b.doctypes)
-    (used : b.used ≡ a.used) (cell : All IsCell b.cells.items) where
-  runs : (number : ℕ) → run_count (leaf_at b.leaves.items number) ≤ b.used
-  runs = rw (leaves.items, used) sound.room.runs
+-- the same tree, with memory that may be more
+module _ (a b : Inside) (sound : IsSound a) (rest : b.store ≡ record a.store { free = b.store.free }) (used : b.used ≡ a.used) (cell : All IsCell b.cells.items) where
+  nodes : b.store.nodes ≡ a.store.nodes
+  nodes = ap (λ s. s.nodes) rest
 
-  attributes : (id : ℕ) → attribute_count (tag_at b.elements.items id) ≤ b.used
-  attributes = rw (elements.items, used) sound.room.attributes
+  elements : b.store.elements ≡ a.store.elements
+  elements = ap (λ s. s.elements) rest
+
+  leaves : b.store.leaves ≡ a.store.leaves
+  leaves = ap (λ s. s.leaves) rest
+
+  runs : (number : ℕ) → run_count (leaf_at b.store.leaves number) ≤ b.used
+  runs = rw (leaves, used) sound.room.runs
+
+  attributes : (id : ℕ) → attribute_count (tag_at b.store.elements id) ≤ b.used
+  attributes = rw (elements, used) sound.room.attributes
 
   IsSound-same : HasRoom b → IsSound b
   IsSound-same room = record {
-    document = rw elements.items sound.document;
-    tags = rw elements.items sound.tags;
-    tree = rw (nodes.items, elements.items, leaves.items) sound.tree;
-    doctypes = rw (leaves.items, doctypes.items) sound.doctypes;
+    document = rw elements sound.document;
+    first = rw elements sound.first;
+    tree = rw (nodes, elements, leaves) sound.tree;
     room = room;
   }
 
   -- with the room that was there
-  pub IsSound-wider : b.spare ≡ a.spare → vec_len a.cells ≤ vec_len b.cells → IsSound b
-  IsSound-wider spare more =
+  pub IsSound-wider : KeepsFree a.store.free b.store.free → b.spare ≡ a.spare → vec_len a.cells ≤ vec_len b.cells → IsSound b
+  IsSound-wider kept spare more =
       let room = sound.room in
       IsSound-same
       (record {
-        nodes = omega (arith, room.nodes);
-        numbers = omega (arith, room.numbers);
-        elements = omega (arith, room.elements);
-        leaves = omega (arith, room.leaves);
-        doctypes = omega (arith, room.doctypes);
-        ids = omega (arith, room.ids);
-        leaf_numbers = omega (arith, room.leaf_numbers);
-        doctype_numbers = omega (arith, room.doctype_numbers);
+        nodes = omega (arith, room.nodes, kept.nodes);
+        elements = omega (arith, room.elements, kept.elements);
+        leaves = omega (arith, room.leaves, kept.leaves);
+        numbers = rw nodes (omega (arith, room.numbers));
+        ids = rw elements (omega (arith, room.ids));
+        leaf_numbers = rw leaves (omega (arith, room.leaf_numbers));
         runs = runs;
         attributes = attributes;
         used = omega (arith, room.used);
@@ -161,21 +137,37 @@ module _ (a b : Inside) (sound : IsSound a) (nodes : IsWidened a.nodes b.nodes) 
         cell = cell;
       })
 
-  -- and with more room
-  pub IsSound-widened : vec_len b.nodes + 2 * b.spare ≤ vec_capacity b.nodes → vec_len b.elements + b.spare ≤ vec_capacity b.elements → vec_len b.leaves + b.spare ≤ vec_capacity b.leaves
-      → vec_len b.doctypes + b.spare ≤ vec_capacity b.doctypes → b.spare ≤ vec_len b.cells → b.spare ≤ 2 ^ 29
-      → vec_len a.nodes ≤ 2 ^ 29 → vec_len a.elements ≤ 2 ^ 29 → vec_len a.leaves ≤ 2 ^ 29 → vec_len a.doctypes ≤ 2 ^ 29 → a.used ≤ 2 ^ 29 → IsSound b
-  IsSound-widened nodes_room elements_room leaves_room doctypes_room cells_room few few_nodes few_elements few_leaves few_doctypes few_used =
+  -- with none
+  pub IsSound-bare : b.spare ≡ 0 → IsSound b
+  IsSound-bare none =
+      let room = sound.room in
       IsSound-same
       (record {
-        nodes = nodes_room;
-        numbers = omega arith;
-        elements = elements_room;
-        leaves = leaves_room;
-        doctypes = doctypes_room;
-        ids = omega arith;
-        leaf_numbers = omega arith;
-        doctype_numbers = omega arith;
+        nodes = omega arith;
+        elements = omega arith;
+        leaves = omega arith;
+        numbers = rw nodes (omega (arith, room.numbers));
+        ids = rw elements (omega (arith, room.ids));
+        leaf_numbers = rw leaves (omega (arith, room.leaf_numbers));
+        runs = runs;
+        attributes = attributes;
+        used = omega (arith, room.used);
+        cells = omega arith;
+        cell = cell;
+      })
+
+  -- and with more room
+  pub IsSound-widened : HasFree b.store.free b.spare → b.spare ≤ vec_len b.cells → b.spare ≤ 2 ^ 29
+      → length a.store.nodes ≤ 2 ^ 29 → length a.store.elements ≤ 2 ^ 29 + 1 → length a.store.leaves ≤ 2 ^ 29 → a.used ≤ 2 ^ 29 → IsSound b
+  IsSound-widened free cells_room few few_nodes few_elements few_leaves few_used =
+      IsSound-same
+      (record {
+        nodes = free.nodes;
+        elements = free.elements;
+        leaves = free.leaves;
+        numbers = rw nodes (omega arith);
+        ids = rw elements (omega arith);
+        leaf_numbers = rw leaves (omega arith);
         runs = runs;
         attributes = attributes;
         used = omega arith;

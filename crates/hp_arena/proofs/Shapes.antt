@@ -7,11 +7,12 @@ use Rattle.hp_elements.specs.declared.tag.Tag.{Tag}
 use Rattle.hp_control.specs.Tree.{Branch, Item, is_element, in_each, with_inside, no_branch}
 use Rattle.hp_arena.specs.Ring.{Path}
 use Rattle.hp_arena.specs.Nodes.{links_of, kind_of, is_end, stops, inside, IsRinged, IsClosed, SameKinds}
-use Rattle.hp_arena.specs.Shape.{IsTree, IsAtHome, item_of, kind_item, branch_of, branches_of, node_of, no_element, no_item}
-use Rattle.hp_arena.specs.declared.links.Node.{Node}
-use Rattle.hp_arena.specs.declared.links.Kind.{Kind}
-use Rattle.hp_arena.specs.declared.links.Kind.TheVariants.{End, Element, Leaf}
-use Rattle.hp_arena.specs.declared.arena.Element.{Element as ElementOf}
+use Rattle.hp_arena.specs.Shape.{IsTree, IsAtHome, item_of, kind_item, branch_of, branches_of, no_item}
+use Rattle.hp_store.specs.Lists.{node_of, no_element}
+use Rattle.hp_store.specs.declared.node.Node.{Node}
+use Rattle.hp_store.specs.declared.node.Kind.{Kind}
+use Rattle.hp_store.specs.declared.node.Kind.TheVariants.{End, Element, Leaf}
+use Rattle.hp_store.specs.Store.{Element as ElementOf}
 use Rattle.hp_arena.proofs.Paths.{without_node}
 use Rattle.hp_arena.proofs.Walks.{Inner, inside-path, inner-below}
 

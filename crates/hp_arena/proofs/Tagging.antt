@@ -1,12 +1,10 @@
 -- An element gets another tag.
-use Rattle.std.proofs.Common.{◌≡◌, ◌≢◌, ℕ, suc, ◌+◌, ◌-◌, ◌<◌, ◌≤◌, ◌==◌, List, [], ◌∷◌, ◌++◌, true, length, refl, sym, ap, ◌∙◌, subst, arith, get_or, inl, inr, Option, Some, None}
+use Rattle.std.proofs.Common.{◌≡◌, ℕ, suc, ◌+◌, ◌-◌, ◌<◌, ◌≤◌, ◌==◌, List, [], ◌∷◌, ◌++◌, true, length, sym, ap, ◌∙◌, subst, arith, get_or, inl, inr, Option, Some, None}
 use Rattle.std.specs.List.{list_any}
-use Rattle.std.proofs.lemmas.Bool.{cases_eq}
-use Rattle.std.proofs.lemmas.List.{get_or-set_same, get_or-set_other, length-set, map-set}
+use Rattle.std.proofs.lemmas.Bool.{cases_eq, cond_both}
+use Rattle.std.proofs.lemmas.List.{get_or-set_same, get_or-set_other, length-set, map-set, length-append}
 use Rattle.std.proofs.Math.ListN.{set}
-use Rattle.std.specs.Vec.{with_items}
-use Rattle.std.proofs.lemmas.Bool.{cond_both}
-use Rattle.std.proofs.lemmas.List.{length-append, with_items_is}
+use Rattle.hp_store.specs.Leaves.{leaf_items}
 use Rattle.hp_elements.specs.declared.tag.Tag.{Tag}
 use Rattle.hp_elements.specs.declared.tag.Attribute.{Attribute}
 use Rattle.hp_arena.specs.Arena.{Seen}
@@ -14,11 +12,12 @@ use Rattle.hp_arena.specs.declared.arena.Arena.TheInside.{Inside}
 use Rattle.hp_control.specs.Tree.{Item, branch, with_tag, has_name, with_missing, with_attributes}
 use Rattle.hp_arena.specs.Ring.{Path}
 use Rattle.hp_arena.specs.Nodes.{links_of, kind_of, inside}
-use Rattle.hp_arena.specs.Shape.{IsTree, IsAtHome, IsListed, IsSound, seen, items_in, with_tag_at, branch_of, branches_of, node_of, no_element, tag_at, attribute_count}
-use Rattle.hp_arena.specs.declared.links.Node.{Node}
-use Rattle.hp_arena.specs.declared.links.Kind.{Kind}
-use Rattle.hp_arena.specs.declared.links.Kind.TheVariants.{End, Element, Leaf}
-use Rattle.hp_arena.specs.declared.arena.Element.{Element as ElementOf}
+use Rattle.hp_arena.specs.Shape.{IsTree, IsAtHome, IsListed, IsSound, seen, items_in, branch_of, branches_of}
+use Rattle.hp_store.specs.Lists.{with_tag_at, node_of, no_element, tag_at, attribute_count}
+use Rattle.hp_store.specs.declared.node.Node.{Node}
+use Rattle.hp_store.specs.declared.node.Kind.{Kind}
+use Rattle.hp_store.specs.declared.node.Kind.TheVariants.{End, Element, Leaf}
+use Rattle.hp_store.specs.Store.{Element as ElementOf}
 use Rattle.hp_arena.proofs.Branches.{branch-at}
 use Rattle.hp_arena.proofs.Shapes.{make_branch}
 
@@ -64,13 +63,6 @@ module _ (old : List ElementOf) (id : ℕ) (tag : Option Tag) (h : id < length o
     root = λ some. ap (links_of nodes).next (same 0) ∙ t.root (subst (λ n. 0 < n) count some) ∙ sym (same 0);
   }
 
-  pub tags-kept : ((k : ℕ) → 0 < k → k < length old → tag_at old k ≢ None) → (0 < id → tag ≢ None) → (k : ℕ) → 0 < k → k < length new → tag_at new k ≢ None
-  tags-kept all own k some hk =
-      elim (cases_eq k id) [
-        | inl e ↦ λ none. own (subst (λ n. 0 < n) e some) (sym (ap (λ x. x.tag) (get_or-set_same old id (retagged (get_or old id no_element) tag) no_element h)) ∙ ap (tag_at new) (sym e) ∙ none)
-        | inr e ↦ λ none. all k some (below k hk) (sym (ap (λ x. x.tag) (get_or-set_other old id k (retagged (get_or old id no_element) tag) no_element e)) ∙ none)
-      ]
-
   pub attributes-retagged : (most : ℕ) → attribute_count tag ≤ most → ((k : ℕ) → attribute_count (tag_at old k) ≤ most) → (k : ℕ) → attribute_count (tag_at new k) ≤ most
   attributes-retagged most own all k =
       elim (cases_eq k id) [
@@ -95,50 +87,43 @@ pub count-with_attributes : (tag : Option Tag) (more : List Attribute) → attri
 count-with_attributes None more = omega arith
 count-with_attributes (Some tag) more = length-with_missing tag.attributes more
 
-pub some-with_attributes : (tag : Option Tag) (more : List Attribute) → tag ≢ None → with_attributes tag more ≢ None
-some-with_attributes None more h = absurd (h refl)
-some-with_attributes (Some tag) more h = λ e. cc e
-
 -- a whole tree, where an element got further attributes
-pub IsSound-retagged : (a : Inside) (elements : List ElementOf) (id : ℕ) (more : List Attribute) → IsSound a → id < length a.elements.items → length more < a.spare
-    → elements ≡ with_tag_at a.elements.items id (with_attributes (tag_at a.elements.items id) more)
-    → (room : ℕ) → room ≡ length more + 1
-    → IsSound (record a { elements = with_items a.elements elements; spare = a.spare - room; used = a.used + room })
-IsSound-retagged a elements id more sound h some is room size =
-    let tag : Option Tag = with_attributes (tag_at a.elements.items id) more in
-    let count : length elements ≡ length a.elements.items = ap length is ∙ length-set a.elements.items id (record { tag = with_attributes (tag_at a.elements.items id) more; node = node_of a.elements.items id }) in
-    let kept : (with_items a.elements elements).items ≡ elements = with_items_is a.elements elements (count ∙ sym a.elements.ok.0) in
-    let room' = sound.room in
+pub IsSound-retagged : (a b : Inside) (id : ℕ) (more : List Attribute) (room : ℕ) → IsSound a → id < length a.store.elements → length more < a.spare
+    → b.store ≡ record a.store { elements = with_tag_at a.store.elements id (with_attributes (tag_at a.store.elements id) more) }
+    → room ≡ length more + 1 → b.spare ≡ a.spare - room → b.used ≡ a.used + room → b.cells ≡ a.cells → IsSound b
+IsSound-retagged a b id more size sound h some rest is spare used cells =
+    let room = sound.room in
+    let tag : Option Tag = with_attributes (tag_at a.store.elements id) more in
+    let nodes : b.store.nodes ≡ a.store.nodes = ap (λ s. s.nodes) rest in
+    let leaves : b.store.leaves ≡ a.store.leaves = ap (λ s. s.leaves) rest in
+    let free : b.store.free ≡ a.store.free = ap (λ s. s.free) rest in
+    let elements : b.store.elements ≡ with_tag_at a.store.elements id (with_attributes (tag_at a.store.elements id) more) = ap (λ s. s.elements) rest in
+    let count : length b.store.elements ≡ length a.store.elements = ap length elements ∙ length-set a.store.elements id (record { tag = with_attributes (tag_at a.store.elements id) more; node = node_of a.store.elements id }) in
     record {
-      document = subst (λ n. 0 < n) (sym (ap length kept ∙ count)) sound.document;
-      tags = subst (λ es. (k : ℕ) → 0 < k → k < length es → tag_at es k ≢ None) (sym (kept ∙ is)) (tags-kept a.elements.items id (with_attributes (tag_at a.elements.items id) more) h sound.tags (λ some. some-with_attributes (tag_at a.elements.items id) more (sound.tags id some h)));
-      tree = subst (λ es. IsTree a.nodes.items es (length a.leaves.items)) (sym (kept ∙ is)) (IsTree-retagged a.elements.items id (with_attributes (tag_at a.elements.items id) more) h a.nodes.items (length a.leaves.items) sound.tree);
-      doctypes = sound.doctypes;
+      document = omega (arith, sound.document);
+      first = ap (λ es. node_of es 0) elements ∙ same a.store.elements id (with_attributes (tag_at a.store.elements id) more) h 0 ∙ sound.first;
+      tree = rw (nodes, leaves, elements) (IsTree-retagged a.store.elements id (with_attributes (tag_at a.store.elements id) more) h a.store.nodes (length a.store.leaves) sound.tree);
       room = record {
-        nodes = omega (arith, room'.nodes);
-        numbers = omega (arith, room'.numbers);
-        elements = omega (arith, room'.elements);
-        leaves = omega (arith, room'.leaves);
-        doctypes = omega (arith, room'.doctypes);
-        ids = omega (arith, room'.ids);
-        leaf_numbers = omega (arith, room'.leaf_numbers);
-        doctype_numbers = omega (arith, room'.doctype_numbers);
-        runs = λ k. omega (arith, room'.runs k);
-        attributes = subst (λ es. (k : ℕ) → attribute_count (tag_at es k) ≤ a.used + room) (sym (kept ∙ is))
-            (attributes-retagged a.elements.items id (with_attributes (tag_at a.elements.items id) more) h (a.used + room) (omega (arith, count-with_attributes (tag_at a.elements.items id) more, room'.attributes id)) (λ k. omega (arith, room'.attributes k)));
-        used = omega (arith, room'.used);
-        cells = omega (arith, room'.cells);
-        cell = room'.cell;
+        nodes = rw free (omega (arith, room.nodes));
+        elements = rw free (omega (arith, room.elements));
+        leaves = rw free (omega (arith, room.leaves));
+        numbers = rw nodes (omega (arith, room.numbers));
+        ids = omega (arith, room.ids);
+        leaf_numbers = rw leaves (omega (arith, room.leaf_numbers));
+        runs = λ k. rw leaves (omega (arith, room.runs k));
+        attributes = rw elements
+            (attributes-retagged a.store.elements id (with_attributes (tag_at a.store.elements id) more) h b.used (omega (arith, count-with_attributes (tag_at a.store.elements id) more, room.attributes id)) (λ k. omega (arith, room.attributes k)));
+        used = omega (arith, room.used);
+        cells = rw cells (omega (arith, room.cells));
+        cell = rw cells room.cell;
       };
     }
 
-pub branches-with_missing : (a : Inside) (s : Seen) (elements : List ElementOf) (id : ℕ) (more : List Attribute) → seen a ≡ s → id < length a.elements.items
-    → elements ≡ with_tag_at a.elements.items id (with_attributes (tag_at a.elements.items id) more)
-    → branches_of a.nodes.items (with_items a.elements elements).items (items_in a) ≡ with_tag s.branches id (with_attributes (branch s.branches id).tag more)
-branches-with_missing a s elements id more view h is =
-    let count : length elements ≡ length a.elements.items = ap length is ∙ length-set a.elements.items id (record { tag = with_attributes (tag_at a.elements.items id) more; node = node_of a.elements.items id }) in
-    let kept : (with_items a.elements elements).items ≡ elements = with_items_is a.elements elements (count ∙ sym a.elements.ok.0) in
-    ap (λ es. branches_of a.nodes.items es (items_in a)) (kept ∙ is)
-    ∙ branches-retagged a.elements.items id (with_attributes (tag_at a.elements.items id) more) h a.nodes.items (items_in a)
-    ∙ ap (λ b. with_tag (branches_of a.nodes.items a.elements.items (items_in a)) id (with_attributes b.tag more)) (sym (branch-at a.nodes.items a.elements.items (items_in a) id h))
+pub branches-with_missing : (a b : Inside) (s : Seen) (id : ℕ) (more : List Attribute) → seen a ≡ s → id < length a.store.elements
+    → b.store ≡ record a.store { elements = with_tag_at a.store.elements id (with_attributes (tag_at a.store.elements id) more) }
+    → (seen b).branches ≡ with_tag s.branches id (with_attributes (branch s.branches id).tag more)
+branches-with_missing a b s id more view h rest =
+    ap (λ r. branches_of r.nodes r.elements (leaf_items r.leaves)) rest
+    ∙ branches-retagged a.store.elements id (with_attributes (tag_at a.store.elements id) more) h a.store.nodes (items_in a)
+    ∙ ap (λ b. with_tag (branches_of a.store.nodes a.store.elements (items_in a)) id (with_attributes b.tag more)) (sym (branch-at a.store.nodes a.store.elements (items_in a) id h))
     ∙ ap (λ r. with_tag r.branches id (with_attributes (branch r.branches id).tag more)) view

@@ -9,12 +9,13 @@ use Rattle.hp_control.specs.Tree.{Item, beside, put_last, in_one, in_each, put, 
 use Rattle.hp_control.specs.declared.edit.Place.{Place}
 use Rattle.hp_control.specs.declared.edit.Place.TheVariants.{Into, Foster}
 use Rattle.hp_arena.specs.Ring.{Links, Path, inserted}
-use Rattle.hp_arena.specs.Nodes.{links_of, kind_of, stops, inside, is_end, node_at, IsRelinked}
-use Rattle.hp_arena.specs.Shape.{IsTree, item_of, kind_item, no_item, branches_of, node_of, at_of, is_text, alone, with_leaf, IsPlaceIn}
-use Rattle.hp_arena.specs.declared.links.Node.{Node}
-use Rattle.hp_arena.specs.declared.links.Kind.{Kind}
-use Rattle.hp_arena.specs.declared.links.Kind.TheVariants.{End, Element, Leaf}
-use Rattle.hp_arena.specs.declared.arena.Element.{Element as ElementOf}
+use Rattle.hp_arena.specs.Nodes.{links_of, kind_of, stops, inside, is_end, IsRelinked}
+use Rattle.hp_store.specs.Lists.{node_at, node_of, alone}
+use Rattle.hp_arena.specs.Shape.{IsTree, item_of, kind_item, no_item, branches_of, at_of, is_text, with_leaf, IsPlaceIn}
+use Rattle.hp_store.specs.declared.node.Node.{Node}
+use Rattle.hp_store.specs.declared.node.Kind.{Kind}
+use Rattle.hp_store.specs.declared.node.Kind.TheVariants.{End, Element, Leaf}
+use Rattle.hp_store.specs.Store.{Element as ElementOf}
 use Rattle.hp_arena.proofs.Walks.{Inner, inside-inner}
 use Rattle.hp_arena.proofs.Detaching.{node-below, end-not_node}
 use Rattle.hp_arena.proofs.Fosters.{joined_before-path, tests-own, distinct}

@@ -5,8 +5,9 @@ use Rattle.std.proofs.lemmas.Bool.{cond_both, eqb-true, true≢false, cases_Bool
 use Rattle.std.proofs.lemmas.Map.Steps.{length-le_from_distinct_below}
 use Rattle.std.proofs.lemmas.List.{get_or_past}
 use Rattle.hp_arena.specs.Ring.{Links, Path}
-use Rattle.hp_arena.specs.Nodes.{links_of, is_end, stops, walk, inside, blank}
-use Rattle.hp_arena.specs.declared.links.Node.{Node}
+use Rattle.hp_arena.specs.Nodes.{links_of, is_end, stops, walk, inside}
+use Rattle.hp_store.specs.Lists.{blank}
+use Rattle.hp_store.specs.declared.node.Node.{Node}
 
 -- none of these is an end
 abbrev pub Inner : (ℕ → Bool) → List ℕ → Type 0

@@ -4,8 +4,6 @@ pub mod Arena
 pub mod Leaves
 pub mod Shape
 pub mod Readers
-pub mod Room
 pub mod Roots
 pub mod Levels
 pub mod Groves
-pub mod Grafting

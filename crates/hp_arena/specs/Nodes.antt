@@ -1,16 +1,10 @@
 -- Nodes with their links, and the lists of children that they make.
-use Rattle.std.specs.Prelude.{◌≡◌, ℕ, zero, suc, ◌<◌, Bool, true, false, if◌then◌else◌, List, [], ◌∷◌, slice_index_or, length}
-use Rattle.hp_arena.specs.declared.links.Node.{Node}
-use Rattle.hp_arena.specs.declared.links.Kind.{Kind}
-use Rattle.hp_arena.specs.declared.links.Kind.TheVariants.{End, Element, Leaf}
+use Rattle.std.specs.Prelude.{◌≡◌, ℕ, zero, suc, ◌<◌, Bool, true, false, if◌then◌else◌, List, [], ◌∷◌, length}
+use Rattle.hp_store.specs.Lists.{node_at}
+use Rattle.hp_store.specs.declared.node.Node.{Node}
+use Rattle.hp_store.specs.declared.node.Kind.{Kind}
+use Rattle.hp_store.specs.declared.node.Kind.TheVariants.{End, Element, Leaf}
 use Rattle.hp_arena.specs.Ring.{Links, Path}
-
--- what stands past the last node
-abbrev pub blank : Node
-blank = record { prev = 0; next = 0; kind = End 0 }
-
-abbrev pub node_at : List Node → ℕ → Node
-node_at nodes s = slice_index_or nodes s blank
 
 abbrev pub kind_of : List Node → ℕ → Kind
 kind_of nodes s = (node_at nodes s).kind

@@ -1,5 +1,5 @@
 -- What the readers of a tree show.
-use Rattle.std.specs.Prelude.{◌≡◌, ℕ, Bool, true, false, ◌&&◌, if◌then◌else◌, List, [], Option, None, Some, codes, bytes_eq, slice_get, slice_index_or}
+use Rattle.std.specs.Prelude.{◌≡◌, ℕ, Bool, true, false, ◌&&◌, if◌then◌else◌, List, [], Option, None, Some, codes, bytes_eq, slice_get, slice_index_or, unwrap_or}
 use Rattle.std.specs.Option.{option_copied}
 use Rattle.std.specs.List.{concat}
 use Rattle.hp_elements.specs.declared.sets.Namespace.{Namespace}
@@ -7,7 +7,10 @@ use Rattle.hp_elements.specs.declared.sets.Namespace.TheVariants.{Html, Svg, Mat
 use Rattle.hp_elements.specs.declared.tag.Tag.{Tag}
 use Rattle.hp_control.specs.Tree.{Item, Tree, branch}
 use Rattle.hp_control.specs.Tree as item
+use Rattle.hp_store.specs.declared.node.Node.{Node}
 use Rattle.hp_arena.specs.Arena.{Seen}
+use Rattle.hp_arena.specs.Nodes.{stops}
+use Rattle.hp_arena.specs.Shape.{placed}
 use Rattle.hp_arena.specs.declared.readers.At.{At}
 use Rattle.hp_arena.specs.declared.readers.At.TheVariants as at
 use Rattle.hp_arena.specs.declared.readers.Spot.{Spot}
@@ -32,9 +35,16 @@ is_template_tag (Some tag) = is_template tag
 abbrev pub has_contents : Tree → ℕ → Bool
 has_contents t id = is_template_tag (branch t id).tag
 
--- the node stands at its place in the list of its parent
+-- the node stands at its place in the list of its parent, before the next one
 abbrev pub IsSpot : Seen → Spot → Type 0
-IsSpot t spot = slice_get (slice_index_or t.order spot.parent []) spot.place ≡ Some spot.node
+IsSpot t spot = slice_get (slice_index_or t.order spot.parent []) spot.place ≡ Some (record { node = spot.node; next = spot.next; kind = spot.kind })
+
+-- the spot is that of a node which is no end, at this place of the list of this element
+pub record IsSpotOf (nodes : List Node) (parent place node : ℕ) (spot : Spot) : Type 0 where
+  pub parent_is : spot.parent ≡ parent
+  pub place_is : spot.place ≡ place
+  pub inner : stops nodes node ≡ false
+  pub placed_is : record { node = spot.node; next = spot.next; kind = spot.kind } ≡ placed nodes node
 
 -- it is in the tree: the document, an item in a list of children, or the contents of a template
 abbrev pub IsAt : Seen → At → Type 0
@@ -91,6 +101,24 @@ children t a = items_in_list t (list_of t a)
 abbrev pub IsFirstChild : Seen → At → At → Type 0
 IsFirstChild t a first = (id : ℕ) × ((list_of t.branches a ≡ Some id) × IsIn t id 0 first)
 
+-- the element that an item is
+abbrev pub element_of : Option Item → Option ℕ
+element_of None = None
+element_of (Some (item.Element id)) = Some id
+element_of (Some (item.Text text)) = None
+element_of (Some (item.Comment text)) = None
+element_of (Some (item.Doctype name public system)) = None
+
+-- the element that stands there among the children of another
+abbrev pub element_at : Tree → At → Option ℕ
+element_at t at.Document = None
+element_at t (at.Child spot) = element_of (slice_get (branch t spot.parent).inside spot.place)
+element_at t (at.Contents id) = None
+
+-- it is the first of what stands inside the element there
+abbrev pub IsFirstBelow : Seen → At → At → Type 0
+IsFirstBelow t a first = (id : ℕ) × ((element_at t.branches a ≡ Some id) × IsIn t id 0 first)
+
 -- the contents of an item
 abbrev pub contents_below : Tree → Option Item → Option At
 contents_below t None = None
@@ -113,7 +141,7 @@ text_of (Several runs) = concat runs.now
 abbrev pub shown : NodeView → Option Item
 shown Document = None
 shown Contents = None
-shown (Doctype name public system) = Some (item.Doctype name.now (option_copied public) (option_copied system))
+shown (Doctype name public system) = Some (item.Doctype (unwrap_or (option_copied name) []) (option_copied public) (option_copied system))
 shown (Element id tag) = Some (item.Element id)
 shown (Text runs) = Some (item.Text (text_of runs))
 shown (Comment text) = Some (item.Comment text.now)

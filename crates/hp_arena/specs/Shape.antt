@@ -1,18 +1,18 @@
 -- What the nodes, elements and leaves mean, and the facts that tie them.
 use Rattle.std.specs.List.{list_any}
-use Rattle.std.specs.Prelude.{◌≡◌, ◌≢◌, ◌==◌, if◌then◌else◌, Bool, true, false, ℕ, ◌+◌, ◌*◌, ◌^◌, ◌<◌, ◌≤◌, ◌++◌, List, [], ◌∷◌, length, map, All, Option, None, Some, slice_index_or, slice_set, vec_len, vec_capacity}
-use Rattle.hp_elements.specs.declared.tag.Tag.{Tag}
+use Rattle.std.specs.Prelude.{◌≡◌, ◌≢◌, ◌==◌, if◌then◌else◌, Bool, true, false, ℕ, ◌+◌, ◌*◌, ◌^◌, ◌<◌, ◌≤◌, ◌++◌, List, [], ◌∷◌, length, map, All, slice_index_or, vec_len}
 use Rattle.hp_control.specs.Tree.{Branch, Item, Tree, id_of}
 use Rattle.hp_control.specs.Tree as item
 use Rattle.hp_control.specs.declared.edit.Place.{Place}
 use Rattle.hp_control.specs.declared.edit.Place.TheVariants.{Into, Foster}
-use Rattle.hp_arena.specs.declared.links.Node.{Node}
-use Rattle.hp_arena.specs.declared.links.Kind.{Kind}
-use Rattle.hp_arena.specs.declared.links.Kind.TheVariants.{End, Element, Leaf}
-use Rattle.hp_arena.specs.declared.arena.Element.{Element as ElementOf}
+use Rattle.hp_store.specs.Leaves.{leaf_items, run_count, IsCell}
+use Rattle.hp_store.specs.Lists.{alone, attribute_count, leaf_at, node_of, tag_at}
+use Rattle.hp_store.specs.Store.{Element as ElementOf}
+use Rattle.hp_store.specs.declared.node.Node.{Node}
+use Rattle.hp_store.specs.declared.node.Kind.{Kind}
+use Rattle.hp_store.specs.declared.node.Kind.TheVariants.{End, Element, Leaf}
+use Rattle.hp_arena.specs.Arena.{Placed, Seen}
 use Rattle.hp_arena.specs.declared.arena.Arena.TheInside.{Inside}
-use Rattle.hp_arena.specs.Arena.{Seen}
-use Rattle.hp_arena.specs.Leaves.{leaf_items, leaf_at, run_count, IsCell, IsDoctypeIn}
 use Rattle.hp_arena.specs.Nodes.{kind_of, links_of, stops, inside, IsClosed, IsRinged, IsRing, IsRelinked}
 use Rattle.hp_arena.specs.Ring.{inserted}
 
@@ -34,13 +34,6 @@ branch_of nodes leaves e = record { tag = e.tag; inside = map (item_of nodes lea
 
 abbrev pub branches_of : List Node → List ElementOf → List Item → Tree
 branches_of nodes elements leaves = map (branch_of nodes leaves) elements
-
-abbrev pub no_element : ElementOf
-no_element = record { tag = None; node = 0 }
-
--- the node of the element of this id
-abbrev pub node_of : List ElementOf → ℕ → ℕ
-node_of elements id = (slice_index_or elements id no_element).node
 
 -- the node before which a child at this place goes
 abbrev pub at_of : List Node → List ElementOf → Place → ℕ
@@ -79,10 +72,6 @@ is_text (item.Text text) = true
 is_text (item.Comment text) = false
 is_text (item.Doctype name public system) = false
 
--- a node in no list of children, of this kind
-abbrev pub alone : ℕ → Kind → Node
-alone s kind = record { prev = s; next = s; kind = kind }
-
 -- the nodes with one more that is this leaf
 abbrev pub with_leaf : List Node → ℕ → List Node
 with_leaf nodes number = nodes ++ alone (length nodes) (Leaf number) ∷ []
@@ -91,57 +80,49 @@ with_leaf nodes number = nodes ++ alone (length nodes) (Leaf number) ∷ []
 abbrev pub IsLeafAdded : List Node → List Node → ℕ → ℕ → Type 0
 IsLeafAdded old new number at = IsRelinked (with_leaf old number) new (inserted (links_of (with_leaf old number)) at (length old))
 
--- how many attributes the tag has
-abbrev pub attribute_count : Option Tag → ℕ
-attribute_count None = 0
-attribute_count (Some tag) = length tag.attributes
-
-abbrev pub tag_at : List ElementOf → ℕ → Option Tag
-tag_at elements id = (slice_index_or elements id no_element).tag
-
--- the elements with this tag at one of them
-abbrev pub with_tag_at : List ElementOf → ℕ → Option Tag → List ElementOf
-with_tag_at elements id tag = slice_set elements id (record { tag = tag; node = node_of elements id })
-
 -- there is room for so many edits
 pub record HasRoom (a : Inside) : Type 0 where
-  pub nodes : vec_len a.nodes + 2 * a.spare ≤ vec_capacity a.nodes
-  pub numbers : vec_len a.nodes + 2 * a.spare < 2 ^ 32
-  pub elements : vec_len a.elements + a.spare ≤ vec_capacity a.elements
-  pub leaves : vec_len a.leaves + a.spare ≤ vec_capacity a.leaves
-  pub doctypes : vec_len a.doctypes + a.spare ≤ vec_capacity a.doctypes
-  pub ids : vec_len a.elements + a.spare < 2 ^ 32
-  pub leaf_numbers : vec_len a.leaves + a.spare < 2 ^ 32
-  pub doctype_numbers : vec_len a.doctypes + a.spare < 2 ^ 32
-  pub runs : (number : ℕ) → run_count (leaf_at a.leaves.items number) ≤ a.used
-  pub attributes : (id : ℕ) → attribute_count (tag_at a.elements.items id) ≤ a.used
+  pub nodes : 2 * a.spare ≤ a.store.free.nodes
+  pub elements : a.spare ≤ a.store.free.elements
+  pub leaves : a.spare ≤ a.store.free.leaves
+  pub numbers : length a.store.nodes + 2 * a.spare < 2 ^ 32
+  pub ids : length a.store.elements + a.spare < 2 ^ 32
+  pub leaf_numbers : length a.store.leaves + a.spare < 2 ^ 32
+  pub runs : (number : ℕ) → run_count (leaf_at a.store.leaves number) ≤ a.used
+  pub attributes : (id : ℕ) → attribute_count (tag_at a.store.elements id) ≤ a.used
   pub used : a.used + a.spare < 2 ^ 62
   pub cells : a.spare ≤ vec_len a.cells
   pub cell : All IsCell a.cells.items
 
+-- a node with what a reader keeps of it
+abbrev pub placed : List Node → ℕ → Placed
+placed nodes s = record { node = s; next = (links_of nodes).next s; kind = kind_of nodes s }
+
 -- the nodes in each list of children
-abbrev pub order_of : List Node → List ElementOf → List (List ℕ)
-order_of nodes elements = map (λ e. inside nodes (e.node + 1)) elements
+abbrev pub order_of : List Node → List ElementOf → List (List Placed)
+order_of nodes elements = map (λ e. map (placed nodes) (inside nodes (e.node + 1))) elements
 
 -- what the leaves are among children
 abbrev pub items_in : Inside → List Item
-items_in a = leaf_items a.doctypes.items a.leaves.items
+items_in a = leaf_items a.store.leaves
 
+-- the lists are those of a tree, whose document is the first element and the first node
 pub record IsSound (a : Inside) : Type 0 where
-  pub document : 0 < length a.elements.items
-  pub tags : (id : ℕ) → 0 < id → id < length a.elements.items → tag_at a.elements.items id ≢ None
-  pub tree : IsTree a.nodes.items a.elements.items (length a.leaves.items)
-  pub doctypes : (number : ℕ) → IsDoctypeIn (length a.doctypes.items) (leaf_at a.leaves.items number)
+  pub document : 0 < length a.store.elements
+  pub first : node_of a.store.elements 0 ≡ 0
+  pub tree : IsTree a.store.nodes a.store.elements (length a.store.leaves)
   pub room : HasRoom a
 
 abbrev pub seen : Inside → Seen
-seen a = record { branches = branches_of a.nodes.items a.elements.items (items_in a); spare = a.spare; order = order_of a.nodes.items a.elements.items }
+seen a = record { branches = branches_of a.store.nodes a.store.elements (items_in a); spare = a.spare; order = order_of a.store.nodes a.store.elements }
 
 -- all that a place names is among so many elements
 abbrev pub IsPlaceIn : ℕ → Place → Type 0
 IsPlaceIn elements (Into parent) = id_of parent < elements
 IsPlaceIn elements (Foster table above) = (id_of table < elements) × (id_of above < elements)
 
--- the ends of all elements are among so many nodes
-abbrev pub AreNodesIn : List ElementOf → ℕ → Type 0
-AreNodesIn elements nodes = (nodes < 2 ^ 32) × ((id : ℕ) → id < length elements → node_of elements id + 1 < nodes)
+-- the ends of all elements are among so many nodes, and numbers fit
+pub record AreNodesIn (elements : List ElementOf) (count : ℕ) : Type 0 where
+  pub few_nodes : count < 2 ^ 32
+  pub few_elements : length elements < 2 ^ 32
+  pub ends : (id : ℕ) → id < length elements → node_of elements id + 1 < count

@@ -1,43 +1,32 @@
 //! The nodes, elements and leaves of a tree, and the edits on them.
 
-ghost use Rattle.std.specs.Prelude.{◌≡◌, ◌≢◌, ◌+◌, ◌<◌, ◌≤◌, length, [], ◌^◌, true, false, IsTrue, ◌↔◌, IfOk, IfErr, OnOk, OnErr, MatchOption, Some, slice_get, ℕ};
+ghost use Rattle.std.specs.Prelude.{◌≡◌, ◌≢◌, ◌+◌, ◌<◌, ◌≤◌, length, [], ◌++◌, ◌^◌, true, false, max, vec_len, vec_capacity, IsTrue, ◌↔◌, IfOk, IfErr, OnOk, OnErr, MatchOption, Some, slice_get, ℕ};
 ghost use Rattle.hp_control.specs.Edits.{room_of};
 ghost use Rattle.hp_control.specs.Tree.{document, detached, put, put_child, applied, is_there, id_of, is_place, may_be_child, leads_into_document, children_moved, with_tag, with_attributes};
-ghost use Rattle.hp_control.specs.Tree.{branch, has_parent, stands_in, IsForest};
+ghost use Rattle.hp_control.specs.Tree.{Tree, branch, has_parent, stands_in, IsForest};
 ghost use Rattle.hp_control.specs.Tree as item;
 ghost use Rattle.hp_groves.specs.Grafts.{graft};
 ghost use Rattle.hp_arena.specs.Groves.{behind_document, IsBlank};
-ghost use Rattle.hp_arena.specs.Leaves.{kept_doctype};
 ghost use Rattle.hp_arena.specs.Roots.{is_root_table, has_root_table};
-ghost use Rattle.hp_arena.specs.Nodes.{IsClosed, end_from};
-ghost use Rattle.hp_arena.specs.Readers.{IsSpot, shown, is_item, HasTag};
+ghost use Rattle.hp_arena.specs.Nodes.{IsClosed, end_from, stops};
+ghost use Rattle.hp_arena.specs.Readers.{IsSpot, IsSpotOf, shown, is_item, element_of, items_in_list, HasTag};
+ghost use Rattle.hp_store.specs.Leaves.{doctype_item, leaf_item};
+ghost use Rattle.hp_store.specs.Lists.{attribute_count};
 
-use crate::attributes::add_attributes;
-use crate::grafting::{Rise, Sizes, append_elements, append_reserved, raise_lists, widen_for};
-use crate::leaves::{Doctype, Leaf, add_leaf, add_text, alone, text_at};
-use crate::levels::summed_levels;
-use crate::links::{Kind, Node, put_before, splice, unlink};
+use crate::leaves::{add_leaf, add_leaf_between, text_at};
+use crate::levels::{deepest, summed_levels};
+use crate::links::{splice, unlink};
 use crate::readers::{NodeView, Runs, Spot};
-use crate::room::widen;
 use hp_control::{Child, Edit, Place, Ref};
-use hp_elements::{Attribute, Chain, Tag, Text};
+use hp_elements::{Attribute, Chain, Doctype, Tag, Text};
+use hp_store::{Counts, Kind, Leaf, Node, Store, add_cells};
 use std::alloc::{AllocError, Global};
 use std::marker::Model;
 
-/// An element. Its own node is `node`, and its children end at the node after that.
-#[derive(Drop)]
-pub struct Element {
-    pub tag: Option<Tag>,
-    pub node: u32,
-}
-
-/// The parts of a tree. Contracts see the branches by their ids, and the room.
+/// The lists of a tree. Contracts see the branches by their ids, and the room.
 #[derive(Drop)]
 pub struct Arena<'p> {
-    nodes: Vec<Node>,
-    elements: Vec<Element>,
-    leaves: Vec<Leaf<'p>>,
-    doctypes: Vec<Doctype<'p>>,
+    store: Store<'p>,
     /// Pairs of cells, of which the runs of a text are made where it has several.
     cells: Vec<Chain<Text<'p>>>,
     /// How much more room there is for edits.
@@ -73,17 +62,9 @@ impl<'p> Arena<'p> {
     pub fn start(alloc: Global) -> Result<Arena<'p>, AllocError>
         ensures { IfOk result (λ t. t.branches ≡ document) }
     {
-        let mut nodes = Vec::with_capacity(alloc, 2 * FIRST)?;
-        let mut elements = Vec::with_capacity(alloc, FIRST)?;
-        let leaves = Vec::with_capacity(alloc, FIRST)?;
-        nodes.push_reserved(alone(0, Kind::Element(0)));
-        nodes.push_reserved(alone(1, Kind::End(0)));
-        elements.push_reserved(Element { tag: None, node: 0 });
+        let store = Store::start(alloc, FIRST)?;
         Ok(Arena {
-            nodes,
-            elements,
-            leaves,
-            doctypes: Vec::new(alloc),
+            store,
             cells: Vec::new(alloc),
             spare: 0,
             used: 0,
@@ -100,28 +81,22 @@ impl<'p> Arena<'p> {
         if room <= self.spare as u64 {
             return Ok(());
         }
-        let most = self
-            .nodes
-            .len()
-            .max(self.elements.len())
-            .max(self.leaves.len())
-            .max(self.doctypes.len())
-            .max(self.used);
-        if !is_within(most, room) {
+        if !is_within(most(self.store.counts(), Counts::none(), self.used), room) {
             return Err(AllocError);
         }
         let room = room as usize;
-        widen(
-            alloc,
-            &mut self.nodes,
-            &mut self.elements,
-            &mut self.leaves,
-            &mut self.doctypes,
-            &mut self.cells,
-            room,
-        )?;
+        self.store.reserve(room)?;
+        add_cells(alloc, &mut self.cells, room)?;
         self.spare = room;
         Ok(())
+    }
+
+    /// Gives the memory back in which nothing stands. There is no room for edits then.
+    pub fn shrink(&mut self)
+        ensures { self.new.branches ≡ self.old.branches }
+    {
+        self.spare = 0;
+        self.store.shrink();
     }
 
     /// How much room there is for edits: one for each, and one for each of their attributes.
@@ -194,7 +169,7 @@ impl<'p> Arena<'p> {
         ensures { result ≡ is_there self.now.branches node }
     {
         match node {
-            Ref::Fixed(id) => id < self.elements.len() as u64,
+            Ref::Fixed(id) => id <= self.store.counts().elements as u64,
             Ref::Older(_) | Ref::Own(_) => false,
         }
     }
@@ -236,7 +211,7 @@ impl<'p> Arena<'p> {
                 }
             }
             Child::Comment(text) => self.put_comment(text, place),
-            Child::Doctype(doctype) => self.put_doctype(kept_doctype(doctype), place),
+            Child::Doctype(doctype) => self.put_doctype(doctype, place),
         }
     }
 
@@ -247,15 +222,8 @@ impl<'p> Arena<'p> {
         ensures branches { self.new.branches ≡ applied self.old.branches (Edit.NewElement tag) }
         ensures spare { self.new.spare + (length tag.attributes + 1) ≡ self.old.spare }
     {
-        let node = self.nodes.len() as u32;
-        let id = self.elements.len() as u32;
         let room = tag.attributes.len() + 1;
-        self.nodes.push_reserved(alone(node, Kind::Element(id)));
-        self.nodes.push_reserved(alone(node + 1, Kind::End(id)));
-        self.elements.push_reserved(Element {
-            tag: Some(tag),
-            node,
-        });
+        self.store.push_element(tag);
         self.spare -= room;
         self.used += room;
     }
@@ -267,8 +235,8 @@ impl<'p> Arena<'p> {
         ensures branches { self.new.branches ≡ detached self.old.branches id }
         ensures spare { self.new.spare ≡ self.old.spare }
     {
-        let node = self.elements[id as usize].node;
-        unlink(&mut self.nodes, node);
+        let node = self.store.node_of(id as u32);
+        unlink(&mut self.store, node);
     }
 
     /// Takes an element out of its list of children, and puts it at a place.
@@ -280,10 +248,11 @@ impl<'p> Arena<'p> {
         ensures branches { self.new.branches ≡ put (detached self.old.branches id) (item.Element id) place }
         ensures spare { self.new.spare ≡ self.old.spare }
     {
-        let node = self.elements[id as usize].node;
-        unlink(&mut self.nodes, node);
-        let at = node_at(&self.nodes, &self.elements, place);
-        put_before(&mut self.nodes, at, node);
+        let node = self.store.late_node_of(id as u32);
+        unlink(&mut self.store, node);
+        let at = node_at(&self.store, place);
+        let before = self.store.node(at).prev;
+        self.store.put_between(before, at, node);
     }
 
     /// Appends all children of an element to those of another.
@@ -295,10 +264,10 @@ impl<'p> Arena<'p> {
         ensures branches { self.new.branches ≡ children_moved self.old.branches from to }
         ensures spare { self.new.spare ≡ self.old.spare }
     {
-        let source = self.elements[from as usize].node + 1;
-        let target = self.elements[to as usize].node + 1;
-        if self.nodes[source as usize].next != source {
-            splice(&mut self.nodes, source, target);
+        let source = self.store.node_of(from as u32) + 1;
+        let target = self.store.node_of(to as u32) + 1;
+        if self.store.node(source).next != source {
+            splice(&mut self.store, source, target);
         }
     }
 
@@ -313,7 +282,7 @@ impl<'p> Arena<'p> {
         let room = attributes.len() + 1;
         self.spare -= room;
         self.used += room;
-        retag(&mut self.elements, id, attributes);
+        self.store.add_attributes(id as u32, attributes);
     }
 
     /// Puts a comment at a place.
@@ -324,8 +293,8 @@ impl<'p> Arena<'p> {
         ensures branches { self.new.branches ≡ put self.old.branches (item.Comment text.entry) place }
         ensures spare { self.new.spare + 1 ≡ self.old.spare }
     {
-        let at = node_at(&self.nodes, &self.elements, place);
-        add_leaf(&mut self.nodes, &mut self.leaves, at, Leaf::Comment(text));
+        let at = node_at(&self.store, place);
+        add_leaf(&mut self.store, at, Leaf::Comment(text));
         self.spare -= 1;
     }
 
@@ -334,13 +303,11 @@ impl<'p> Arena<'p> {
     fn put_doctype(&mut self, doctype: Doctype<'p>, place: Place)
         requires room { 0 < self.old.spare }
         requires there { is_place self.old.branches place ≡ true }
-        ensures branches { self.new.branches ≡ put self.old.branches (item.Doctype doctype.entry.name doctype.entry.public doctype.entry.system) place }
+        ensures branches { self.new.branches ≡ put self.old.branches (doctype_item doctype.entry) place }
         ensures spare { self.new.spare + 1 ≡ self.old.spare }
     {
-        let at = node_at(&self.nodes, &self.elements, place);
-        let number = self.doctypes.len() as u32;
-        self.doctypes.push_reserved(doctype);
-        add_leaf(&mut self.nodes, &mut self.leaves, at, Leaf::Doctype(number));
+        let at = node_at(&self.store, place);
+        add_leaf(&mut self.store, at, Leaf::Doctype(doctype));
         self.spare -= 1;
     }
 
@@ -353,14 +320,14 @@ impl<'p> Arena<'p> {
         match place {
             Place::Into(parent) => id_of(parent) == 0,
             Place::Foster { table, above } => {
-                let node = self.elements[id_of(table) as usize].node;
-                if self.nodes[node as usize].next == node {
+                let node = self.store.node_of(id_of(table) as u32);
+                if self.store.node(node).next == node {
                     return id_of(above) == 0;
                 }
                 if apart {
                     return false;
                 }
-                end_after(&self.nodes, node) == self.elements[0].node + 1
+                end_after(&self.store, node) == 1
             }
         }
     }
@@ -373,13 +340,13 @@ impl<'p> Arena<'p> {
         ensures branches { self.new.branches ≡ put self.old.branches (item.Text text.entry) place }
         ensures spare { self.new.spare + 1 ≡ self.old.spare }
     {
-        let at = node_at(&self.nodes, &self.elements, place);
-        let before = self.nodes[at as usize].prev;
+        let at = node_at(&self.store, place);
+        let before = self.store.node(at).prev;
         self.spare -= 1;
         self.used += 1;
-        match text_at(&self.nodes, &self.leaves, before) {
-            Some(number) => add_text(&mut self.leaves, &mut self.cells, number, text),
-            None => add_leaf(&mut self.nodes, &mut self.leaves, at, Leaf::Run(text)),
+        match text_at(&self.store, before) {
+            Some(number) => self.store.add_text(number, &mut self.cells, text),
+            None => add_leaf_between(&mut self.store, before, at, Leaf::Run(text)),
         }
     }
 }
@@ -388,59 +355,38 @@ impl<'p> Arena<'p> {
     /// Puts the elements of another tree but its document, in which nothing stands, behind those of this one. At an `Err`, which is want of
     /// memory, also where a list or count of the tree would be past 2^29, the other tree comes back.
     #[inline(never)]
-    pub fn graft(&mut self, grove: Arena<'p>) -> Result<(), Arena<'p>>
+    pub fn graft(&mut self, alloc: Global, grove: Arena<'p>) -> Result<(), Arena<'p>>
         requires blank { IsBlank grove.branches }
         ensures branches { OnOk result (self.new.branches ≡ graft self.old.branches (behind_document grove.entry.branches)) }
         ensures spare { OnOk result (self.new.spare ≡ self.old.spare) }
         ensures err { OnErr result (self.new ≡ self.old) }
         ensures back { IfErr result (λ back. back ≡ grove.entry) }
     {
-        let most = (self.nodes.len() + grove.nodes.len())
-            .max(self.elements.len() + grove.elements.len())
-            .max(self.leaves.len() + grove.leaves.len())
-            .max(self.doctypes.len() + grove.doctypes.len())
-            .max(self.used + grove.used);
+        let most = most(
+            self.store.counts(),
+            grove.store.counts(),
+            self.used + grove.used,
+        );
         if !is_within(most, self.spare as u64) {
             return Err(grove);
         }
-        let more = Sizes {
-            nodes: grove.nodes.len(),
-            elements: grove.elements.len(),
-            leaves: grove.leaves.len(),
-            doctypes: grove.doctypes.len(),
-            cells: grove.cells.len(),
-        };
-        let Ok(()) = widen_for(
-            &mut self.nodes,
-            &mut self.elements,
-            &mut self.leaves,
-            &mut self.doctypes,
-            &mut self.cells,
-            more,
-            self.spare,
-        ) else {
+        if self.cells.reserve(grove.cells.len()).is_err() {
             return Err(grove);
-        };
-        let rise = Rise {
-            nodes: self.nodes.len() as u32,
-            elements: self.elements.len() as u32 - 1,
-            leaves: self.leaves.len() as u32,
-            doctypes: self.doctypes.len() as u32,
-        };
+        }
         let Arena {
-            mut nodes,
-            mut elements,
-            mut leaves,
-            doctypes,
+            store,
             cells,
             used,
-            spare: _,
+            spare,
         } = grove;
-        raise_lists(&mut nodes, &mut elements, &mut leaves, doctypes.len(), rise);
-        append_reserved(&mut self.nodes, nodes);
-        append_elements(&mut self.elements, elements);
-        append_reserved(&mut self.leaves, leaves);
-        append_reserved(&mut self.doctypes, doctypes);
+        if let Err(store) = self.store.append(alloc, store) {
+            return Err(Arena {
+                store,
+                cells,
+                used,
+                spare,
+            });
+        }
         append_reserved(&mut self.cells, cells);
         self.used += used;
         Ok(())
@@ -453,22 +399,23 @@ impl<'p> Arena<'p> {
         ensures count { result ≡ length self.now.branches }
         ensures forest { IsForest self.now.branches }
     {
-        self.elements.len() as u32
+        self.store.counts().elements + 1
     }
 
     /// About how many levels stand above the lines of the tree's text, all together: those above each item, and those above the
     /// deepest for each attribute that there may be. Nothing is promised of it.
     pub fn summed_levels(&self) -> u64 {
-        let lines = (self.nodes.len() as u64).saturating_add(self.used as u64);
-        let most = lines.saturating_mul(self.elements.len() as u64);
+        let counts = self.store.counts();
+        let lines = (counts.nodes as u64).saturating_add(self.used as u64);
+        let most = lines.saturating_mul(counts.elements as u64 + 1);
         if most <= FEW_LEVELS {
             return most;
         }
-        let most = lines.saturating_mul(deepest(&self.nodes));
+        let most = lines.saturating_mul(deepest(&self.store));
         if most <= FEW_LEVELS {
             return most;
         }
-        summed_levels(&self.nodes, self.used as u64)
+        summed_levels(&self.store, self.used as u64)
     }
 
     /// At least as many as the attributes of any element.
@@ -484,32 +431,32 @@ impl<'p> Arena<'p> {
         ensures first { MatchOption result ((branch self.now.branches id).inside ≡ []) (λ at. (at.parent ≡ id) × (at.place ≡ 0) × IsSpot self.now at) }
         ensures forest { IsForest self.now.branches }
     {
-        let end = self.elements[id as usize].node + 1;
-        let node = self.nodes[end as usize].next;
-        if node == end {
+        let end = self.store.node_of(id) + 1;
+        let (end, part) = self.store.node_near(end, 0);
+        spot(&self.store, id, 0, end.next, part)
+    }
+
+    /// The first of what stands inside the element there: of its children, or of the contents if it is a template.
+    #[inline(always)]
+    pub fn first_below(&self, at: Spot) -> Option<Spot>
+        requires { IsSpot self.now at }
+        ensures { let id = element_of (slice_get (branch self.now.branches at.parent).inside at.place) in MatchOption result (items_in_list self.now.branches id ≡ []) (λ first. (parent : ℕ) × ((id ≡ Some parent) × ((first.parent ≡ parent) × ((first.place ≡ 0) × IsSpot self.now first)))) }
+    {
+        let store = &self.store;
+        let Kind::Element(id) = at.kind else {
             return None;
-        }
-        Some(Spot {
-            parent: id,
-            place: 0,
-            node,
-        })
+        };
+        let (end, part) = store.node_near(at.node + 1, at.part);
+        spot(store, id, 0, end.next, part)
     }
 
     /// The next in the same list.
+    #[inline(always)]
     pub fn next_sibling(&self, at: Spot) -> Option<Spot>
         requires { IsSpot self.now at }
         ensures { MatchOption result (length (branch self.now.branches at.parent).inside ≡ at.place + 1) (λ next. (next.parent ≡ at.parent) × (next.place ≡ at.place + 1) × IsSpot self.now next) }
     {
-        let node = self.nodes[at.node as usize].next;
-        match self.nodes[node as usize].kind {
-            Kind::End(_) => None,
-            Kind::Element(_) | Kind::Leaf(_) => Some(Spot {
-                parent: at.parent,
-                place: at.place + 1,
-                node,
-            }),
-        }
+        spot(&self.store, at.parent, at.place + 1, at.next, at.part)
     }
 
     /// The element in whose list of children an element stands, if it stands in one.
@@ -519,61 +466,79 @@ impl<'p> Arena<'p> {
         ensures parent { MatchOption result (has_parent self.now.branches id ≡ false) (λ parent. stands_in self.now.branches parent id ≡ true) }
         ensures forest { IsForest self.now.branches }
     {
-        let node = self.elements[id as usize].node;
-        if self.nodes[node as usize].next == node {
+        let node = self.store.node_of(id);
+        if self.store.node(node).next == node {
             return None;
         }
-        let end = end_after(&self.nodes, node);
-        match self.nodes[end as usize].kind {
+        let end = end_after(&self.store, node);
+        match self.store.node(end).kind {
             Kind::End(parent) => Some(parent),
             Kind::Element(_) | Kind::Leaf(_) => unreachable!(),
         }
     }
 
     /// What stands there.
+    #[inline(always)]
     pub fn view(&self, at: Spot) -> NodeView<'_, 'p>
         requires { IsSpot self.now at }
         ensures item { slice_get (branch self.now.branches at.parent).inside at.place ≡ shown result }
         ensures child { is_item result ≡ true }
         ensures tag { HasTag self.now.branches result }
     {
-        match self.nodes[at.node as usize].kind {
+        match at.kind {
             Kind::End(_) => unreachable!(),
-            Kind::Element(id) => match &self.elements[id as usize].tag {
-                Some(tag) => NodeView::Element { id, tag },
-                None => unreachable!(),
+            Kind::Element(id) => NodeView::Element {
+                id,
+                tag: self.store.tag_near(id, at.part),
             },
-            Kind::Leaf(number) => match &self.leaves[number as usize] {
-                Leaf::Run(text) => NodeView::Text {
-                    runs: Runs::One(text),
-                },
-                Leaf::Text(runs) => NodeView::Text {
-                    runs: Runs::Several(runs),
-                },
-                Leaf::Comment(text) => NodeView::Comment { text },
-                Leaf::Doctype(number) => {
-                    let doctype = &self.doctypes[*number as usize];
-                    NodeView::Doctype {
-                        name: &doctype.name,
-                        public: doctype.public.as_ref(),
-                        system: doctype.system.as_ref(),
-                    }
-                }
-            },
+            Kind::Leaf(number) => view_of(self.store.leaf_near(number, at.part)),
         }
     }
 }
 
-/// A doctype as the tree keeps it: a name that is missing is the empty text.
-#[inline(never)]
-fn kept_doctype<'p>(doctype: hp_elements::Doctype<'p>) -> Doctype<'p>
-    ensures { result ≡ kept_doctype doctype.entry }
+/// The spot of a node in a list of children, if it isn't the list's end.
+#[inline(always)]
+fn spot(store: &Store<'_>, parent: u32, place: u32, node: u32, near: u32) -> Option<Spot>
+    requires { node < length store.now.nodes }
+    ensures { MatchOption result (stops store.now.nodes node ≡ true) (IsSpotOf store.now.nodes parent place node) }
 {
-    let parts = doctype.into_parts();
-    Doctype {
-        name: parts.name.unwrap_or(Text::new()),
-        public: parts.public,
-        system: parts.system,
+    let (Node { next, kind, .. }, part) = store.node_near(node, near);
+    match kind {
+        Kind::End(_) => None,
+        Kind::Element(_) | Kind::Leaf(_) => Some(Spot {
+            parent,
+            place,
+            node,
+            next,
+            kind,
+            part,
+        }),
+    }
+}
+
+/// What a leaf shows.
+#[inline(always)]
+fn view_of<'t, 'p>(leaf: &'t Leaf<'p>) -> NodeView<'t, 'p>
+    ensures item { shown result ≡ Some (leaf_item leaf.now) }
+    ensures child { is_item result ≡ true }
+    ensures tag { (t : Tree) → HasTag t result }
+{
+    match leaf {
+        Leaf::Run(text) => NodeView::Text {
+            runs: Runs::One(text),
+        },
+        Leaf::Text(runs) => NodeView::Text {
+            runs: Runs::Several(runs),
+        },
+        Leaf::Comment(text) => NodeView::Comment { text },
+        Leaf::Doctype(doctype) => {
+            let parts = doctype.parts();
+            NodeView::Doctype {
+                name: parts.name.as_ref(),
+                public: parts.public.as_ref(),
+                system: parts.system.as_ref(),
+            }
+        }
     }
 }
 
@@ -587,89 +552,83 @@ pub fn id_of(node: Ref) -> u64
     }
 }
 
-ghost use Rattle.hp_arena.specs.Shape.{at_of, attribute_count, tag_at, with_tag_at, IsPlaceIn, AreNodesIn};
+ghost use Rattle.hp_arena.specs.Shape.{at_of, IsPlaceIn, AreNodesIn};
 
 /// The node before which a child at a place goes.
-fn node_at(nodes: &[Node], elements: &[Element], place: Place) -> u32
-    requires there { IsPlaceIn (length elements.now) place }
-    requires closed { AreNodesIn elements.now (length nodes.now) }
-    ensures { result ≡ at_of nodes.now elements.now place }
+#[inline(always)]
+fn node_at(store: &Store<'_>, place: Place) -> u32
+    requires there { IsPlaceIn (length store.now.elements) place }
+    requires closed { AreNodesIn store.now.elements (length store.now.nodes) }
+    ensures { result ≡ at_of store.now.nodes store.now.elements place }
 {
     match place {
-        Place::Into(parent) => elements[id_of(parent) as usize].node + 1,
-        Place::Foster { table, above } => {
-            let node = elements[id_of(table) as usize].node;
-            if nodes[node as usize].next == node {
-                elements[id_of(above) as usize].node + 1
-            } else {
-                node
-            }
-        }
+        Place::Into(parent) => store.node_of(id_of(parent) as u32) + 1,
+        Place::Foster { table, above } => fostered_at(
+            store,
+            id_of(table) as u32,
+            id_of(above) as u32,
+        ),
     }
 }
 
-/// Adds the attributes that an element doesn't have. The document has none and gets none.
-fn retag(elements: &mut [Element], id: u64, more: Chain<Attribute>)
-    requires id_in { id < length elements.old }
-    requires room { attribute_count (tag_at elements.old id) + length more < 2 ^ 63 }
-    ensures { elements.new ≡ with_tag_at elements.old id (with_attributes (tag_at elements.old id) more) }
+/// The node before which a child goes that is put before a table, or else last into another element.
+#[inline(never)]
+fn fostered_at(store: &Store<'_>, table: u32, above: u32) -> u32
+    requires table_in { table < length store.now.elements }
+    requires above_in { above < length store.now.elements }
+    requires closed { AreNodesIn store.now.elements (length store.now.nodes) }
+    ensures { result ≡ at_of store.now.nodes store.now.elements (Place.Foster (Ref.Fixed table) (Ref.Fixed above)) }
 {
-    if let Some(tag) = &mut elements[id as usize].tag {
-        add_attributes(&mut tag.attributes, more);
+    let node = store.node_of(table);
+    if store.node(node).next == node {
+        store.node_of(above) + 1
+    } else {
+        node
     }
 }
 
 /// The end of the list that a node stands in.
 #[inline(never)]
-fn end_after(nodes: &[Node], from: u32) -> u32
-    requires from_in { from < length nodes.now }
-    requires closed { IsClosed nodes.now }
-    ensures { result ≡ end_from nodes.now (length nodes.now) from }
+fn end_after(store: &Store<'_>, from: u32) -> u32
+    requires from_in { from < length store.now.nodes }
+    requires closed { IsClosed store.now.nodes }
+    ensures { result ≡ end_from store.now.nodes (length store.now.nodes) from }
 {
     let mut at = from;
-    for _ in 0..nodes.len() {
-        if let Kind::End(_) = nodes[at as usize].kind {
+    let mut part = 0;
+    for _ in 0..store.counts().nodes {
+        let (node, found) = store.node_near(at, part);
+        if let Kind::End(_) = node.kind {
             return at;
         }
-        at = nodes[at as usize].next;
+        at = node.next;
+        part = found;
     }
     at
 }
 
-/// How many levels stand above the deepest item that the links lead to from the document. An element stands right before the end of
-/// its own children.
-#[inline(never)]
-fn deepest(nodes: &[Node]) -> u64 {
-    let mut level = 0u64;
-    let mut deepest = 0u64;
-    let mut at = next_of(nodes, 1);
-    for _ in 0..nodes.len() {
-        let Some(node) = nodes.get(at as usize) else {
-            break;
-        };
-        match node.kind {
-            Kind::Leaf(_) => at = node.next,
-            Kind::Element(_) => {
-                level = level.wrapping_add(1);
-                deepest = deepest.max(level);
-                at = next_of(nodes, at.wrapping_add(1));
-            }
-            Kind::End(_) => {
-                level = level.wrapping_sub(1);
-                at = next_of(nodes, at.wrapping_sub(1));
-            }
-        }
+/// Moves all items of a list behind those of another, where there is room for them.
+fn append_reserved<T: Drop>(list: &mut Vec<T>, more: Vec<T>)
+    requires { vec_len list.old + vec_len more ≤ vec_capacity list.old }
+    ensures items { list.new.items ≡ list.old.items ++ more.items }
+    ensures len { vec_len list.new ≡ vec_len list.old + vec_len more }
+    ensures capacity { vec_capacity list.old ≤ vec_capacity list.new }
+{
+    let mut more = more;
+    match list.append(&mut more) {
+        Ok(()) => {}
+        Err(_) => unreachable!(),
     }
-    deepest
 }
 
-/// The node after this one, if it is there.
-#[inline(always)]
-fn next_of(nodes: &[Node], at: u32) -> u32 {
-    match nodes.get(at as usize) {
-        Some(node) => node.next,
-        None => at,
-    }
+/// The length of the longest list of so much and so much more, or a count where that is more.
+fn most(counts: Counts, more: Counts, used: usize) -> usize
+    ensures { result ≡ max (max (max (counts.nodes + more.nodes) (counts.elements + more.elements)) (counts.leaves + more.leaves)) used }
+{
+    (counts.nodes as usize + more.nodes as usize)
+        .max(counts.elements as usize + more.elements as usize)
+        .max(counts.leaves as usize + more.leaves as usize)
+        .max(used)
 }
 
 /// Whether a tree may have a list or count of so many items, and room for so many more.

@@ -43,11 +43,12 @@ pub struct GraftRefusal<'p> {
 impl<'p> Grove<'p> {
     ghost use Rattle.hp_arena.specs.Groves.{IsBlank};
 
-    /// The elements behind the document of a tree in which nothing stands in the document.
-    pub fn behind_document(tree: Tree<'p>) -> Grove<'p>
+    /// The elements behind the document of a tree in which nothing stands in the document. Memory in which nothing stands is given back.
+    pub fn behind_document(mut tree: Tree<'p>) -> Grove<'p>
         requires blank { IsBlank tree.branches }
         ensures { result ≡ behind_document tree.entry.branches }
     {
+        tree.shrink();
         Grove { tree }
     }
 
@@ -78,8 +79,7 @@ impl<'p> Tree<'p> {
         ensures err { OnErr result (self.new ≡ self.old) }
         ensures back { IfErr result (λ refusal. refusal.grove ≡ grove.entry) }
     {
-        let _ = alloc;
-        match self.graft_tree(grove.into_tree()) {
+        match self.graft_tree(alloc, grove.into_tree()) {
             Ok(()) => Ok(()),
             Err(tree) => Err(GraftRefusal {
                 grove: Grove { tree },

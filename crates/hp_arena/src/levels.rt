@@ -1,46 +1,98 @@
 //! How many levels stand above the lines of a tree's text.
 
-ghost use Rattle.std.specs.Prelude.{◌≡◌, ◌+◌, ◌*◌, ◌<◌, ◌^◌, length};
+ghost use Rattle.std.specs.Prelude.{◌≡◌, ◌+◌, ◌*◌, ◌<◌, ◌^◌, length, IfSome};
 ghost use Rattle.std.specs.Option.{option_map};
 ghost use Rattle.hp_arena.specs.Levels.{counted, deepest_from, level_after, link_at, onward, summed_from};
+ghost use Rattle.hp_arena.specs.Nodes.{IsClosed};
 
-use crate::links::{Kind, Node};
+use hp_store::{Kind, Store};
 
 /// The levels above all items that the links lead to from the document, and those above the deepest for so many more.
 #[inline(never)]
-pub fn summed_levels(nodes: &[Node], more: u64) -> u64
-    ensures { result ≡ counted (summed_from nodes.now (length nodes.now) 1 0 + deepest_from nodes.now (length nodes.now) 1 0 * more) }
+pub fn summed_levels(store: &Store<'_>, more: u64) -> u64
+    requires { IsClosed store.now.nodes }
+    ensures { result ≡ counted (summed_from store.now.nodes (length store.now.nodes) 1 0 + deepest_from store.now.nodes (length store.now.nodes) 1 0 * more) }
 {
+    let count = store.counts().nodes;
     let mut level = 0u64;
     let mut deepest = 0u64;
     let mut sum = 0u64;
-    let mut at = 1usize;
-    for _turn in 0..nodes.len() {
-        let Some(link) = link_at(nodes, at) else {
+    let mut at = 1u32;
+    let mut part = 0u32;
+    for _turn in 0..count {
+        let Some(link) = link_at(store, count, at, part) else {
             return with_more(sum, deepest, more);
         };
         sum = sum.saturating_add(level);
         level = level_after(link.1, level);
         deepest = deepest.max(level);
-        at = onward(link.1, link.0 as usize);
+        at = onward(link.1, link.0);
+        part = link.2;
     }
     with_more(sum, deepest, more)
 }
 
-/// Where the link of a node leads, and to what. `None` where one of the two nodes isn't there.
+/// How many levels stand above the deepest item that the links lead to from the document. Nothing is promised of it. An element stands
+/// right before the end of its own children.
+#[inline(never)]
+pub fn deepest(store: &Store<'_>) -> u64 {
+    let count = store.counts().nodes;
+    let mut level = 0u64;
+    let mut deepest = 0u64;
+    let (mut at, mut part) = next_of(store, count, 1, 0);
+    for _turn in 0..count {
+        if count <= at {
+            return deepest;
+        }
+        let (node, found) = store.node_near(at, part);
+        match node.kind {
+            Kind::Leaf(_) => (at, part) = (node.next, found),
+            Kind::Element(_) => {
+                level = level.wrapping_add(1);
+                deepest = deepest.max(level);
+                (at, part) = next_of(store, count, at.wrapping_add(1), found);
+            }
+            Kind::End(_) => {
+                level = level.wrapping_sub(1);
+                (at, part) = next_of(store, count, at.wrapping_sub(1), found);
+            }
+        }
+    }
+    deepest
+}
+
+/// The node after this one, if it is there, and in which part this one stands.
 #[inline(always)]
-fn link_at(nodes: &[Node], at: usize) -> Option<(u32, Kind)>
-    ensures { option_map (λ link. record { to = link.0; kind = link.1 }) result ≡ link_at nodes.now at }
+fn next_of(store: &Store<'_>, count: u32, at: u32, near: u32) -> (u32, u32)
+    requires { count ≡ length store.now.nodes }
 {
-    let node = nodes.get(at)?;
-    let next = nodes.get(node.next as usize)?;
-    Some((node.next, next.kind))
+    if count <= at {
+        return (at, near);
+    }
+    let (node, part) = store.node_near(at, near);
+    (node.next, part)
+}
+
+/// Where the link of a node leads, to what, and in which part. `None` where one of the two nodes isn't there.
+#[inline(always)]
+fn link_at(store: &Store<'_>, count: u32, at: u32, near: u32) -> Option<(u32, Kind, u32)>
+    requires count { count ≡ length store.now.nodes }
+    requires closed { IsClosed store.now.nodes }
+    ensures link { option_map (λ link. record { to = link.0; kind = link.1 }) result ≡ link_at store.now.nodes at }
+    ensures to { IfSome result (λ link. link.0 < length store.now.nodes) }
+{
+    if count <= at {
+        return None;
+    }
+    let (node, part) = store.node_near(at, near);
+    let (next, part) = store.node_near(node.next, part);
+    Some((node.next, next.kind, part))
 }
 
 /// The node from which the way goes on behind one of this kind.
 #[inline(always)]
-fn onward(kind: Kind, at: usize) -> usize
-    requires { at < 2 ^ 32 }
+fn onward(kind: Kind, at: u32) -> u32
+    requires { at + 1 < 2 ^ 32 }
     ensures { result ≡ onward kind at }
 {
     match kind {

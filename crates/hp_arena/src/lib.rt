@@ -1,15 +1,12 @@
-//! The document tree: nodes in one `Vec`, linked in rings, that edits change in constant time and without memory.
+//! The document tree: nodes linked in rings, which edits change without memory.
 #![tactic(auto)]
 
 mod arena;
-mod attributes;
-mod grafting;
 mod grove;
 mod leaves;
 mod levels;
 mod links;
 mod readers;
-mod room;
 mod roots;
 mod tree;
 

@@ -3,75 +3,52 @@
 //! case for a first or a last child.
 
 ghost use Rattle.std.specs.Prelude.{◌≡◌, ◌<◌, length};
-ghost use Rattle.hp_arena.specs.Nodes.{links_of, SameKinds, IsClosed, IsRelinked};
-ghost use Rattle.hp_arena.specs.Ring.{joined, unlinked, inserted, spliced};
+ghost use Rattle.hp_arena.specs.Nodes.{links_of, IsClosed, IsRinged, IsRelinked};
+ghost use Rattle.hp_arena.specs.Ring.{joined, unlinked, spliced};
 
-/// What a node is. The numbers are places in the tree's other lists.
-#[derive(Clone, Copy)]
-pub enum Kind {
-    /// The end of the children of the element of this number.
-    End(u32),
-    /// The element of this number.
-    Element(u32),
-    /// A text, comment or doctype: the leaf of this number.
-    Leaf(u32),
-}
-
-/// A node with the nodes beside it.
-#[derive(Clone, Copy)]
-pub struct Node {
-    pub prev: u32,
-    pub next: u32,
-    pub kind: Kind,
-}
-
-const _: () = prove!(size_of::<Node>() == 16);
-
-/// Makes `second` the node after `first`.
-fn join(nodes: &mut [Node], first: u32, second: u32)
-    requires first_in { first < length nodes.old }
-    requires second_in { second < length nodes.old }
-    ensures links { links_of nodes.new ≡ joined (links_of nodes.old) first second }
-    ensures kinds { SameKinds nodes.old nodes.new }
-    ensures closed { IsClosed nodes.old → IsClosed nodes.new }
-{
-    nodes[first as usize].next = second;
-    nodes[second as usize].prev = first;
-}
+use hp_store::{Node, Store};
 
 /// Takes a node out of its ring.
-pub fn unlink(nodes: &mut [Node], node: u32)
-    requires node_in { node < length nodes.old }
-    requires closed { IsClosed nodes.old }
-    ensures { IsRelinked nodes.old nodes.new (unlinked (links_of nodes.old) node) }
+#[inline(always)]
+pub fn unlink(store: &mut Store<'_>, node: u32)
+    requires node_in { node < length store.old.nodes }
+    requires closed { IsClosed store.old.nodes }
+    requires ringed { IsRinged store.old.nodes }
+    ensures nodes { IsRelinked store.old.nodes store.new.nodes (unlinked (links_of store.old.nodes) node) }
+    ensures rest { store.new ≡ record store.old { nodes = store.new.nodes } }
 {
-    let Node { prev, next, .. } = nodes[node as usize];
-    join(nodes, prev, next);
-    join(nodes, node, node);
+    let Node { prev, next, .. } = store.late_node(node);
+    if next == node {
+        return;
+    }
+    unlink_other(store, prev, node, next);
 }
 
-/// Puts a node that is alone before another.
-pub fn put_before(nodes: &mut [Node], at: u32, node: u32)
-    requires at_in { at < length nodes.old }
-    requires node_in { node < length nodes.old }
-    requires closed { IsClosed nodes.old }
-    ensures { IsRelinked nodes.old nodes.new (inserted (links_of nodes.old) at node) }
+/// Takes a node that isn't alone out of its ring.
+#[inline(never)]
+fn unlink_other(store: &mut Store<'_>, prev: u32, node: u32, next: u32)
+    requires prev_in { prev < length store.old.nodes }
+    requires node_in { node < length store.old.nodes }
+    requires next_in { next < length store.old.nodes }
+    requires closed { IsClosed store.old.nodes }
+    ensures nodes { IsRelinked store.old.nodes store.new.nodes (joined (joined (links_of store.old.nodes) prev next) node node) }
+    ensures rest { store.new ≡ record store.old { nodes = store.new.nodes } }
 {
-    let before = nodes[at as usize].prev;
-    join(nodes, before, node);
-    join(nodes, node, at);
+    store.join(prev, next);
+    store.join(node, node);
 }
 
 /// Puts all that stands in the ring of one node, which isn't alone, before another node.
-pub fn splice(nodes: &mut [Node], source: u32, target: u32)
-    requires source_in { source < length nodes.old }
-    requires target_in { target < length nodes.old }
-    requires closed { IsClosed nodes.old }
-    ensures { IsRelinked nodes.old nodes.new (spliced (links_of nodes.old) source target) }
+pub fn splice(store: &mut Store<'_>, source: u32, target: u32)
+    requires source_in { source < length store.old.nodes }
+    requires target_in { target < length store.old.nodes }
+    requires closed { IsClosed store.old.nodes }
+    ensures nodes { IsRelinked store.old.nodes store.new.nodes (spliced (links_of store.old.nodes) source target) }
+    ensures rest { store.new ≡ record store.old { nodes = store.new.nodes } }
 {
-    let Node { prev, next, .. } = nodes[source as usize];
-    let before = nodes[target as usize].prev;
-    join(nodes, before, next);
-    join(nodes, prev, target);
-    join(nodes, source, source);
+    let Node { prev, next, .. } = store.node(source);
+    let before = store.node(target).prev;
+    store.join(before, next);
+    store.join(prev, target);
+    store.join(source, source);
 }

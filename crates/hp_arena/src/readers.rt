@@ -4,9 +4,10 @@ ghost use Rattle.std.specs.Prelude.{◌≡◌};
 ghost use Rattle.hp_arena.specs.Readers.{is_template};
 
 use hp_elements::{Chain, Known, Namespace, Tag, Text};
+use hp_store::Kind;
 
 /// Where an item stands: at which place in the list of children of which element, and by what number it is found.
-#[derive(Clone, Copy)]
+#[derive(Clone, Copy, PartialEq, Eq)]
 pub struct Spot {
     /// The id of the element in whose list of children it stands. The document is 0.
     pub parent: u32,
@@ -14,6 +15,12 @@ pub struct Spot {
     pub place: u32,
     /// The number by which the tree finds it.
     pub node: u32,
+    /// The number by which the tree finds the next one.
+    pub(crate) next: u32,
+    /// What it is.
+    pub(crate) kind: Kind,
+    /// In which part of the tree's lists it is looked for first. Nothing is promised of it.
+    pub(crate) part: u32,
 }
 
 /// Where a reader stands in a tree.
@@ -45,7 +52,7 @@ pub enum NodeView<'t, 'p> {
     Contents,
     /// A doctype, with the identifiers that it has.
     Doctype {
-        name: &'t Text<'p>,
+        name: Option<&'t Text<'p>>,
         public: Option<&'t Text<'p>>,
         system: Option<&'t Text<'p>>,
     },

@@ -10,8 +10,8 @@ ghost use Rattle.hp_control.specs.declared.edit.Place.{Place};
 ghost use Rattle.hp_groves.specs.Grafts.{graft};
 ghost use Rattle.hp_arena.specs.Groves.{behind_document, IsBlank};
 ghost use Rattle.hp_arena.specs.Roots.{AreRoots};
-ghost use Rattle.hp_arena.specs.Shape.{attribute_count};
-ghost use Rattle.hp_arena.specs.Readers.{IsAt, IsIn, IsFirstChild, IsShown, HasTag, children, list_of, contents_of, siblings, parent_of, place_of};
+ghost use Rattle.hp_store.specs.Lists.{attribute_count};
+ghost use Rattle.hp_arena.specs.Readers.{IsAt, IsIn, IsFirstChild, IsFirstBelow, IsShown, HasTag, children, list_of, items_in_list, element_at, contents_of, siblings, parent_of, place_of};
 
 use crate::arena::Arena;
 use crate::readers::{At, NodeView, is_template};
@@ -265,7 +265,7 @@ impl<'p> Tree<'p> {
     /// Puts the elements of another tree but its document, in which nothing stands, behind those of this one. There is as much room for
     /// edits as before. At an `Err`, which is want of memory, also where a list or count of the tree would be past 2^29, the tree is as
     /// before and the other one comes back.
-    pub(crate) fn graft_tree(&mut self, other: Tree<'p>) -> Result<(), Tree<'p>>
+    pub(crate) fn graft_tree(&mut self, alloc: Global, other: Tree<'p>) -> Result<(), Tree<'p>>
         requires blank { IsBlank other.branches }
         ensures branches { OnOk result (self.new.branches ≡ graft self.old.branches (behind_document other.entry.branches)) }
         ensures spare { OnOk result (self.new.spare ≡ self.old.spare) }
@@ -275,10 +275,17 @@ impl<'p> Tree<'p> {
         // `len` hands on that the document is there, whose children stay.
         let _elements = self.len();
         let (arena, roots) = other.into_parts();
-        match self.arena.graft(arena) {
+        match self.arena.graft(alloc, arena) {
             Ok(()) => Ok(()),
             Err(arena) => Err(Tree { arena, roots }),
         }
+    }
+
+    /// Gives the memory back in which nothing stands. There is no room for edits then.
+    pub(crate) fn shrink(&mut self)
+        ensures { self.new.branches ≡ self.old.branches }
+    {
+        self.arena.shrink();
     }
 
     /// The lists, and which elements may stand in the document.
@@ -321,6 +328,7 @@ impl<'p> Tree<'p> {
     }
 
     /// What stands there.
+    #[inline(always)]
     pub fn view(&self, at: At) -> NodeView<'_, 'p>
         requires { IsAt self.now at }
         ensures view { IsShown self.now.branches at result }
@@ -347,6 +355,7 @@ impl<'p> Tree<'p> {
     }
 
     /// The next in the same list of children.
+    #[inline(always)]
     pub fn next_sibling(&self, at: At) -> Option<At>
         requires { IsAt self.now at }
         ensures next { MatchOption result (length (siblings self.now.branches at) ≤ place_of at + 1) (λ next. IsIn self.now (parent_of at) (place_of at + 1) next) }
@@ -390,6 +399,20 @@ impl<'p> Tree<'p> {
     {
         match self.arena.first_inside(id) {
             Some(spot) => Some(At::Child(spot)),
+            None => None,
+        }
+    }
+
+    /// The first of what stands inside the element there: of its children, or of the contents if it is a template.
+    #[inline(always)]
+    pub fn first_below(&self, at: At) -> Option<At>
+        requires { IsAt self.now at }
+        ensures first { MatchOption result (items_in_list self.now.branches (element_at self.now.branches at) ≡ []) (IsFirstBelow self.now at) }
+        ensures there { IfSome result (IsAt self.now) }
+    {
+        let At::Child(spot) = at else { return None };
+        match self.arena.first_below(spot) {
+            Some(first) => Some(At::Child(first)),
             None => None,
         }
     }

@@ -2,15 +2,15 @@
 use Rattle.std.proofs.Common.{◌≡◌, ℕ, zero, suc, ◌+◌, ◌-◌, ◌<◌, ◌≤◌, List, [], ◌∷◌, ◌++◌, length, drop, get_or, arith, refl, sym, ap, subst, ◌∙◌, Some, slice_get, append_assoc, append-nil, add-one}
 use Rattle.std.proofs.lemmas.Option.{slice_get-get_or, slice_get_within}
 use Rattle.std.proofs.Math.Seq.{drop-cons}
-use Rattle.std.specs.Prelude.{Option, None, true, false, if◌then◌else◌}
+use Rattle.std.specs.Prelude.{Option, None, true, false, if◌then◌else◌, unwrap_or}
 use Rattle.std.specs.Borrow.{Bor}
 use Rattle.hp_elements.specs.declared.tag.Tag.{Tag}
 use Rattle.hp_control.specs.Tree.{Tree, Item, branch, HasChild, IsForest}
 use Rattle.hp_control.specs.Tree as item
 use Rattle.std.specs.Option.{option_copied}
 use Rattle.std.proofs.lemmas.Bool.{true≢false}
-use Rattle.hp_arena.specs.Readers.{shown, text_of, is_item, is_template, HasTag, IsAt, IsIn, IsShown, parent_of, place_of, siblings}
-use Rattle.hp_arena.specs.Shape.{attribute_count}
+use Rattle.hp_arena.specs.Readers.{shown, text_of, is_item, is_template, element_at, element_of, HasTag, IsAt, IsIn, IsShown, parent_of, place_of, siblings}
+use Rattle.hp_store.specs.Lists.{attribute_count}
 use Rattle.hp_arena.specs.declared.readers.At.{At}
 use Rattle.hp_arena.specs.declared.readers.At.TheVariants as at
 use Rattle.hp_arena.specs.declared.readers.NodeView.{NodeView}
@@ -202,6 +202,12 @@ in-shown t parent place at.Document view h is = absurd h
 in-shown t parent place (at.Child spot) view h is = is
 in-shown t parent place (at.Contents id) view h is = absurd h
 
+-- the element that a view shows stands there
+pub in-element : (t : Seen) (parent place : ℕ) (a : At) (view : NodeView) (id : ℕ) (tag : Bor Tag) → IsIn t parent place a → IsShown t.branches a view → view ≡ node.Element id tag → element_at t.branches a ≡ Some id
+in-element t parent place at.Document view id tag h shows is = absurd h
+in-element t parent place (at.Child spot) view id tag h shows is = ap element_of shows.0 ∙ ap (λ v. element_of (shown v)) is
+in-element t parent place (at.Contents id') view id tag h shows is = absurd h
+
 -- the view of an item shows it
 pub item_shown : (view : NodeView) → is_item view ≡ true → (x : Item) × (shown view ≡ Some x)
 item_shown node.Document h = absurd (true≢false (sym h))
@@ -215,7 +221,7 @@ item_shown (node.Comment text) h = (_, refl)
 pub leaf_inside : (t : Tree) (view : NodeView) (x : Item) → shown view ≡ Some x → ((id : ℕ) (tag : Bor Tag) → view ≡ node.Element id tag → ⊥) → inside t x ≡ []
 leaf_inside t node.Document x is not_element = cc is
 leaf_inside t node.Contents x is not_element = cc is
-leaf_inside t (node.Doctype name public system) x is not_element = let same : item.Doctype name.now (option_copied public) (option_copied system) ≡ x = cc is in ap (inside t) (sym same)
+leaf_inside t (node.Doctype name public system) x is not_element = let same : item.Doctype (unwrap_or (option_copied name) []) (option_copied public) (option_copied system) ≡ x = cc is in ap (inside t) (sym same)
 leaf_inside t (node.Element id tag) x is not_element = absurd (not_element id tag refl)
 leaf_inside t (node.Text runs) x is not_element = let same : item.Text (text_of runs) ≡ x = cc is in ap (inside t) (sym same)
 leaf_inside t (node.Comment text) x is not_element = let same : item.Comment text.now ≡ x = cc is in ap (inside t) (sym same)

@@ -3,7 +3,7 @@ use Rattle.std.specs.Prelude.{◌≡◌, ℕ, zero, suc, ◌+◌, ◌-◌, ◌<�
 use Rattle.hp_control.specs.Tree.{Tree, Item, branch, HasChild}
 use Rattle.hp_arena.specs.Arena.{Seen}
 use Rattle.hp_arena.specs.Readers.{IsIn, HasTag, parent_of, place_of, shown}
-use Rattle.hp_arena.specs.Shape.{attribute_count}
+use Rattle.hp_store.specs.Lists.{attribute_count}
 use Rattle.hp_arena.specs.declared.readers.NodeView.{NodeView}
 use Rattle.hp_arena.specs.declared.readers.NodeView.TheVariants as node
 use Rattle.hp_control.specs.Tree as item

@@ -109,17 +109,17 @@ fn print_comment<K: Sink>(out: &mut Out, sink: &mut K, text: &Text<'_>, depth: u
 fn print_doctype<K: Sink>(
     out: &mut Out,
     sink: &mut K,
-    name: &Text<'_>,
+    name: Option<&Text<'_>>,
     public: Option<&Text<'_>>,
     system: Option<&Text<'_>>,
     depth: u64,
 )
     requires { depth < 2 ^ 63 }
-    ensures { Prints out.old out.new (K.taken sink.old, K.faults sink.old) (K.taken sink.new, K.faults sink.new) (doctype_line depth name.now (option_copied public.entry) (option_copied system.entry)) }
+    ensures { Prints out.old out.new (K.taken sink.old, K.faults sink.old) (K.taken sink.new, K.faults sink.new) (doctype_line depth (unwrap_or (option_copied name.entry) []) (option_copied public.entry) (option_copied system.entry)) }
 {
     out.indent(sink, depth);
     out.put(sink, b"<!DOCTYPE ");
-    out.put_text(sink, name.as_str());
+    print_identifier(out, sink, name);
     print_identifiers(out, sink, public, system);
     out.put(sink, b">\n");
 }

@@ -328,9 +328,5 @@ fn is_same(first: Mark, second: Mark) -> bool
     let (At::Child(spot), At::Child(other)) = (first.at, second.at) else {
         return false;
     };
-    first.level == second.level
-        && first.templates == second.templates
-        && spot.parent == other.parent
-        && spot.place == other.place
-        && spot.node == other.node
+    first.level == second.level && first.templates == second.templates && spot == other
 }

@@ -170,7 +170,7 @@ fn attribute_list<'t>(alloc: Global, tree: &'t Tree<'_>) -> Result<Vec<Shown<'t>
 }
 
 /// Takes a step over the first item at a mark: marks what is left there and what stands inside the item. What stands at the mark.
-#[inline]
+#[inline(always)]
 pub fn step<'t, 'p>(tree: &'t Tree<'p>, stack: &mut Vec<Mark>, mark: Mark) -> NodeView<'t, 'p>
     requires mark { IsMark tree.now mark }
     requires rising { vec_len stack.old ≤ mark.level }
@@ -185,7 +185,7 @@ pub fn step<'t, 'p>(tree: &'t Tree<'p>, stack: &mut Vec<Mark>, mark: Mark) -> No
 }
 
 /// Marks what stands inside the first item at a mark. What stands at the mark.
-#[inline]
+#[inline(always)]
 pub fn push_inside<'t, 'p>(
     tree: &'t Tree<'p>,
     stack: &mut Vec<Mark>,
@@ -202,15 +202,21 @@ pub fn push_inside<'t, 'p>(
     // `len` hands on that the tree is a forest: each child is there, and no level is past the number of elements.
     let _elements = tree.len();
     let view = tree.view(mark.at);
-    if let NodeView::Element { id, tag } = view {
+    if let NodeView::Element { tag, .. } = view {
         let templates = mark.templates + extra_depth(tag);
-        push_first(tree, stack, id, mark.level + 1, templates);
+        if let Some(at) = tree.first_below(mark.at) {
+            stack.push_reserved(Mark {
+                at,
+                level: mark.level + 1,
+                templates,
+            });
+        }
     }
     view
 }
 
 /// Marks the item after the one at a mark, if there is one.
-#[inline]
+#[inline(always)]
 pub fn push_next(tree: &Tree<'_>, stack: &mut Vec<Mark>, mark: Mark)
     requires mark { IsMark tree.now mark }
     requires rising { vec_len stack.old ≤ mark.level }
@@ -231,7 +237,7 @@ pub fn push_next(tree: &Tree<'_>, stack: &mut Vec<Mark>, mark: Mark)
 }
 
 /// Marks the first item inside an element, if there is one.
-#[inline]
+#[inline(always)]
 fn push_first(tree: &Tree<'_>, stack: &mut Vec<Mark>, id: u32, level: u32, templates: u32)
     requires there { id < length tree.now.branches }
     requires deep { IsDeep tree.now.branches level id }

@@ -1,6 +1,6 @@
 -- What is written for what a view shows.
 use Rattle.std.proofs.Common.{◌≡◌, ℕ, List, [], ◌++◌, refl, sym, ap, ◌∙◌, Some, slice_get, append-nil}
-use Rattle.std.specs.Prelude.{Bool, true, encode_utf8_all}
+use Rattle.std.specs.Prelude.{Bool, true, encode_utf8_all, unwrap_or}
 use Rattle.std.specs.Borrow.{Bor}
 use Rattle.std.specs.Option.{option_copied}
 use Rattle.std.proofs.lemmas.Bool.{true≢false, cond-true}
@@ -60,7 +60,7 @@ NoElement view = (id : ℕ) (tag : Bor Tag) → view ≡ node.Element id tag →
 pub leaf_empty : (t : Tree) (view : NodeView) (x : Item) → shown view ≡ Some x → NoElement view → (inside t x ≡ []) × (back t x ≡ [])
 leaf_empty t node.Document x is other = cc is
 leaf_empty t node.Contents x is other = cc is
-leaf_empty t (node.Doctype name public system) x is other = let same : item.Doctype name.now (option_copied public) (option_copied system) ≡ x = cc is in rw (← same) (refl, refl)
+leaf_empty t (node.Doctype name public system) x is other = let same : item.Doctype (unwrap_or (option_copied name) []) (option_copied public) (option_copied system) ≡ x = cc is in rw (← same) (refl, refl)
 leaf_empty t (node.Element id tag) x is other = absurd (other id tag refl)
 leaf_empty t (node.Text runs) x is other = let same : item.Text (text_of runs) ≡ x = cc is in rw (← same) (refl, refl)
 leaf_empty t (node.Comment text) x is other = let same : item.Comment text.now ≡ x = cc is in rw (← same) (refl, refl)

@@ -1,6 +1,6 @@
 //! The tags of an element, and what is written for the other items.
 
-ghost use Rattle.std.specs.Prelude.{◌≡◌, ◌++◌, OnOk, encode_utf8_all};
+ghost use Rattle.std.specs.Prelude.{◌≡◌, ◌++◌, [], OnOk, encode_utf8_all, option_copied, unwrap_or};
 ghost use Rattle.std.specs.List.{concat, flat_map};
 ghost use Rattle.std.specs.Str.{chars};
 ghost use Rattle.hp_control.specs.Tree.{Tree};
@@ -57,8 +57,8 @@ pub fn write_front(out: &mut Vec<u8>, view: NodeView<'_, '_>, raw: bool) -> Resu
     match view {
         NodeView::Element { tag, .. } => write_start_tag(out, tag),
         NodeView::Text { runs } => write_runs(out, runs, raw),
-        NodeView::Comment { text } => write_between(out, b"<!--", text, b"-->"),
-        NodeView::Doctype { name, .. } => write_between(out, b"<!DOCTYPE ", name, b">"),
+        NodeView::Comment { text } => write_between(out, b"<!--", text.as_str(), b"-->"),
+        NodeView::Doctype { name, .. } => { write_between(out, b"<!DOCTYPE ", name_of(name), b">") }
         NodeView::Document | NodeView::Contents => Ok(()),
     }
 }
@@ -173,16 +173,21 @@ fn write_run(out: &mut Vec<u8>, run: &Text<'_>, raw: bool) -> Result<(), NoMemor
     }
 }
 
+/// The name of a doctype: the empty text where it is missing.
+fn name_of<'t>(name: Option<&'t Text<'_>>) -> &'t str
+    ensures { chars result.now ≡ unwrap_or (option_copied name.entry) [] }
+{
+    match name {
+        Some(name) => name.as_str(),
+        None => "",
+    }
+}
+
 /// Writes a text as it is between two marks.
-fn write_between(
-    out: &mut Vec<u8>,
-    left: &[u8],
-    text: &Text<'_>,
-    right: &[u8],
-) -> Result<(), NoMemory>
-    ensures { OnOk result (out.new.items ≡ out.old.items ++ left.now ++ encode_utf8_all text.now ++ right.now) }
+fn write_between(out: &mut Vec<u8>, left: &[u8], text: &str, right: &[u8]) -> Result<(), NoMemory>
+    ensures { OnOk result (out.new.items ≡ out.old.items ++ left.now ++ encode_utf8_all (chars text.now) ++ right.now) }
 {
     put(out, left)?;
-    put_str(out, text.as_str())?;
+    put_str(out, text)?;
     put(out, right)
 }

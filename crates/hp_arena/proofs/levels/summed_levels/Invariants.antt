@@ -7,6 +7,6 @@ abbrev pub invariant-loop-turn : goal.invariant-loop-turn
 invariant-loop-turn l = record {
   low : l.level ≤ l._turn;
   deep : l.level ≤ l.deepest;
-  sum : counted (l.sum + summed_from l.nodes (length l.nodes - l._turn) l.at l.level) ≡ counted (summed_from l.nodes (length l.nodes) 1 0);
-  deepest : max l.deepest (deepest_from l.nodes (length l.nodes - l._turn) l.at l.level) ≡ deepest_from l.nodes (length l.nodes) 1 0;
+  sum : counted (l.sum + summed_from l.store.nodes (length l.store.nodes - l._turn) l.at l.level) ≡ counted (summed_from l.store.nodes (length l.store.nodes) 1 0);
+  deepest : max l.deepest (deepest_from l.store.nodes (length l.store.nodes - l._turn) l.at l.level) ≡ deepest_from l.store.nodes (length l.store.nodes) 1 0;
 }

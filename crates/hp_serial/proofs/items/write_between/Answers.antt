@@ -3,5 +3,4 @@ use Rattle.hp_serial.proofs.items.write_between.Goals as goal
 
 pub returns : goal.returns
 returns c =
-    let text = rw c.as_str.ensures at c.in_ok-put_str.ensures in
-    ok_then c.put-2.result _ _ (λ last. between c.args.out.now.items _ _ _ c.args.left.now _ _ c.in_ok-put.ensures text last) c.put-2.ensures
+    ok_then c.put-2.result _ _ (λ last. between c.args.out.now.items _ _ _ c.args.left.now _ _ c.in_ok-put.ensures c.in_ok-put_str.ensures last) c.put-2.ensures

@@ -11,8 +11,8 @@ returns-in-Text c t has = ok_then c.write_runs.result _ _ (λ e. front_shown t c
 
 pub returns-in-Comment : goal.returns-in-Comment
 returns-in-Comment c t has =
-    ok_then c.write_between.result _ _ (λ e. front_shown t c.args.raw _ _ c.args.view _ c.in-Comment.is (comment_joined _ _ _ e)) c.write_between.ensures
+    ok_then c.write_between.result _ _ (λ e. front_shown t c.args.raw _ _ c.args.view _ c.in-Comment.is (comment_joined _ _ _ (rw c.as_str.ensures at e))) c.write_between.ensures
 
 pub returns-in-Doctype : goal.returns-in-Doctype
 returns-in-Doctype c t has =
-    ok_then c.write_between-in-Doctype.result _ _ (λ e. front_shown t c.args.raw _ _ c.args.view _ c.in-Doctype.is (doctype_joined _ _ _ e)) c.write_between-in-Doctype.ensures
+    ok_then c.write_between-in-Doctype.result _ _ (λ e. front_shown t c.args.raw _ _ c.args.view _ c.in-Doctype.is (doctype_joined _ _ _ (rw c.name_of.ensures at e))) c.write_between-in-Doctype.ensures

@@ -1,103 +1,84 @@
-use Rattle.std.proofs.Common.{◌≡◌, ◌+◌, ◌<◌, ◌==◌, ℕ, true, false, length, slice_index_or, sym, ap, ◌∙◌, subst, arith, refl}
-use Rattle.std.proofs.lemmas.List.{get_or_read}
+use Rattle.std.proofs.Common.{◌≡◌, ◌≢◌, ◌+◌, ◌<◌, ◌==◌, ℕ, true, false, length, sym, ap, ◌∙◌, subst, refl}
 use Rattle.std.proofs.lemmas.Bool.{cond-true}
 use Rattle.hp_control.specs.Tree.{leads_into_document, is_place, id_of, stands_in, has_parent}
-use Rattle.hp_arena.specs.Roots.{is_root_table}
-use Rattle.hp_arena.proofs.Fosters.{has_parent-some}
 use Rattle.hp_control.specs.declared.edit.Place.{Place}
 use Rattle.hp_control.specs.declared.edit.Place.TheVariants.{Foster}
 use Rattle.hp_control.specs.declared.edit.Ref.{Ref}
+use Rattle.hp_store.specs.Lists.{node_at, node_of}
+use Rattle.hp_store.specs.declared.node.Node.{Node}
 use Rattle.hp_arena.specs.Arena.{Seen}
-use Rattle.hp_arena.specs.Nodes.{links_of, end_from, blank}
-use Rattle.hp_arena.specs.Shape.{IsSound, IsPlaceIn, node_of, no_element, items_in, seen}
-use Rattle.hp_arena.specs.declared.links.Node.{Node}
-use Rattle.hp_arena.specs.declared.arena.Element.{Element as ElementOf}
+use Rattle.hp_arena.specs.Nodes.{links_of, end_from}
+use Rattle.hp_arena.specs.Roots.{is_root_table}
+use Rattle.hp_arena.specs.Shape.{IsSound, IsPlaceIn, items_in, seen}
 use Rattle.hp_arena.specs.declared.arena.Arena.TheInside.{Inside}
 use Rattle.hp_arena.proofs.Detaching.{node-below}
-use Rattle.hp_arena.proofs.Glue.{place-in, end-in, tree_in}
+use Rattle.hp_arena.proofs.Fosters.{has_parent-some}
+use Rattle.hp_arena.proofs.Glue.{place-in, tree_in}
 use Rattle.hp_arena.proofs.Items.{leaves-plain}
 use Rattle.hp_arena.proofs.Places.{leads-alone, leads-table}
 use Rattle.hp_arena.proofs.arena.Arena.leads_into_document.Goals as goal
 
--- what the code reads of the table
-record TableRead (a : Inside) (id : ℕ) (e : ElementOf) (n : Node) : Type 0 where
-  own : e.node ≡ node_of a.elements.items id
-  next : n.next ≡ (links_of a.nodes.items).next (node_of a.elements.items id)
-  below : node_of a.elements.items id < length a.nodes.items
+foster-in : (a : Inside) (s : Seen) (place : Place) (table above : Ref) → seen a ≡ s → is_place s.branches place ≡ true → place ≡ Foster table above → id_of table < length a.store.elements
+foster-in a s place table above view there is = (subst (λ p. IsPlaceIn (length a.store.elements) p) is (place-in a s place view there)).0
 
-own-read : (a : Inside) (id other : ℕ) → id < length a.elements.items → other ≡ id → (e : ElementOf) → e ≡ slice_index_or a.elements.items other e → e.node ≡ node_of a.elements.items id
-own-read a id other h same e read = ap (λ x. x.node) (get_or_read a.elements.items id e h (subst (λ k. e ≡ slice_index_or a.elements.items k e) same read) no_element)
+-- the table's node and the one after it, as the code reads them
+module _ (a : Inside) (sound : IsSound a) (s : Seen) (view : seen a ≡ s) (table above : Ref) (table_in : id_of table < length a.store.elements) (node : ℕ) (n : Node)
+    (own : node ≡ node_of a.store.elements (id_of table)) (read : n ≡ node_at a.store.nodes node) where
+  node_in : node < length a.store.nodes
+  node_in = subst (λ k. k < length a.store.nodes) (sym own) (node-below a.store.nodes a.store.elements (length a.store.leaves) sound.tree (id_of table) table_in)
 
-table-read : (a : Inside) → IsSound a → (id other : ℕ) → id < length a.elements.items → other ≡ id → (e : ElementOf) (n : Node) → e ≡ slice_index_or a.elements.items other e → n ≡ slice_index_or a.nodes.items e.node n → TableRead a id e n
-table-read a sound id other h same e n re rn =
-    let own : e.node ≡ node_of a.elements.items id = own-read a id other h same e re in
-    let below : node_of a.elements.items id < length a.nodes.items = node-below a.nodes.items a.elements.items (length a.leaves.items) sound.tree id h in
-    record {
-      own = own;
-      next = ap (λ x. x.next) (get_or_read a.nodes.items (node_of a.elements.items id) n below (subst (λ k. n ≡ slice_index_or a.nodes.items k n) own rn) blank);
-      below = below;
-    }
+  next : n.next ≡ (links_of a.store.nodes).next (node_of a.store.elements (id_of table))
+  next = ap (λ x. x.next) read ∙ ap (λ k. (links_of a.store.nodes).next k) own
 
-foster-in : (a : Inside) (s : Seen) (place : Place) (table above : Ref) → seen a ≡ s → is_place s.branches place ≡ true → place ≡ Foster table above → id_of table < length a.elements.items
-foster-in a s place table above view there is = (subst (λ p. IsPlaceIn (length a.elements.items) p) is (place-in a s place view there)).0
+  alone : n.next ≡ node → (id_of above == 0) ≡ leads_into_document s.branches (Foster table above)
+  alone lone =
+      sym (leads-alone a.store.nodes a.store.elements (items_in a) (leaves-plain a.store.leaves) (tree_in a sound) table above table_in (sym next ∙ lone ∙ own))
+      ∙ ap (λ r. leads_into_document r.branches (Foster table above)) view
 
-pub index-requires : goal.index-requires
-index-requires c = rw (c.id_of-in-Foster.ensures, c.self.inside.elements.ok.0) (foster-in c.self.inside c.args.self.now c.args.place c.in-Foster.table c.in-Foster.above c.self.view_is c.requires.there c.in-Foster.is)
+  away : n.next ≢ node → (links_of a.store.nodes).next (node_of a.store.elements (id_of table)) ≢ node_of a.store.elements (id_of table)
+  away other lone = other (next ∙ lone ∙ sym own)
 
-pub index-requires-in-Foster : goal.index-requires-in-Foster
-index-requires-in-Foster c =
-    let table_in = foster-in c.self.inside c.args.self.now c.args.place c.in-Foster.table c.in-Foster.above c.self.view_is c.requires.there c.in-Foster.is in
-    rw (c.self.inside.nodes.ok.0, own-read c.self.inside (id_of c.in-Foster.table) c.id_of-in-Foster.result table_in c.id_of-in-Foster.ensures c.index.result.now c.index.ensures)
-    (node-below c.self.inside.nodes.items c.self.inside.elements.items (length c.self.inside.leaves.items) c.self.invariant.tree (id_of c.in-Foster.table) table_in)
+  walked : n.next ≢ node → (end : ℕ) → end ≡ end_from a.store.nodes (length a.store.nodes) node → (end == 1) ≡ leads_into_document s.branches (Foster table above)
+  walked other end is =
+      let from : ℕ = end_from a.store.nodes (length a.store.nodes) (node_of a.store.elements (id_of table)) in
+      ap (λ k. k == 1) (is ∙ ap (λ k. end_from a.store.nodes (length a.store.nodes) k) own)
+      ∙ ap (λ k. from == (k + 1)) (sym sound.first)
+      ∙ sym (leads-table a.store.nodes a.store.elements (items_in a) (leaves-plain a.store.leaves) (tree_in a sound) table above table_in sound.document (away other))
+      ∙ ap (λ r. leads_into_document r.branches (Foster table above)) view
 
-pub overflow_add-result : goal.overflow_add-result
-overflow_add-result c = omega (arith, end-in c.self.inside c.self.invariant 0 c.self.invariant.document c.index-in-Foster-2.result.now c.index-in-Foster-2.ensures)
+  apart : n.next ≢ node → stands_in s.branches 0 (id_of table) ≡ false → false ≡ leads_into_document s.branches (Foster table above)
+  apart other none =
+      sym none
+      ∙ ap (λ r. stands_in r.branches 0 (id_of table)) (sym view)
+      ∙ sym (cond-true (has_parent (seen a).branches (id_of table)) _ _
+      (has_parent-some a.store.nodes a.store.elements (items_in a) (leaves-plain a.store.leaves) (tree_in a sound) (id_of table) table_in (away other)))
+      ∙ ap (λ r. leads_into_document r.branches (Foster table above)) view
+
+pub node_of-node-requires : goal.node_of-node-requires
+node_of-node-requires c = rw c.id_of-in-Foster.ensures (foster-in c.self.inside c.args.self.now c.args.place c.in-Foster.table c.in-Foster.above c.self.view_is c.requires.there c.in-Foster.is)
+
+pub node-requires : goal.node-requires
+node-requires c =
+    rw (c.node_of-node.ensures, c.id_of-in-Foster.ensures)
+    (node-below c.self.inside.store.nodes c.self.inside.store.elements (length c.self.inside.store.leaves) c.self.invariant.tree (id_of c.in-Foster.table)
+    (foster-in c.self.inside c.args.self.now c.args.place c.in-Foster.table c.in-Foster.above c.self.view_is c.requires.there c.in-Foster.is))
 
 pub returns-in-Into : goal.returns-in-Into
 returns-in-Into c = rw (c.id_of.ensures, c.in-Into.is) refl
 
-pub end_after-requires-clause-closed : goal.end_after-requires-clause-closed
-end_after-requires-clause-closed c = rw c.deref.ensures.value c.self.invariant.tree.closed
-
-pub returns-then-index-node : goal.returns-then-index-node
-returns-then-index-node c =
-    let table_in = foster-in c.self.inside c.args.self.now c.args.place c.in-Foster.table c.in-Foster.above c.self.view_is c.requires.there c.in-Foster.is in
-    let r : TableRead c.self.inside (id_of c.in-Foster.table) c.index.result.now c.index-in-Foster.result.now = table-read c.self.inside c.self.invariant (id_of c.in-Foster.table) c.id_of-in-Foster.result table_in c.id_of-in-Foster.ensures c.index.result.now c.index-in-Foster.result.now c.index.ensures c.index-in-Foster.ensures in
-    ap (λ n. n == 0) c.id_of-then-index-node.ensures
-    ∙ sym (leads-alone c.self.inside.nodes.items c.self.inside.elements.items (items_in c.self.inside) (leaves-plain c.self.inside.doctypes.items c.self.inside.leaves.items) (tree_in c.self.inside c.self.invariant) c.in-Foster.table c.in-Foster.above table_in
-    (sym r.next ∙ c.if-index-node.true ∙ r.own))
-    ∙ ap (λ s. leads_into_document s.branches (Foster c.in-Foster.table c.in-Foster.above)) c.self.view_is
-    ∙ ap (leads_into_document c.args.self.now.branches) (sym c.in-Foster.is)
-
 pub end_after-requires-clause-from_in : goal.end_after-requires-clause-from_in
-end_after-requires-clause-from_in c =
-    let table_in = foster-in c.self.inside c.args.self.now c.args.place c.in-Foster.table c.in-Foster.above c.self.view_is c.requires.there c.in-Foster.is in
-    let r : TableRead c.self.inside (id_of c.in-Foster.table) c.index.result.now c.index-in-Foster.result.now = table-read c.self.inside c.self.invariant (id_of c.in-Foster.table) c.id_of-in-Foster.result table_in c.id_of-in-Foster.ensures c.index.result.now c.index-in-Foster.result.now c.index.ensures c.index-in-Foster.ensures in
-    rw (c.deref.ensures.value, r.own) r.below
+end_after-requires-clause-from_in c = node_in c.self.inside c.self.invariant c.args.self.now c.self.view_is c.in-Foster.table c.in-Foster.above (foster-in c.self.inside c.args.self.now c.args.place c.in-Foster.table c.in-Foster.above c.self.view_is c.requires.there c.in-Foster.is) c.node_of-node.result c.node.result (subst (λ k. c.node_of-node.result ≡ node_of c.self.inside.store.elements k) c.id_of-in-Foster.ensures c.node_of-node.ensures) c.node.ensures
 
-pub returns-else-apart : goal.returns-else-apart
-returns-else-apart c =
-    let table_in = foster-in c.self.inside c.args.self.now c.args.place c.in-Foster.table c.in-Foster.above c.self.view_is c.requires.there c.in-Foster.is in
-    let r : TableRead c.self.inside (id_of c.in-Foster.table) c.index.result.now c.index-in-Foster.result.now = table-read c.self.inside c.self.invariant (id_of c.in-Foster.table) c.id_of-in-Foster.result table_in c.id_of-in-Foster.ensures c.index.result.now c.index-in-Foster.result.now c.index.ensures c.index-in-Foster.ensures in
-    let document : c.index-in-Foster-2.result.now.node ≡ node_of c.self.inside.elements.items 0 = ap (λ e. e.node) (get_or_read _ _ _ c.self.invariant.document c.index-in-Foster-2.ensures no_element) in
-    let end : c.end_after.result ≡ end_from c.self.inside.nodes.items (length c.self.inside.nodes.items) (node_of c.self.inside.elements.items (id_of c.in-Foster.table)) =
-    c.end_after.ensures ∙ ap (λ ns. end_from ns (length ns) c.index.result.now.node) c.deref.ensures.value ∙ ap (λ n. end_from c.self.inside.nodes.items (length c.self.inside.nodes.items) n) r.own in
-    ap (λ n. n == (c.index-in-Foster-2.result.now.node + 1)) end
-    ∙ ap (λ n. end_from c.self.inside.nodes.items (length c.self.inside.nodes.items) (node_of c.self.inside.elements.items (id_of c.in-Foster.table)) == (n + 1)) document
-    ∙ sym (leads-table c.self.inside.nodes.items c.self.inside.elements.items (items_in c.self.inside) (leaves-plain c.self.inside.doctypes.items c.self.inside.leaves.items) (tree_in c.self.inside c.self.invariant) c.in-Foster.table c.in-Foster.above table_in c.self.invariant.document
-    (λ lone. c.if-index-node.false (r.next ∙ lone ∙ sym r.own)))
-    ∙ ap (λ s. leads_into_document s.branches (Foster c.in-Foster.table c.in-Foster.above)) c.self.view_is
-    ∙ ap (leads_into_document c.args.self.now.branches) (sym c.in-Foster.is)
+pub end_after-requires-clause-closed : goal.end_after-requires-clause-closed
+end_after-requires-clause-closed c = c.self.invariant.tree.closed
+
+pub returns-then-node : goal.returns-then-node
+returns-then-node c = ap (λ n. n == 0) c.id_of-then-node.ensures ∙ alone c.self.inside c.self.invariant c.args.self.now c.self.view_is c.in-Foster.table c.in-Foster.above (foster-in c.self.inside c.args.self.now c.args.place c.in-Foster.table c.in-Foster.above c.self.view_is c.requires.there c.in-Foster.is) c.node_of-node.result c.node.result (subst (λ k. c.node_of-node.result ≡ node_of c.self.inside.store.elements k) c.id_of-in-Foster.ensures c.node_of-node.ensures) c.node.ensures c.if-node.true ∙ ap (leads_into_document c.args.self.now.branches) (sym c.in-Foster.is)
 
 pub returns-then-apart : goal.returns-then-apart
 returns-then-apart c =
-    let table_in = foster-in c.self.inside c.args.self.now c.args.place c.in-Foster.table c.in-Foster.above c.self.view_is c.requires.there c.in-Foster.is in
-    let r : TableRead c.self.inside (id_of c.in-Foster.table) c.index.result.now c.index-in-Foster.result.now = table-read c.self.inside c.self.invariant (id_of c.in-Foster.table) c.id_of-in-Foster.result table_in c.id_of-in-Foster.ensures c.index.result.now c.index-in-Foster.result.now c.index.ensures c.index-in-Foster.ensures in
-    let none : stands_in (seen c.self.inside).branches 0 (id_of c.in-Foster.table) ≡ false =
-    ap (λ s. stands_in s.branches 0 (id_of c.in-Foster.table)) c.self.view_is ∙ ap (is_root_table c.args.self.now.branches) (sym c.in-Foster.is) ∙ c.requires.table c.if-apart.true in
-    sym none
-    ∙ sym (cond-true (has_parent (seen c.self.inside).branches (id_of c.in-Foster.table)) _ _
-    (has_parent-some c.self.inside.nodes.items c.self.inside.elements.items (items_in c.self.inside) (leaves-plain c.self.inside.doctypes.items c.self.inside.leaves.items) (tree_in c.self.inside c.self.invariant) (id_of c.in-Foster.table) table_in
-    (λ lone. c.if-index-node.false (r.next ∙ lone ∙ sym r.own))))
-    ∙ ap (λ s. leads_into_document s.branches (Foster c.in-Foster.table c.in-Foster.above)) c.self.view_is
+    apart c.self.inside c.self.invariant c.args.self.now c.self.view_is c.in-Foster.table c.in-Foster.above (foster-in c.self.inside c.args.self.now c.args.place c.in-Foster.table c.in-Foster.above c.self.view_is c.requires.there c.in-Foster.is) c.node_of-node.result c.node.result (subst (λ k. c.node_of-node.result ≡ node_of c.self.inside.store.elements k) c.id_of-in-Foster.ensures c.node_of-node.ensures) c.node.ensures c.if-node.false (ap (is_root_table c.args.self.now.branches) (sym c.in-Foster.is) ∙ c.requires.table c.if-apart.true)
     ∙ ap (leads_into_document c.args.self.now.branches) (sym c.in-Foster.is)
+
+pub returns-else-apart : goal.returns-else-apart
+returns-else-apart c = walked c.self.inside c.self.invariant c.args.self.now c.self.view_is c.in-Foster.table c.in-Foster.above (foster-in c.self.inside c.args.self.now c.args.place c.in-Foster.table c.in-Foster.above c.self.view_is c.requires.there c.in-Foster.is) c.node_of-node.result c.node.result (subst (λ k. c.node_of-node.result ≡ node_of c.self.inside.store.elements k) c.id_of-in-Foster.ensures c.node_of-node.ensures) c.node.ensures c.if-node.false c.end_after.result c.end_after.ensures ∙ ap (leads_into_document c.args.self.now.branches) (sym c.in-Foster.is)

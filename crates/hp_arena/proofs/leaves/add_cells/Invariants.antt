@@ -1,6 +1,0 @@
-use Rattle.std.proofs.Common.{◌+◌, ◌≤◌, All, vec_len}
-use Rattle.hp_arena.specs.Leaves.{IsCell}
-use Rattle.hp_arena.proofs.leaves.add_cells.Given as goal
-
-abbrev pub invariant-loop : goal.invariant-loop
-invariant-loop l = record { cell : All IsCell l.cells.items; more : vec_len l.initial.cells + l.counter ≤ vec_len l.cells }
