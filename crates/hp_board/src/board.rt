@@ -13,7 +13,6 @@ ghost use Rattle.hp_board.specs.Tallies.{IsRaised};
 
 use crate::journal::{BoardStep, Entry, Journal};
 use crate::slot::Slot;
-use crate::spent::Spent;
 use crate::tally::Tally;
 use hp_cut::Cuts;
 use hp_merge::Front;
@@ -36,8 +35,6 @@ pub struct Board<'p> {
     pub(crate) front: Front<'p>,
     /// For how many entries the journal keeps room, so that no step behind a claim takes memory.
     pub(crate) owed: usize,
-    /// What guesses had made that were rolled back, until somebody gives it back.
-    pub(crate) spent: Vec<Spent<'p>>,
 }
 
 impl<'p> Drop for Board<'p> {
@@ -52,7 +49,6 @@ impl<'p> Drop for Board<'p> {
             place: _,
             front: _,
             owed: _,
-            spent: _,
         } = self;
     }
 }
@@ -102,7 +98,6 @@ impl<'p> Board<'p> {
             place: _,
             front,
             owed: _,
-            spent: _,
         } = self;
         (front, journal)
     }

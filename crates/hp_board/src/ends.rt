@@ -50,7 +50,6 @@ impl<'p> Board<'p> {
             place: 0,
             front,
             owed: 0,
-            spent: Vec::new(alloc),
         };
         Ok((board, tallies))
     }

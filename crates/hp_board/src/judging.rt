@@ -11,10 +11,10 @@ use crate::board::Board;
 use crate::journal::{BoardStep, Entry};
 use crate::kinds::{QuestionKind, kind_of};
 use crate::laws::stays_fair;
-use crate::pairs::{pair_at, question_at};
+use crate::pairs::question_at;
 use crate::posts::told;
 use crate::slot::Slot;
-use crate::spent::spent_of;
+use crate::spent::told_and_spent;
 use crate::steps::Advance;
 use crate::tally::Tally;
 use hp_control::Kept;
@@ -54,7 +54,7 @@ impl<'p> Board<'p> {
     {
         match self.looked_at(steps) {
             None => Ok(Advance::Idle),
-            Some(Look::Fails { kind, place }) => Ok(self.roll_back(tally, kind, place)),
+            Some(Look::Fails { kind, place }) => Ok(self.roll_back(alloc, tally, kind, place)),
             Some(Look::Holds) => self.commit(alloc, tally, steps),
         }
     }
@@ -101,7 +101,13 @@ impl<'p> Board<'p> {
     }
 
     /// Gives up the front chunk's fragment, of which the first false pair is of that kind and stands at that place.
-    fn roll_back(&mut self, tally: &mut Tally, kind: QuestionKind, place: usize) -> Advance
+    fn roll_back(
+        &mut self,
+        alloc: Global,
+        tally: &mut Tally,
+        kind: QuestionKind,
+        place: usize,
+    ) -> Advance
         requires within { self.old.done < length self.old.slots }
         requires posted { MayRollBack self.old kind place }
         ensures page { SamePage self.old self.new }
@@ -116,9 +122,9 @@ impl<'p> Board<'p> {
         else {
             unreachable!()
         };
-        let (assumptions, spent) = spent_of(guessed);
+        let (pair, spent) = told_and_spent(alloc, guessed, place);
         self.keep_spent(spent);
-        match pair_at(assumptions, place) {
+        match pair {
             Some(Kept { question, answer }) => Advance::RolledBack { question, answer },
             None => unreachable!(),
         }

@@ -20,6 +20,5 @@ pub use board::Board;
 pub use hp_elements::NoMemory;
 pub use journal::{BoardStep, Entry, Journal, MAIN, Origin, Status};
 pub use kinds::{QuestionKind, kind_of};
-pub use spent::Spent;
 pub use steps::{Advance, Claim, PostCause, PostRefusal};
 pub use tally::Tally;

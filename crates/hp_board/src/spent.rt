@@ -1,51 +1,54 @@
-//! What guesses had made that were rolled back.
-ghost use Rattle.std.specs.Prelude.{◌≡◌};
+//! What is left of fragments that were joined or rolled back.
+ghost use Rattle.std.specs.Prelude.{◌≡◌, slice_get};
 ghost use Rattle.hp_board.specs.Desk.{SamePage};
 
 use crate::board::Board;
+use crate::pairs::take_pairs;
 use crate::slot::Slot;
-use hp_arena::Grove;
-use hp_control::{Assumptions, Edits};
+use hp_control::Kept;
+use hp_merge::Spent;
 use hp_pieces::{Guessed, GuessedParts};
 use std::alloc::Global;
-use std::mem;
 
-/// What a guess had made that was rolled back. Giving it back takes time, and needs no board.
-#[derive(Drop)]
-pub struct Spent<'p> {
-    pub(crate) grove: Grove<'p>,
-    pub(crate) outer: Edits<'p>,
-}
-
-/// What a guess assumed, and what it had made.
-pub(crate) fn spent_of<'p>(guessed: Guessed<'p>) -> (Assumptions, Spent<'p>)
-    ensures { result.0 ≡ guessed.entry.assumptions }
+/// The pair that a guess assumed at that place, and what is left of the guess.
+pub(crate) fn told_and_spent<'p>(
+    alloc: Global,
+    guessed: Guessed<'p>,
+    place: usize,
+) -> (Option<Kept>, Spent<'p>)
+    ensures { result.0 ≡ slice_get guessed.entry.assumptions place }
 {
     let GuessedParts {
         assumptions,
+        change,
         grove,
         outer,
         ..
     } = guessed.into_parts();
-    (assumptions, Spent { grove, outer })
+    let mut behind = assumptions.into_iter();
+    let before = take_pairs(alloc, &mut behind, place);
+    let told = behind.next();
+    let spent = Spent::RolledBack {
+        before,
+        behind,
+        change,
+        grove,
+        outer,
+    };
+    (told, spent)
 }
 
 impl<'p> Board<'p> {
-    /// Keeps what a guess had made that is rolled back. For want of memory it is given back at once.
+    /// Keeps what is left of a guess that is rolled back. For want of memory it is given back at once.
     pub(crate) fn keep_spent(&mut self, spent: Spent<'p>)
         ensures page { SamePage self.old self.new }
         ensures board { self.new ≡ self.old }
     {
-        match self.spent.push(spent) {
-            Ok(()) => {}
-            Err(failed) => {
-                let _ = failed;
-            }
-        }
+        self.front.keep_spent(spent);
     }
 
-    /// Hands out what guesses had made that were rolled back, so that it is given back with no board at hand; nothing where the front
-    /// chunk is to be run again, which is more urgent.
+    /// Hands out what is left of fragments that were joined or rolled back, so that it is given back with no board at hand; nothing where
+    /// the front chunk is to be run again, which is more urgent.
     pub fn take_spent(&mut self, alloc: Global) -> Vec<Spent<'p>>
         ensures page { SamePage self.old self.new }
         ensures board { self.new ≡ self.old }
@@ -53,6 +56,6 @@ impl<'p> Board<'p> {
         if let Some(Slot::Again) = self.slots.get(self.done as usize) {
             return Vec::new(alloc);
         }
-        mem::replace(&mut self.spent, Vec::new(alloc))
+        self.front.take_spent(alloc)
     }
 }

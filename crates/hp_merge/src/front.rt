@@ -5,6 +5,7 @@ ghost use Rattle.hp_control.specs.Tree.{applied_all, document};
 
 use crate::checking::{Checked, Looked, check, look};
 use crate::joining::{end_tree, join_exact, joined_to};
+use crate::spent::Spent;
 use hp_arena::Tree;
 use hp_control::Control;
 use hp_elements::NoMemory;
@@ -19,6 +20,8 @@ use std::sync::ledger::Ledger;
 pub struct Front<'p> {
     control: Control,
     tree: Tree<'p>,
+    /// What is left of fragments, until somebody gives it back.
+    spent: Vec<Spent<'p>>,
 }
 
 impl<'p> Drop for Front<'p> {
@@ -26,6 +29,7 @@ impl<'p> Drop for Front<'p> {
         let Front {
             control: _,
             tree: _,
+            spent: _,
         } = self;
     }
 }
@@ -58,6 +62,7 @@ impl<'p> Front<'p> {
         Ok(Front {
             control: Control::start(),
             tree,
+            spent: Vec::new(alloc),
         })
     }
 
@@ -133,8 +138,13 @@ impl<'p> Front<'p> {
         ensures cost { steps.new ≤ steps.old + join_cost (fragment_of.Exact exact.entry) }
     {
         match join_exact(alloc, &mut self.tree, exact, steps) {
-            Ok(exit) => {
-                self.control = exit;
+            Ok((exit, entry, outer)) => {
+                let replaced = mem::replace(&mut self.control, exit);
+                self.keep_spent(Spent::Exact {
+                    entry,
+                    replaced,
+                    outer,
+                });
                 Ok(())
             }
             Err(exact) => Err(JoinRefusal {
@@ -162,8 +172,9 @@ impl<'p> Front<'p> {
         }
         let control = mem::replace(&mut self.control, Control::start());
         match joined_to(alloc, control, &mut self.tree, guess, steps) {
-            Ok(control) => {
+            Ok((control, spent)) => {
                 self.control = control;
+                self.keep_spent(spent);
                 Ok(())
             }
             Err((control, guess)) => {
@@ -175,12 +186,35 @@ impl<'p> Front<'p> {
         }
     }
 
+    /// Keeps what is left of a fragment. For want of memory it is given back at once.
+    pub fn keep_spent(&mut self, spent: Spent<'p>)
+        ensures { self.new ≡ self.old }
+    {
+        match self.spent.push(spent) {
+            Ok(()) => {}
+            Err(failed) => {
+                let _ = failed;
+            }
+        }
+    }
+
+    /// Hands out what is left of fragments, so that it is given back with no front at hand.
+    pub fn take_spent(&mut self, alloc: Global) -> Vec<Spent<'p>>
+        ensures { self.new ≡ self.old }
+    {
+        mem::replace(&mut self.spent, Vec::new(alloc))
+    }
+
     /// Ends the page: the tree with the edits of the end of input. `Err` is want of memory.
     pub fn end(self, alloc: Global, ending: Ending<'p>) -> Result<Tree<'p>, NoMemory>
         requires { ending.entry ≡ self.control }
         ensures { IfOk result (λ tree. tree.branches ≡ applied_all self.entry.tree ending.entry.edits) }
     {
-        let Front { control: _, tree } = self;
+        let Front {
+            control: _,
+            tree,
+            spent: _,
+        } = self;
         end_tree(alloc, tree, ending)
     }
 }

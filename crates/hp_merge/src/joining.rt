@@ -12,8 +12,9 @@ use crate::laying::{lay, take_off};
 use crate::making::{make_fixed, make_over};
 use crate::parts::Parts;
 use crate::settling::settle;
+use crate::spent::Spent;
 use hp_arena::{GraftRefusal, Tree};
-use hp_control::{Change, Control, Edits};
+use hp_control::{Assumptions, Change, Control, Edit, Edits};
 use hp_elements::NoMemory;
 use hp_pieces::{Ending, Exact, ExactParts, Guessed, GuessedParts};
 use hp_steps::Steps;
@@ -21,14 +22,15 @@ use std::alloc::Global;
 use std::sync::ledger::Ledger;
 
 /// Joins what is exact to the tree of its entry, and answers the state behind it: what its inner edits made is put behind the tree, and
-/// then its outer edits are made. At an `Err`, which is want of memory, the tree is as before and the fragment comes back.
+/// then its outer edits are made. The state before it and what is left of these edits are answered too. At an `Err`, which is want of
+/// memory, the tree is as before and the fragment comes back.
 pub(crate) fn join_exact<'p, L: Ledger>(
     alloc: Global,
     tree: &mut Tree<'p>,
     exact: Exact<'p>,
     steps: &mut Steps<L>,
-) -> Result<Control, Exact<'p>>
-    ensures exit { IfOk result (λ exit. exit ≡ exact.entry.exit) }
+) -> Result<(Control, Control, Vec<Edit<'p>>), Exact<'p>>
+    ensures exit { IfOk result (λ joined. joined.0 ≡ exact.entry.exit) }
     ensures tree { OnOk result (tree.new.branches ≡ grown_tree exact.entry.grove exact.entry.outer exact.entry.entry tree.old.branches) }
     ensures kept { OnErr result (tree.new.branches ≡ tree.old.branches) }
     ensures back { IfErr result (λ back. back ≡ exact.entry) }
@@ -38,8 +40,8 @@ pub(crate) fn join_exact<'p, L: Ledger>(
         return Err(exact);
     }
     let (entry, exit, outer) = graft_exact(alloc, tree, exact)?;
-    make_over(alloc, tree, outer, &entry.stack, 0, entry.next, steps);
-    Ok(exit)
+    let left = make_over(alloc, tree, outer, &entry.stack, 0, entry.next, steps);
+    Ok((exit, entry, left))
 }
 
 /// Puts what the inner edits of what is exact made behind the tree, and answers the states before and behind it and the outer edits. At
@@ -81,18 +83,19 @@ pub(crate) fn end_tree<'p>(
 }
 
 /// Joins a guess to this state and its tree, and answers the state behind it: what its inner edits made is put behind the tree, and then
-/// its outer edits are made. At an `Err`, which is want of memory, the tree is as before, and the state and the guess come back.
+/// its outer edits are made. What is left of the guess is answered too. At an `Err`, which is want of memory, the tree is as before, and
+/// the state and the guess come back.
 pub(crate) fn joined_to<'p, L: Ledger>(
     alloc: Global,
     control: Control,
     tree: &mut Tree<'p>,
     guess: Guessed<'p>,
     steps: &mut Steps<L>,
-) -> Result<Control, (Control, Guessed<'p>)>
+) -> Result<(Control, Spent<'p>), (Control, Guessed<'p>)>
     requires fits { Fits control }
     requires holds { Holds guess.assumptions control }
     requires covers { 0 < guess.covered }
-    ensures control { IfOk result (λ behind. behind ≡ applied guess.entry.change control) }
+    ensures control { IfOk result (λ joined. joined.0 ≡ applied guess.entry.change control) }
     ensures tree { OnOk result (tree.new.branches ≡ grown_tree guess.entry.grove guess.entry.outer control tree.old.branches) }
     ensures kept { OnErr result (tree.new.branches ≡ tree.old.branches) }
     ensures back { IfErr result (λ back. (back.0 ≡ control) × (back.1 ≡ guess.entry)) }
@@ -112,10 +115,11 @@ pub(crate) fn joined_to<'p, L: Ledger>(
         return Err((parts.together(), guess));
     };
     match graft_guess(alloc, tree, guess) {
-        Ok((change, outer)) => {
+        Ok((change, edits, assumptions)) => {
             let above = change.stack.len();
-            make_over(alloc, tree, outer, &parts.stack, above, parts.next, steps);
-            Ok(settle(change, next, pending, parts).together())
+            let outer = make_over(alloc, tree, edits, &parts.stack, above, parts.next, steps);
+            let behind = settle(change, next, pending, parts).together();
+            Ok((behind, Spent::Guessed { assumptions, outer }))
         }
         Err(guess) => {
             take_off(guess.change(), &mut parts);
@@ -124,13 +128,13 @@ pub(crate) fn joined_to<'p, L: Ledger>(
     }
 }
 
-/// Puts what the inner edits of a guess made behind the tree, and answers the change and the outer edits. At an `Err`, which is want of
-/// memory, the tree is as before and the guess comes back.
+/// Puts what the inner edits of a guess made behind the tree, and answers the change, the outer edits and what it assumed. At an `Err`,
+/// which is want of memory, the tree is as before and the guess comes back.
 fn graft_guess<'p>(
     alloc: Global,
     tree: &mut Tree<'p>,
     guess: Guessed<'p>,
-) -> Result<(Change, Edits<'p>), Guessed<'p>>
+) -> Result<(Change, Edits<'p>, Assumptions), Guessed<'p>>
     ensures change { IfOk result (λ rest. rest.0 ≡ guess.entry.change) }
     ensures outer { IfOk result (λ rest. rest.1 ≡ guess.entry.outer) }
     ensures tree { OnOk result (tree.new.branches ≡ graft tree.old.branches guess.entry.grove) }
@@ -148,7 +152,7 @@ fn graft_guess<'p>(
         by,
     } = guess.into_parts();
     match tree.graft(alloc, grove) {
-        Ok(()) => Ok((change, outer)),
+        Ok(()) => Ok((change, outer, assumptions)),
         Err(GraftRefusal { grove }) => {
             let parts = GuessedParts {
                 text,

@@ -9,7 +9,9 @@ mod laying;
 mod making;
 mod parts;
 mod settling;
+mod spent;
 
 pub use checking::{Checked, Looked, is_sound};
 pub use front::{Front, JoinRefusal};
 pub use laws::fronts_go_on;
+pub use spent::Spent;

@@ -24,7 +24,7 @@ pub(crate) fn make_fixed<'p>(alloc: Global, tree: &mut Tree<'p>, edits: Edits<'p
 }
 
 /// Makes edits over the older stack that begins at a depth of this one, each by one step; own elements count from `next` on. It takes no
-/// memory.
+/// memory, and answers what is left of the edits, of which nothing is promised.
 pub(crate) fn make_over<'p, L: Ledger>(
     alloc: Global,
     tree: &mut Tree<'p>,
@@ -33,7 +33,7 @@ pub(crate) fn make_over<'p, L: Ledger>(
     above: usize,
     next: u64,
     steps: &mut Steps<L>,
-)
+) -> Vec<Edit<'p>>
     requires room { room_of_all edits ≤ tree.old.spare }
     requires above { above ≤ length stack.now }
     ensures tree { tree.new.branches ≡ applied_all tree.old.branches (map (named_edit_over (drop above stack.now) next) edits.entry) }
@@ -46,6 +46,7 @@ pub(crate) fn make_over<'p, L: Ledger>(
     apply_each(tree, edits, steps);
     // Its elements are counted in 32 bits.
     let _count = tree.len();
+    batch
 }
 
 /// Makes these edits, in order, each told where no older state is below, by one step each. It takes no memory. Nothing is promised of

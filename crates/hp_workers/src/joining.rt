@@ -6,7 +6,7 @@ ghost use Rattle.hp_pieces.specs.Texts.{covered_of, text_of};
 ghost use Rattle.hp_merge.specs.Checked.{MayJoin};
 
 use crate::NoMemory;
-use crate::leaving::{leave_fragment, leave_refusal};
+use crate::leaving::{leave_fragment, leave_refusal, leave_spent};
 use crate::uncounted::{check_by, join_by};
 use hp_fragment::replay;
 use hp_merge::{Checked, Front, fronts_go_on, is_sound};
@@ -143,7 +143,10 @@ fn commit<'p>(
     is_sound(&fragment);
     let _page = chunk.page.text();
     match join_by::<Brand>(front, alloc, fragment, Blank::new(1)) {
-        Ok(()) => Ok(()),
+        Ok(()) => {
+            leave_spent(front.take_spent(alloc));
+            Ok(())
+        }
         Err(refusal) => {
             leave_refusal(refusal);
             Err(NoMemory)

@@ -1,8 +1,8 @@
 //! What is left over is given back here, one function for each type, so that its drop stands in one place.
 
 use crate::page::Progress;
-use hp_board::{Advance, Board, PostRefusal, Spent};
-use hp_merge::{Front, JoinRefusal};
+use hp_board::{Advance, Board, PostRefusal};
+use hp_merge::{Front, JoinRefusal, Spent};
 use hp_pieces::Fragment;
 
 /// Gives back a judgement.
@@ -40,7 +40,7 @@ pub(crate) fn leave_refusal(refusal: JoinRefusal<'_>) {
     let _ = refusal;
 }
 
-/// Gives back what guesses had made that were rolled back.
+/// Gives back what is left of fragments that were joined or rolled back.
 pub(crate) fn leave_spent(spent: Vec<Spent<'_>>) {
     let _ = spent;
 }

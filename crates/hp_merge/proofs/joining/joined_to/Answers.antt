@@ -28,8 +28,8 @@ settle-requires-clause-form g c =
     let laid_is : c.lay.new.parts ≡ laid c.args.guess.change c.of-parts.result = c.in-Ok.ensures.ok ∙ ap (λ (x : Change). laid x c.of-parts.result) c.change-2.ensures in
     form_so c.in-Ok-graft_guess.change guess.change s c.lay.new.parts.next c.in-Ok-graft_guess.ensures.change (next_is guess.change s c.of-parts.result c.lay.new.parts c.of-parts.ensures laid_is) valid top
 
-pub together-requires-in-Ok-graft_guess : goal.together-requires-in-Ok-graft_guess
-together-requires-in-Ok-graft_guess g c =
+pub together-behind-requires : goal.together-behind-requires
+together-behind-requires g c =
     let guess = c.args.guess in
     let s = c.args.control in
     let valid = valid_behind c.runs_between.ensures.valid guess s c.is_sound_guess.ensures.sound c.is_sound_guess.ensures.names c.is_kept.ensures c.requires.fits c.requires.holds c.requires.covers in
@@ -39,7 +39,7 @@ together-requires-in-Ok-graft_guess g c =
 pub returns-in-Ok-graft_guess-clause-control : goal.returns-in-Ok-graft_guess-clause-control
 returns-in-Ok-graft_guess-clause-control g c =
     let laid_is : c.lay.new.parts ≡ laid c.args.guess.change c.of-parts.result = c.in-Ok.ensures.ok ∙ ap (λ (x : Change). laid x c.of-parts.result) c.change-2.ensures in
-    c.together-in-Ok-graft_guess.ensures
+    c.together-behind.ensures
     ∙ joins_so c.in-Ok-graft_guess.change c.args.guess.change c.args.control c.of-parts.result c.lay.new.parts c.settle.result c.in-Ok-graft_guess.ensures.change c.of-parts.ensures laid_is c.settle.ensures
 
 pub returns-in-Ok-graft_guess-clause-tree : goal.returns-in-Ok-graft_guess-clause-tree
@@ -48,11 +48,11 @@ returns-in-Ok-graft_guess-clause-tree g c =
     let s = c.args.control in
     let laid_is : c.lay.new.parts ≡ laid c.args.guess.change c.of-parts.result = c.in-Ok.ensures.ok ∙ ap (λ (x : Change). laid x c.of-parts.result) c.change-2.ensures in
     let grafted : c.graft_guess.new.tree.branches ≡ graft c.args.tree.now.branches c.args.guess.grove = search rules in
-    made_so s (graft c.args.tree.now.branches guess.grove) c.graft_guess.new.tree.branches c.make_over.new.tree.branches guess.outer c.in-Ok-graft_guess.outer _ c.lay.new.parts.next
+    made_so s (graft c.args.tree.now.branches guess.grove) c.graft_guess.new.tree.branches c.make_over-outer.new.tree.branches guess.outer c.in-Ok-graft_guess.edits _ c.lay.new.parts.next
     grafted c.in-Ok-graft_guess.ensures.outer
     (older_so c.in-Ok-graft_guess.change guess.change s c.of-parts.result c.lay.new.parts c.len-above.result c.in-Ok-graft_guess.ensures.change c.len-above.ensures c.of-parts.ensures laid_is)
     (next_is guess.change s c.of-parts.result c.lay.new.parts c.of-parts.ensures laid_is)
-    c.make_over.ensures.tree
+    c.make_over-outer.ensures.tree
 
 pub together-requires-in-Err : goal.together-requires-in-Err
 together-requires-in-Err g c =

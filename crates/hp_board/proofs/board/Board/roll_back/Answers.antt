@@ -1,5 +1,5 @@
 -- The front chunk's fragment is given up.
-use Rattle.std.proofs.Common.{arith, ◌≡◌, ◌<◌, ◌∙◌, ℕ, List, Option, None, Some, ap, subst, sym, refl, true}
+use Rattle.std.proofs.Common.{arith, ◌≡◌, ◌<◌, ◌∙◌, ℕ, Option, None, Some, ap, subst, sym, refl, true}
 use Rattle.std.specs.Prelude.{slice_get}
 use Rattle.hp_control.specs.declared.question.Answer.{Answer}
 use Rattle.hp_control.specs.declared.question.Kept.{Kept}
@@ -51,11 +51,6 @@ guess_false desk n posted q a place was guess same here wrong there stood is =
     let one : posted ≡ fragment.Guessed guess = cc in
     (here ∙ both, subst (λ (f : Fragment). IsFalseOf desk.control f q a) one wrong, subst (λ (f : Fragment). IsAssumedAt f place q a) one there)
 
--- a place has one pair
-one_pair : (kept assumed : List Kept) (place : ℕ) (found : Option Kept) (q : Question) (a : Answer) → kept ≡ assumed → found ≡ slice_get kept place → slice_get assumed place ≡ Some (record { question = q; answer = a })
-    → found ≡ Some (record { question = q; answer = a })
-one_pair kept assumed place found q a same is there = is ∙ (ap (λ (l : List Kept). slice_get l place) same ∙ there)
-
 not_none : (found : Option Kept) (pair : Kept) → found ≡ None → found ≡ Some pair → ⊥
 not_none found pair nothing some = let both : Path (Option Kept) None (Some pair) = sym nothing ∙ some in absurd cc
 
@@ -67,8 +62,7 @@ unreachable-requires-in-None c =
     let done_is = ap (λ (d : Desk). d.done) c.self.view_is in
     let was : c.put.result ≡ slot.Posted (fragment.Guessed guess) = c.in-Posted-Guessed.is ∙ ap slot.Posted c.in-Posted-Guessed.field-0-is in
     let wrong = guess_false desk c.self.inside.done r.0 r.1 r.2 c.args.place c.put.result guess done_is r.3 r.4 r.7 c.put.ensures.before was in
-    let pair = one_pair c.spent_of-assumptions.result.0 guess.assumptions c.args.place c.pair_at.result r.1 r.2 c.spent_of-assumptions.ensures c.pair_at.ensures wrong.2 in
-    not_none c.pair_at.result (record { question = r.1; answer = r.2 }) c.in-None.is pair
+    not_none c.told_and_spent-pair.result.0 (record { question = r.1; answer = r.2 }) c.in-None.is (c.told_and_spent-pair.ensures ∙ wrong.2)
 
 pub returns-clause-judged : goal.returns-clause-judged
 returns-clause-judged c =
@@ -79,8 +73,7 @@ returns-clause-judged c =
     let done_is = ap (λ (d : Desk). d.done) c.self.view_is in
     let was : c.put.result ≡ slot.Posted (fragment.Guessed guess) = c.in-Posted-Guessed.is ∙ ap slot.Posted c.in-Posted-Guessed.field-0-is in
     let wrong = guess_false desk c.self.inside.done r.0 r.1 r.2 c.args.place c.put.result guess done_is r.3 r.4 r.7 c.put.ensures.before was in
-    let found = one_pair c.spent_of-assumptions.result.0 guess.assumptions c.args.place c.pair_at.result r.1 r.2 c.spent_of-assumptions.ensures c.pair_at.ensures wrong.2 in
-    let both : Some c.in-Some.field-0 ≡ Some (record { question = r.1; answer = r.2 }) = sym c.in-Some.is ∙ found in
+    let both : Some c.in-Some.field-0 ≡ Some (record { question = r.1; answer = r.2 }) = sym c.in-Some.is ∙ (c.told_and_spent-pair.ensures ∙ wrong.2) in
     let pair : c.in-Some.field-0 ≡ record { question = r.1; answer = r.2 } = cc in
     let kind_is : c.args.kind ≡ kind_of c.in-Some.field-0.question = r.5 ∙ ap (λ (k : Kept). kind_of k.question) (sym pair) in (
       fragment.Guessed guess,
