@@ -15,9 +15,10 @@ use Rattle.hp_words.specs.declared.setting.Setting.TheVariants as setting
 use Rattle.hp_words.specs.Settings.{settings}
 use Rattle.hp_program.specs.Answers.{HasBadCuts, IsAnswer, IsBytesAnswer, IsExact, IsLawful, IsNotText, IsPageTree, IsRead, IsText, IsTextAnswer, IsTooLarge}
 use Rattle.hp_program.specs.Devices.{Reading, ReadingFailed, Writing, WritingFailed}
+use Rattle.hp_program.specs.Forms.{tree_text}
 use Rattle.hp_program.specs.Modes.{IsModeAnswer}
 use Rattle.hp_program.specs.Notes.{no_memory_line}
-use Rattle.hp_program.specs.Outcomes.{IsTreeOutcome, note_of, status_of, unread_as}
+use Rattle.hp_program.specs.Outcomes.{IsTextOutcome, note_of, status_of, unread_as}
 use Rattle.hp_program.specs.Reports.{IsReport, refusal_of}
 use Rattle.hp_program.specs.Runs.{IsAnswerTo, IsExactRun, IsMode, OnPage}
 use Rattle.hp_program.specs.declared.outcome.Outcome.{Outcome}
@@ -27,7 +28,7 @@ use Rattle.hp_program.specs.declared.status.Status.TheVariants as status
 
 -- a tree that was written, whole or in part, is what is answered of the text
 pub of_tree : (asked : PageSetting) (text : List ℕ) (tree : Tree) (report : List ℕ) (w : Writing) (o : Outcome)
-    → refusal_of asked.cutting text ≡ None → IsPageTree (chars text) tree → IsReport asked text report → IsTreeOutcome tree report w o
+    → refusal_of asked.cutting text ≡ None → IsPageTree (chars text) tree → IsReport asked text report → IsTextOutcome (tree_text asked.form tree) report w o
     → IsTextAnswer asked text w (note_of o) (status_of o)
 of_tree asked text tree report w (outcome.Done told) accepted is reported h = (accepted, (tree, is, h.0), subst (IsReport asked text) (sym h.1) reported)
 of_tree asked text tree report w outcome.Usage accepted is reported h = absurd h
@@ -37,6 +38,10 @@ of_tree asked text tree report w outcome.ReadFault accepted is reported h = absu
 of_tree asked text tree report w (outcome.WriteFault taken) accepted is reported h = (accepted, (taken, (tree, is, h.0, h.1), refl))
 of_tree asked text tree report w outcome.NoMemory accepted is reported h = refl
 of_tree asked text tree report w (outcome.BadCuts refusal) accepted is reported h = absurd h
+
+-- a text that was written is an equal one
+pub of_equal : (one other report : List ℕ) (w : Writing) (o : Outcome) → one ≡ other → IsTextOutcome one report w o → IsTextOutcome other report w o
+of_equal one other report w o same = subst (λ (text : List ℕ). IsTextOutcome text report w o) same
 
 -- what is answered of the text of bytes is answered of the bytes
 pub of_text : (asked : PageSetting) (bytes text : List ℕ) (w : Writing) (note : List ℕ) (s : Status) → text ≡ without_mark bytes → IsText bytes

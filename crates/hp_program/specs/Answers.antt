@@ -5,13 +5,14 @@ use Rattle.hp_control.specs.Tree.{Tree}
 use Rattle.hp_cut.specs.declared.listed.CutRefusal.{CutRefusal}
 use Rattle.hp_names.specs.BuiltIn.{built_in}
 use Rattle.hp_print.specs.Out.{TakesFirst}
-use Rattle.hp_print.specs.Print.{print}
 use Rattle.hp_runs.specs.Pages.{IsTreeOf}
 use Rattle.hp_text.specs.Device.{Gives}
 use Rattle.hp_text.specs.Text.{without_mark}
 use Rattle.hp_text.specs.declared.reading.TheConstants.{PAGE_LIMIT}
+use Rattle.hp_words.specs.declared.setting.OutputForm.{OutputForm}
 use Rattle.hp_words.specs.declared.setting.PageSetting.{PageSetting}
 use Rattle.hp_program.specs.Devices.{Reading, ReadingFailed, Takes, Writing, WritingFailed}
+use Rattle.hp_program.specs.Forms.{tree_text}
 use Rattle.hp_program.specs.Notes.{bad_cuts_line, no_memory_line, not_utf8_line, read_fault_line, too_large_line, write_fault_line}
 use Rattle.hp_program.specs.Reports.{IsReport, refusal_of}
 use Rattle.hp_program.specs.declared.status.Status.{Status}
@@ -47,18 +48,18 @@ pub record IsLawful (asked : PageSetting) (bytes : List ℕ) : Type 0 where
 abbrev pub IsPageTree : List ℕ → Tree → Type 0
 IsPageTree page tree = IsTreeOf built_in page tree
 
--- the printed text of that tree was taken, and nothing else
-abbrev pub TakesTreeOf : List ℕ → Writing → Type 0
-TakesTreeOf page w = (tree : Tree) × IsPageTree page tree × Takes (print tree) w
+-- the text of that tree in this form was taken, and nothing else
+abbrev pub TakesTreeOf : OutputForm → List ℕ → Writing → Type 0
+TakesTreeOf form page w = (tree : Tree) × IsPageTree page tree × Takes (tree_text form tree) w
 
 -- the count of faults rose, and the first bytes of it were taken: so many, and not all of them
-abbrev pub TakesTreePartOf : List ℕ → ℕ → Writing → Type 0
-TakesTreePartOf page taken w = (tree : Tree) × IsPageTree page tree × TakesFirst taken (print tree) w.before w.after × WritingFailed w
+abbrev pub TakesTreePartOf : OutputForm → List ℕ → ℕ → Writing → Type 0
+TakesTreePartOf form page taken w = (tree : Tree) × IsPageTree page tree × TakesFirst taken (tree_text form tree) w.before w.after × WritingFailed w
 
--- what is answered of a page's text: its tree is written, whole or in part; or it can't be cut as the words say; or memory is wanting
+-- what is answered of a page's text: its tree is written as the words say, whole or in part; or it can't be cut as the words say; or memory is wanting
 abbrev pub IsTextAnswer : PageSetting → List ℕ → Writing → List ℕ → Status → Type 0
-IsTextAnswer asked text w note status.Done = (refusal_of asked.cutting text ≡ None) × TakesTreeOf (chars text) w × IsReport asked text note
-IsTextAnswer asked text w note status.WriteFault = (refusal_of asked.cutting text ≡ None) × ((taken : ℕ) × TakesTreePartOf (chars text) taken w × (note ≡ write_fault_line taken))
+IsTextAnswer asked text w note status.Done = (refusal_of asked.cutting text ≡ None) × TakesTreeOf asked.form (chars text) w × IsReport asked text note
+IsTextAnswer asked text w note status.WriteFault = (refusal_of asked.cutting text ≡ None) × ((taken : ℕ) × TakesTreePartOf asked.form (chars text) taken w × (note ≡ write_fault_line taken))
 IsTextAnswer asked text w note status.BadCuts = (cause : CutRefusal) × (refusal_of asked.cutting text ≡ Some cause) × (note ≡ bad_cuts_line cause)
 IsTextAnswer asked text w note status.NoMemory = note ≡ no_memory_line
 IsTextAnswer asked text w note _ = ⊥

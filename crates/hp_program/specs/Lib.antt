@@ -1,5 +1,6 @@
 pub mod Page
 pub mod Devices
+pub mod Forms
 pub mod Answers
 pub mod Status
 pub mod Notes

@@ -1,8 +1,6 @@
 -- How a run ended: its status, and what the notes say.
 use Rattle.std.specs.Prelude.{◌≡◌, ℕ, List}
-use Rattle.hp_control.specs.Tree.{Tree}
 use Rattle.hp_print.specs.Out.{TakesFirst}
-use Rattle.hp_print.specs.Print.{print}
 use Rattle.hp_text.specs.declared.reading.ReadRefusal.{ReadRefusal}
 use Rattle.hp_text.specs.declared.reading.ReadRefusal.TheVariants as refusal
 use Rattle.hp_program.specs.Devices.{Takes, Writing, WritingFailed}
@@ -38,9 +36,9 @@ unread_as refusal.Fault = outcome.ReadFault
 unread_as refusal.TooLarge = outcome.TooLarge
 unread_as refusal.NoMemory = outcome.NoMemory
 
--- how a run ends whose tree was there: it was written whole or in part, or memory was wanting
-abbrev pub IsTreeOutcome : Tree → List ℕ → Writing → Outcome → Type 0
-IsTreeOutcome tree report w (outcome.Done told) = Takes (print tree) w × (told.items ≡ report)
-IsTreeOutcome tree report w (outcome.WriteFault taken) = TakesFirst taken (print tree) w.before w.after × WritingFailed w
-IsTreeOutcome tree report w outcome.NoMemory = Unit {0}
-IsTreeOutcome tree report w _ = ⊥
+-- how a run ends that has this text to write: it was written, whole or in part, or memory was wanting
+abbrev pub IsTextOutcome : List ℕ → List ℕ → Writing → Outcome → Type 0
+IsTextOutcome text report w (outcome.Done told) = Takes text w × (told.items ≡ report)
+IsTextOutcome text report w (outcome.WriteFault taken) = TakesFirst taken text w.before w.after × WritingFailed w
+IsTextOutcome text report w outcome.NoMemory = Unit {0}
+IsTextOutcome text report w _ = ⊥

@@ -1,10 +1,11 @@
-//! The program `hpar`: reads a page from the standard input, and prints its tree to the standard output.
+//! The program `hpar`: reads a page from the standard input, and writes its tree to the standard output.
 #![tactic(auto)]
 
 mod answering;
 mod modes;
 mod notes;
 mod outcome;
+mod output;
 mod parsing;
 mod status;
 #[cfg(test)]

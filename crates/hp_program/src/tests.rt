@@ -371,13 +371,25 @@ fn a_page_that_fails_is_not_printed(rt: HostRuntime) {
     assert_all_failing(&rt, FAILING);
 }
 
+const EMPTY_HTML: &[u8] = b"<html><head></head><body></body></html>";
+
+/// An output without room for all that a run with these words over an empty page writes takes the first part of it.
+fn assert_first_parts<R: Threads + Wait + Sync + AllocGlobal + Abort>(
+    rt: &R,
+    texts: &[&str],
+    whole: &[u8],
+) {
+    for room in 0..whole.len() {
+        let mut page = SteadySource::new(b"");
+        let wanted = (Status::WriteFault, &whole[..room]);
+        assert_page(rt, texts, (&mut page, b""), room, wanted);
+    }
+}
+
 #[test]
 fn an_output_without_room_takes_the_first_part(rt: HostRuntime) {
-    for room in 0..31usize {
-        let mut page = SteadySource::new(b"");
-        let wanted = (Status::WriteFault, &EMPTY_PAGE[..room]);
-        assert_page(&rt, &[], (&mut page, b""), room, wanted);
-    }
+    assert_first_parts(&rt, &[], EMPTY_PAGE);
+    assert_first_parts(&rt, &["--html"], EMPTY_HTML);
 }
 
 /// For `rt try --test --fail-alloc N`, where the Nth allocation fails. In the gate none fails, and the page is printed.

@@ -5,23 +5,21 @@ ghost use Rattle.hp_text.specs.Page.{text_of};
 ghost use Rattle.hp_words.specs.Settings.{settings};
 ghost use Rattle.hp_words.specs.Within.{IsBetween, IsPageWithin, IsWithin};
 ghost use Rattle.hp_program.specs.Answers.{IsAnswer, IsBytesAnswer, IsTextAnswer};
-ghost use Rattle.hp_program.specs.Outcomes.{IsTreeOutcome, note_of, status_of, unread_as};
+ghost use Rattle.hp_program.specs.Outcomes.{note_of, status_of, unread_as};
 ghost use Rattle.hp_program.specs.Reports.{cutting_of, refusal_of};
 ghost use Rattle.hp_program.specs.Runs.{IsAnswerTo, IsExactRun, IsRun, IsWithoutPage};
 
 use crate::modes::{Drilling, drill, make};
 use crate::notes::write_note;
 use crate::outcome::Outcome;
+use crate::output::put_tree;
 use crate::parsing::{cuts_for, parse};
 use crate::status::Status;
-use hp_arena::Tree;
 use hp_cut::{CutRefusal, Cuts};
-use hp_print::{Refusal, write_tree_by};
 use hp_text::{PAGE_LIMIT, Page, ReadRefusal, Sink, Source, check_page, read_page};
 use hp_words::{PageSetting, Setting, Words, read_setting};
 use hp_workers::Gate;
 use std::alloc::Global;
-use std::mem;
 use std::sync::Wait;
 use std::thread::Threads;
 
@@ -36,29 +34,7 @@ fn unread(refusal: ReadRefusal) -> Outcome
     }
 }
 
-/// Writes a tree as text to `out`, by as many threads as there are workers. The report is for the notes.
-fn put_tree<R: Threads + Sync, K: Sink>(
-    rt: &R,
-    alloc: Global,
-    tree: Tree<'_>,
-    report: Vec<u8>,
-    out: &mut K,
-    workers: u32,
-) -> Outcome
-    ensures written { IsTreeOutcome tree.entry.branches report.items (record { before = K.taken out.old; after = K.taken out.new; faults = K.faults out.old; faults_after = K.faults out.new }) result }
-    ensures nothing { status_of result ≢ Status.Done → status_of result ≢ Status.WriteFault → out.new ≡ out.old }
-{
-    let outcome = write_tree_by(rt, alloc, &tree, out, workers);
-    // The process ends once the text is written, and its memory goes back whole: nothing is given back piece by piece.
-    mem::forget(tree);
-    match outcome {
-        Ok(()) => Outcome::Done { report },
-        Err(Refusal::Fault { taken }) => Outcome::WriteFault { taken },
-        Err(Refusal::NoMemory) => Outcome::NoMemory,
-    }
-}
-
-/// Writes the printed tree of a page that is cut so to `out`.
+/// Writes the tree of a page that is cut so to `out`.
 fn put_cut<R: Threads + Wait + Sync, K: Sink, G: Gate + Sync>(
     rt: &R,
     alloc: Global,
@@ -77,12 +53,12 @@ fn put_cut<R: Threads + Wait + Sync, K: Sink, G: Gate + Sync>(
     ensures nothing { status_of result ≢ Status.Done → status_of result ≢ Status.WriteFault → out.new ≡ out.old }
 {
     match parse(rt, alloc, page, cuts, asked, gate) {
-        Ok((tree, report)) => put_tree(rt, alloc, tree, report, out, asked.workers),
+        Ok((tree, report)) => put_tree(rt, alloc, tree, report, asked, out),
         Err(_) => Outcome::NoMemory,
     }
 }
 
-/// Writes the printed tree of a page's text to `out`, where it can be cut as is asked.
+/// Writes the tree of a page's text to `out`, where it can be cut as is asked.
 fn put_text<R: Threads + Wait + Sync, K: Sink, G: Gate + Sync>(
     rt: &R,
     alloc: Global,
@@ -103,7 +79,7 @@ fn put_text<R: Threads + Wait + Sync, K: Sink, G: Gate + Sync>(
     }
 }
 
-/// Writes the printed tree of the page of these bytes to `out`.
+/// Writes the tree of the page of these bytes to `out`.
 fn put_bytes<R: Threads + Wait + Sync, K: Sink, G: Gate + Sync>(
     rt: &R,
     alloc: Global,
@@ -123,7 +99,7 @@ fn put_bytes<R: Threads + Wait + Sync, K: Sink, G: Gate + Sync>(
     }
 }
 
-/// Reads the page, and writes its printed tree to `out`. The first refusal decides, in the order reading, UTF-8, cuts, parsing, writing.
+/// Reads the page, and writes its tree to `out`. The first refusal decides, in the order reading, UTF-8, cuts, parsing, writing.
 fn put_page<R: Threads + Wait + Sync, S: Source, K: Sink, G: Gate + Sync>(
     rt: &R,
     alloc: Global,
@@ -215,8 +191,8 @@ fn put_for<R: Threads + Wait + Sync, S: Source, K: Sink, G: Gate + Sync>(
     }
 }
 
-/// Does what the words ask for: without a mode it reads the page and writes its printed tree to `out`. The first refusal decides, in the
-/// order words, reading, UTF-8, cuts, parsing, writing; want of memory may come at any of them. The run's report, or the line of its
+/// Does what the words ask for: without a mode it reads the page and writes its tree to `out`, printed or as HTML. The first refusal decides,
+/// in the order words, reading, UTF-8, cuts, parsing, writing; want of memory may come at any of them. The run's report, or the line of its
 /// refusal, goes to `notes`; where they fail, nothing else changes. A worker passes the gate before it guesses a chunk.
 ///
 /// It promises this where it returns: by its bound `Wait` it owes no return.

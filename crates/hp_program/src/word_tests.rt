@@ -180,6 +180,20 @@ const WORKED: &[Worked] = &[
         b"cut 0: past the end\n",
     ),
     (
+        "--html",
+        b"<p title=\"a&quot;b\">x&lt;&nbsp;<br>",
+        Status::Done,
+        b"<html><head></head><body><p title=\"a&quot;b\">x&lt;&nbsp;<br></p></body></html>",
+        b"",
+    ),
+    (
+        "--html --report",
+        b"<!DOCTYPE html><svg viewbox=1 xlink:href=h></svg><script>a<b</script>",
+        Status::Done,
+        b"<!DOCTYPE html><html><head></head><body><svg viewBox=\"1\" xlink:href=\"h\"></svg><script>a<b</script></body></html>",
+        b"chunk 0: 69 bytes, exact\ntotal: 1 chunks, 1 exact, 0 kept, 0 repaired, 0 rolled back\n",
+    ),
+    (
         "--make 0 --bytes 40",
         b"",
         Status::Done,
@@ -193,6 +207,14 @@ const WORKED: &[Worked] = &[
     ("--guess loud", b"x", Status::Usage, b"", USAGE),
     ("--report --report", b"x", Status::Usage, b"", USAGE),
     ("--bytes 20", b"x", Status::Usage, b"", USAGE),
+    ("--html --html", b"x", Status::Usage, b"", USAGE),
+    (
+        "--make 0 --bytes 40 --html",
+        b"x",
+        Status::Usage,
+        b"",
+        USAGE,
+    ),
     ("--help", b"x", Status::Usage, b"", USAGE),
     (
         "--drill 0 --bytes 20",

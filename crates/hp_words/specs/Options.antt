@@ -8,13 +8,14 @@ use Rattle.clap.specs.declared.parser.matches.ValueSource.{ValueSource}
 use Rattle.clap.specs.declared.parser.matches.ValueSource.TheVariants.{CommandLine}
 use Rattle.hp_words.specs.declared.options.Options.{Options}
 
--- the values of the options as texts, and whether a report is asked for
+-- the values of the options as texts, and which of those without a value are there
 pub record Values : Type 0 where
   pub workers : Option Text
   pub chunk : Option Text
   pub cuts : Option Text
   pub guess : Option Text
   pub report : Bool
+  pub html : Bool
   pub make : Option Text
   pub drill : Option Text
   pub bytes : Option Text
@@ -36,6 +37,7 @@ options_in rows = record {
   cuts = first_of (codes "cuts") rows;
   guess = first_of (codes "guess") rows;
   report = is_given (codes "report") rows;
+  html = is_given (codes "html") rows;
   make = first_of (codes "make") rows;
   drill = first_of (codes "drill") rows;
   bytes = first_of (codes "bytes") rows;
@@ -49,6 +51,7 @@ texts_of o = record {
   cuts = option_map (λ text. text.now) o.cuts;
   guess = option_map (λ text. text.now) o.guess;
   report = o.report;
+  html = o.html;
   make = option_map (λ text. text.now) o.make;
   drill = option_map (λ text. text.now) o.drill;
   bytes = option_map (λ text. text.now) o.bytes;

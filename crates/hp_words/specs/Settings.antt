@@ -8,6 +8,8 @@ use Rattle.hp_words.specs.declared.setting.Setting.{Setting}
 use Rattle.hp_words.specs.declared.setting.Setting.TheVariants.{Page, Make, Drill}
 use Rattle.hp_words.specs.declared.setting.CutSetting.{CutSetting}
 use Rattle.hp_words.specs.declared.setting.CutSetting.TheVariants.{AtTags, Listed}
+use Rattle.hp_words.specs.declared.setting.OutputForm.{OutputForm}
+use Rattle.hp_words.specs.declared.setting.OutputForm.TheVariants.{PrintedTree, HtmlText}
 use Rattle.hp_predict.specs.declared.quiet.GuessKind.{GuessKind}
 use Rattle.hp_predict.specs.declared.quiet.GuessKind.TheVariants.{Quiet, Prescan, Contrary}
 
@@ -37,17 +39,21 @@ guess_of (Some name) =
     else (if bytes_eq name (codes "prescan") then Some Prescan
     else (if bytes_eq name (codes "contrary") then Some Contrary else None))
 
+-- as what the tree is written, by whether the option is there
+abbrev pub form_of : Bool → OutputForm
+form_of html = if html then HtmlText else PrintedTree
+
 -- the page on the standard input is parsed
 abbrev pub page_of : Values → Option Setting
 page_of values =
     from (workers_of values.workers) (λ workers.
     from (guess_of values.guess) (λ guess.
     from (cutting_of values.cuts values.chunk) (λ cutting.
-    Some (Page (record { workers = workers; cutting = cutting; guess = guess; report = values.report })))))
+    Some (Page (record { workers = workers; cutting = cutting; guess = guess; report = values.report; form = form_of values.html })))))
 
 -- an option is given that no mode allows
 abbrev pub asks_for_page_alone : Values → Bool
-asks_for_page_alone values = is_some values.cuts || is_some values.guess || values.report
+asks_for_page_alone values = is_some values.cuts || is_some values.guess || values.report || values.html
 
 -- a seed: 0 to 2^64 - 1
 abbrev pub seed_of : List ℕ → Option ℕ

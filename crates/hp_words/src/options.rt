@@ -6,7 +6,7 @@ ghost use Rattle.hp_words.specs.Options.{is_from_word, is_given, options_in, tex
 use clap::ArgMatches;
 use clap::parser::ValueSource;
 
-/// The values of the options as they stand in the words, and whether a report is asked for.
+/// The values of the options as they stand in the words, and which of those without a value are there.
 #[derive(Clone, Copy)]
 pub struct Options<'a> {
     pub workers: Option<&'a str>,
@@ -14,6 +14,7 @@ pub struct Options<'a> {
     pub cuts: Option<&'a str>,
     pub guess: Option<&'a str>,
     pub report: bool,
+    pub html: bool,
     pub make: Option<&'a str>,
     pub drill: Option<&'a str>,
     pub bytes: Option<&'a str>,
@@ -50,6 +51,7 @@ pub fn options_found<'a>(matches: &ArgMatches<'a>) -> Options<'a>
         cuts: value(matches, "cuts"),
         guess: value(matches, "guess"),
         report: is_given(matches, "report"),
+        html: is_given(matches, "html"),
         make: value(matches, "make"),
         drill: value(matches, "drill"),
         bytes: value(matches, "bytes"),

@@ -1,13 +1,13 @@
 //! What the words ask for, from the values of their options.
 ghost use Rattle.std.specs.Prelude.{◌≡◌, IfOk, IfSome, map, string_bytes, option_map};
-ghost use Rattle.hp_words.specs.Settings.{asks_for_page_alone, cutting_of, drill_of, guess_of, has_separator, make_of, page_of, setting_of, settings};
+ghost use Rattle.hp_words.specs.Settings.{asks_for_page_alone, cutting_of, drill_of, form_of, guess_of, has_separator, make_of, page_of, setting_of, settings};
 ghost use Rattle.hp_words.specs.Options.{texts_of};
 ghost use Rattle.hp_words.specs.Within.{IsWithin};
 
 use crate::command::find_options;
 use crate::numbers::{number, number_or, places, small_number};
 use crate::options::Options;
-use crate::setting::{CutSetting, PageSetting, Setting};
+use crate::setting::{CutSetting, OutputForm, PageSetting, Setting};
 use crate::words::Words;
 use hp_predict::GuessKind;
 use hp_text::NoMemory;
@@ -86,6 +86,7 @@ fn page_of(alloc: Global, options: &Options<'_>) -> Result<Option<Setting>, NoMe
         cutting,
         guess,
         report: options.report,
+        form: form_of(options.html),
     })))
 }
 
@@ -118,11 +119,22 @@ fn guess_of(name: Option<&str>) -> Option<GuessKind>
     }
 }
 
+/// As what the tree is written.
+fn form_of(html: bool) -> OutputForm
+    ensures { result ≡ form_of html }
+{
+    if html {
+        OutputForm::HtmlText
+    } else {
+        OutputForm::PrintedTree
+    }
+}
+
 /// Whether an option is given that no mode allows.
 fn asks_for_page_alone(options: &Options<'_>) -> bool
     ensures { result ≡ asks_for_page_alone (texts_of options.now) }
 {
-    options.cuts.is_some() || options.guess.is_some() || options.report
+    options.cuts.is_some() || options.guess.is_some() || options.report || options.html
 }
 
 /// The page of a seed is written, with no other option.

@@ -34,6 +34,17 @@ pub struct PageSetting {
     pub guess: GuessKind,
     /// A line for each chunk, and one of their sum, is written to the notes.
     pub report: bool,
+    /// As what its tree is written.
+    pub form: OutputForm,
+}
+
+/// As what a tree is written.
+#[derive(Clone, Copy, Debug, PartialEq, Eq)]
+pub enum OutputForm {
+    /// The printed form: a line for each element, attribute, text, comment and doctype.
+    PrintedTree,
+    /// The HTML text.
+    HtmlText,
 }
 
 /// Where the page is cut.

@@ -3,30 +3,44 @@ use crate::{CutSetting, NoMemory, PageSetting, Setting, Words, read_setting};
 use std::alloc::Global;
 
 /// Lines that ask for something, each with what it is in short.
-static TAKEN: [(&str, &str); 16] = [
-    ("", "page 4 tags 65536 Prescan false"),
-    ("--workers 1", "page 1 tags 65536 Prescan false"),
-    ("--workers 64", "page 64 tags 65536 Prescan false"),
+static TAKEN: [(&str, &str); 18] = [
+    ("", "page 4 tags 65536 Prescan false PrintedTree"),
+    ("--workers 1", "page 1 tags 65536 Prescan false PrintedTree"),
+    (
+        "--workers 64",
+        "page 64 tags 65536 Prescan false PrintedTree",
+    ),
     (
         "--workers=00000000000000000007",
-        "page 7 tags 65536 Prescan false",
+        "page 7 tags 65536 Prescan false PrintedTree",
     ),
-    ("--chunk 64", "page 4 tags 64 Prescan false"),
+    ("--chunk 64", "page 4 tags 64 Prescan false PrintedTree"),
     (
         "--report --chunk 16777216",
-        "page 4 tags 16777216 Prescan true",
+        "page 4 tags 16777216 Prescan true PrintedTree",
     ),
-    ("--cuts 3,6", "page 4 [3, 6] Prescan false"),
+    ("--cuts 3,6", "page 4 [3, 6] Prescan false PrintedTree"),
     (
         "--cuts 6,0,4294967295",
-        "page 4 [6, 0, 4294967295] Prescan false",
+        "page 4 [6, 0, 4294967295] Prescan false PrintedTree",
     ),
     (
         "--cuts=3,6 --guess=quiet --report --workers=2",
-        "page 2 [3, 6] Quiet true",
+        "page 2 [3, 6] Quiet true PrintedTree",
     ),
-    ("--guess prescan", "page 4 tags 65536 Prescan false"),
-    ("--guess contrary", "page 4 tags 65536 Contrary false"),
+    (
+        "--guess prescan",
+        "page 4 tags 65536 Prescan false PrintedTree",
+    ),
+    (
+        "--guess contrary",
+        "page 4 tags 65536 Contrary false PrintedTree",
+    ),
+    ("--html", "page 4 tags 65536 Prescan false HtmlText"),
+    (
+        "--cuts 3,6 --html --report --guess quiet",
+        "page 4 [3, 6] Quiet true HtmlText",
+    ),
     ("--make 0 --bytes 40", "make 0 40"),
     (
         "--bytes=16777216 --make=18446744073709551615",
@@ -38,7 +52,7 @@ static TAKEN: [(&str, &str); 16] = [
 ];
 
 /// Lines that are wrong usage.
-static REFUSED: [&str; 46] = [
+static REFUSED: [&str; 50] = [
     "--workers 0",
     "--workers 65",
     "--workers 000000000000000000007",
@@ -65,6 +79,10 @@ static REFUSED: [&str; 46] = [
     "--guess",
     "--report --report",
     "--report=true",
+    "--html --html",
+    "--html=true",
+    "--make 0 --bytes 40 --html",
+    "--drill 7 --bytes 20 --html",
     "--help",
     "--version",
     "-h",
@@ -119,14 +137,15 @@ fn page_in_short(alloc: Global, page: &PageSetting) -> Result<String, NoMemory> 
         cutting,
         guess,
         report,
+        form,
     } = page;
     match cutting {
         CutSetting::AtTags { size } => format!(in alloc;
-            "page {workers} tags {size} {guess:?} {report}"
+            "page {workers} tags {size} {guess:?} {report} {form:?}"
         ),
         CutSetting::Listed { places } => {
             let places = places.as_slice();
-            format!(in alloc; "page {workers} {places:?} {guess:?} {report}")
+            format!(in alloc; "page {workers} {places:?} {guess:?} {report} {form:?}")
         }
     }
 }

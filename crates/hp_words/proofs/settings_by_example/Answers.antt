@@ -10,6 +10,7 @@ unfolding app found settings clap_on_literals
 returns c = record {
   no_words = refl;
   listed_cuts = refl;
+  as_html = refl;
   made = refl;
   drilled = refl;
   no_worker = refl;
@@ -18,6 +19,7 @@ returns c = record {
   two_commas = refl;
   unknown_guess = refl;
   twice = refl;
+  html_of_a_made_page = refl;
   no_mode = refl;
   help = refl;
   separator = refl;
