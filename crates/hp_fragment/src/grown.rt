@@ -10,11 +10,11 @@ ghost use Rattle.hp_fragment.specs.Known.{LeadsPartlySplit};
 ghost use Rattle.hp_fragment.specs.Making.{AllComeTo};
 
 use crate::NoMemory;
-use crate::leaving::{leave_change, leave_control, leave_splitting};
+use crate::leaving::{leave_change, leave_edits, leave_splitting, leave_states};
 use crate::sink::{Splitting, split};
 use hp_arena::Grove;
 use hp_control::{Assumptions, Change, Control, Edits};
-use hp_pieces::{Exact, ExactParts, Guessed};
+use hp_pieces::{Exact, ExactParts, Guessed, States};
 use std::alloc::Global;
 
 /// The run over a text from one state to another, of which the first edits were split, and these are the others. `Err` is want of memory.
@@ -32,20 +32,27 @@ pub(crate) fn grown_run<'p>(
     ensures entry { IfOk result (λ known. known.entry ≡ entry) }
 {
     hp_growing::guesses_grow();
+    let states = match Box::new(alloc, States { entry, exit }) {
+        Ok(states) => states,
+        Err(failed) => {
+            leave_states(failed.value);
+            leave_splitting(splitting);
+            leave_edits(rest);
+            return Err(NoMemory);
+        }
+    };
     match grown(alloc, splitting, rest) {
         Ok((grove, outer)) => {
             let parts = ExactParts {
                 text: text.as_bytes(),
-                entry,
-                exit,
+                states,
                 grove,
                 outer,
             };
             Ok(parts.together())
         }
         Err(fault) => {
-            leave_control(entry);
-            leave_control(exit);
+            leave_states(Box::into_inner(states));
             Err(fault)
         }
     }
@@ -65,13 +72,22 @@ pub(crate) fn grown_guess<'p>(
     requires sound { (grove : TreeOf) (outer : List EditOf) → AllComeTo splitting rest grove outer → IsSound (made_by text.now covered kept change grove outer) }
     ensures { IfOk result (λ guessed. guessed ≡ made_by text.now covered kept change guessed.grove guessed.outer) }
 {
+    let change = match Box::new(alloc, change) {
+        Ok(change) => change,
+        Err(failed) => {
+            leave_change(failed.value, kept);
+            leave_splitting(splitting);
+            leave_edits(rest);
+            return Err(NoMemory);
+        }
+    };
     match grown(alloc, splitting, rest) {
         Ok((grove, outer)) => {
             let text = text.as_bytes();
             Ok(Guessed::of_guess(text, covered, kept, change, grove, outer))
         }
         Err(fault) => {
-            leave_change(change, kept);
+            leave_change(Box::into_inner(change), kept);
             Err(fault)
         }
     }

@@ -5,6 +5,7 @@ use crate::parsing::Parsing;
 use crate::sink::{Sink, Splitting};
 use hp_control::{Assumptions, Change, Control, Edits, Guess, Nothing, Predictor};
 use hp_lexer::Lexer;
+use hp_pieces::States;
 use hp_predict::Prescan;
 use hp_tokens::LexState;
 use hp_views::View;
@@ -36,6 +37,13 @@ pub(crate) fn leave_view<P: Predictor + Drop>(view: View<'_, Guess<P>>) {
 pub(crate) fn leave_control(control: Control) {
     let Control { lex, .. } = control;
     leave_lex(lex);
+}
+
+/// Gives back the states before and behind a text.
+pub(crate) fn leave_states(states: States) {
+    let States { entry, exit } = states;
+    leave_control(entry);
+    leave_control(exit);
 }
 
 /// Gives back a change, and the answers that were kept with it.

@@ -138,13 +138,9 @@ impl<'p> Front<'p> {
         ensures cost { steps.new ≤ steps.old + join_cost (fragment_of.Exact exact.entry) }
     {
         match join_exact(alloc, &mut self.tree, exact, steps) {
-            Ok((exit, entry, outer)) => {
-                let replaced = mem::replace(&mut self.control, exit);
-                self.keep_spent(Spent::Exact {
-                    entry,
-                    replaced,
-                    outer,
-                });
+            Ok((mut states, outer)) => {
+                mem::swap(&mut self.control, &mut states.exit);
+                self.keep_spent(Spent::Exact { states, outer });
                 Ok(())
             }
             Err(exact) => Err(JoinRefusal {

@@ -16,21 +16,21 @@ use crate::spent::Spent;
 use hp_arena::{GraftRefusal, Tree};
 use hp_control::{Assumptions, Change, Control, Edit, Edits};
 use hp_elements::NoMemory;
-use hp_pieces::{Ending, Exact, ExactParts, Guessed, GuessedParts};
+use hp_pieces::{Ending, Exact, ExactParts, Guessed, GuessedParts, States};
 use hp_steps::Steps;
 use std::alloc::Global;
 use std::sync::ledger::Ledger;
 
-/// Joins what is exact to the tree of its entry, and answers the state behind it: what its inner edits made is put behind the tree, and
-/// then its outer edits are made. The state before it and what is left of these edits are answered too. At an `Err`, which is want of
-/// memory, the tree is as before and the fragment comes back.
+/// Joins what is exact to the tree of its entry, and answers the states before and behind it: what its inner edits made is put behind the
+/// tree, and then its outer edits are made. What is left of these edits is answered too. At an `Err`, which is want of memory, the tree is
+/// as before and the fragment comes back.
 pub(crate) fn join_exact<'p, L: Ledger>(
     alloc: Global,
     tree: &mut Tree<'p>,
     exact: Exact<'p>,
     steps: &mut Steps<L>,
-) -> Result<(Control, Control, Vec<Edit<'p>>), Exact<'p>>
-    ensures exit { IfOk result (λ joined. joined.0 ≡ exact.entry.exit) }
+) -> Result<(Box<States>, Vec<Edit<'p>>), Exact<'p>>
+    ensures exit { IfOk result (λ joined. joined.0.value.exit ≡ exact.entry.exit) }
     ensures tree { OnOk result (tree.new.branches ≡ grown_tree exact.entry.grove exact.entry.outer exact.entry.entry tree.old.branches) }
     ensures kept { OnErr result (tree.new.branches ≡ tree.old.branches) }
     ensures back { IfErr result (λ back. back ≡ exact.entry) }
@@ -39,9 +39,10 @@ pub(crate) fn join_exact<'p, L: Ledger>(
     if tree.reserve(alloc, exact.outer()).is_err() {
         return Err(exact);
     }
-    let (entry, exit, outer) = graft_exact(alloc, tree, exact)?;
+    let (states, outer) = graft_exact(alloc, tree, exact)?;
+    let entry = &states.entry;
     let left = make_over(alloc, tree, outer, &entry.stack, 0, entry.next, steps);
-    Ok((exit, entry, left))
+    Ok((states, left))
 }
 
 /// Puts what the inner edits of what is exact made behind the tree, and answers the states before and behind it and the outer edits. At
@@ -50,10 +51,10 @@ fn graft_exact<'p>(
     alloc: Global,
     tree: &mut Tree<'p>,
     exact: Exact<'p>,
-) -> Result<(Control, Control, Edits<'p>), Exact<'p>>
-    ensures entry { IfOk result (λ rest. rest.0 ≡ exact.entry.entry) }
-    ensures exit { IfOk result (λ rest. rest.1 ≡ exact.entry.exit) }
-    ensures outer { IfOk result (λ rest. rest.2 ≡ exact.entry.outer) }
+) -> Result<(Box<States>, Edits<'p>), Exact<'p>>
+    ensures entry { IfOk result (λ rest. rest.0.value.entry ≡ exact.entry.entry) }
+    ensures exit { IfOk result (λ rest. rest.0.value.exit ≡ exact.entry.exit) }
+    ensures outer { IfOk result (λ rest. rest.1 ≡ exact.entry.outer) }
     ensures tree { OnOk result (tree.new.branches ≡ graft tree.old.branches exact.entry.grove) }
     ensures room { OnOk result (tree.old.spare ≤ tree.new.spare) }
     ensures kept { OnErr result (tree.new ≡ tree.old) }
@@ -61,7 +62,7 @@ fn graft_exact<'p>(
 {
     let parts = exact.into_parts();
     match tree.graft(alloc, parts.grove) {
-        Ok(()) => Ok((parts.entry, parts.exit, parts.outer)),
+        Ok(()) => Ok((parts.states, parts.outer)),
         Err(GraftRefusal { grove }) => Err(ExactParts { grove, ..parts }.together()),
     }
 }
@@ -118,7 +119,7 @@ pub(crate) fn joined_to<'p, L: Ledger>(
         Ok((change, edits, assumptions)) => {
             let above = change.stack.len();
             let outer = make_over(alloc, tree, edits, &parts.stack, above, parts.next, steps);
-            let behind = settle(change, next, pending, parts).together();
+            let behind = settle(Box::into_inner(change), next, pending, parts).together();
             Ok((behind, Spent::Guessed { assumptions, outer }))
         }
         Err(guess) => {
@@ -134,8 +135,8 @@ fn graft_guess<'p>(
     alloc: Global,
     tree: &mut Tree<'p>,
     guess: Guessed<'p>,
-) -> Result<(Change, Edits<'p>, Assumptions), Guessed<'p>>
-    ensures change { IfOk result (λ rest. rest.0 ≡ guess.entry.change) }
+) -> Result<(Box<Change>, Edits<'p>, Assumptions), Guessed<'p>>
+    ensures change { IfOk result (λ rest. rest.0.value ≡ guess.entry.change) }
     ensures outer { IfOk result (λ rest. rest.1 ≡ guess.entry.outer) }
     ensures tree { OnOk result (tree.new.branches ≡ graft tree.old.branches guess.entry.grove) }
     ensures room { OnOk result (tree.old.spare ≤ tree.new.spare) }

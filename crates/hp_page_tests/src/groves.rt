@@ -2,7 +2,7 @@
 use crate::chunks::{in_two, page_of};
 use hp_control::Control;
 use hp_fragment::{replay, speculate_by};
-use hp_pieces::{ExactParts, Fragment};
+use hp_pieces::{ExactParts, Fragment, States};
 use hp_predict::GuessKind;
 use hp_text::Chunk;
 use std::alloc::Global;
@@ -81,11 +81,11 @@ fn run_over_list(rt: &impl Abort, alloc: Global, items: usize) -> (u32, usize) {
     assert!(rt; cuts.chunks() == 2);
     let ExactParts {
         text: _,
-        entry,
-        exit,
+        states,
         grove,
         outer,
     } = run_from(rt, alloc, cuts.chunk(page, 0), Control::start());
+    let States { entry, exit } = Box::into_inner(states);
     let parts = run_from(rt, alloc, cuts.chunk(page, 1), exit);
     let carried = (parts.grove.len(), parts.outer.len());
     mem::forget((entry, grove, outer, parts));

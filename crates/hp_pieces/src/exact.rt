@@ -52,14 +52,14 @@ impl<'p> Exact<'p> {
     pub fn entry(&self) -> &Control
         ensures { result.now ≡ self.now.entry }
     {
-        &self.parts.entry
+        &self.parts.states.entry
     }
 
     /// The state behind the text.
     pub fn exit(&self) -> &Control
         ensures { result.now ≡ self.now.exit }
     {
-        &self.parts.exit
+        &self.parts.states.exit
     }
 
     /// The outer edits.

@@ -45,12 +45,12 @@ impl<'p> Guessed<'p> {
         text: &'p [u8],
         covered: u64,
         assumptions: Assumptions,
-        change: Change,
+        change: Box<Change>,
         grove: Grove<'p>,
         outer: Edits<'p>,
     ) -> Guessed<'p>
-        requires sound { IsSound (record { names = built_in; text = text.now; covered = covered; assumptions = assumptions; change = change; grove = grove; outer = outer; by = None }) }
-        ensures { result ≡ record { names = built_in; text = text.now; covered = covered; assumptions = assumptions; change = change; grove = grove.entry; outer = outer.entry; by = None } }
+        requires sound { IsSound (record { names = built_in; text = text.now; covered = covered; assumptions = assumptions; change = change.value; grove = grove; outer = outer; by = None }) }
+        ensures { result ≡ record { names = built_in; text = text.now; covered = covered; assumptions = assumptions; change = change.value; grove = grove.entry; outer = outer.entry; by = None } }
     {
         let parts = GuessedParts {
             text,

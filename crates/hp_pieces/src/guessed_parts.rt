@@ -18,8 +18,8 @@ pub struct GuessedParts<'p> {
     pub covered: u64,
     /// The answers that are assumed.
     pub assumptions: Assumptions,
-    /// What changes of the state below it.
-    pub change: Change,
+    /// What changes of the state below it, in memory of its own, so that a fragment is small.
+    pub change: Box<Change>,
     /// What the inner edits make.
     pub grove: Grove<'p>,
     /// The outer edits.

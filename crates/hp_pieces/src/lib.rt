@@ -14,7 +14,7 @@ mod tokens;
 pub use by::By;
 pub use ending::Ending;
 pub use exact::Exact;
-pub use exact_parts::ExactParts;
+pub use exact_parts::{ExactParts, States};
 pub use fragment::Fragment;
 pub use guessed::Guessed;
 pub use guessed_parts::GuessedParts;

@@ -2,7 +2,7 @@
 
 use hp_control::{Control, Edit, Edits};
 use hp_fragment::{ending, parse_whole, replay};
-use hp_pieces::{ExactParts, Fragment};
+use hp_pieces::{ExactParts, Fragment, States};
 use hp_text::{Chunk, check_page};
 use std::alloc::Global;
 use std::mem;
@@ -46,11 +46,11 @@ pub(crate) fn run_part(
     };
     let ExactParts {
         text: _,
-        entry,
-        exit,
+        states,
         grove,
         outer,
     } = exact.into_parts();
+    let States { entry, exit } = Box::into_inner(states);
     let count = grove.len();
     mem::forget(entry);
     mem::forget(grove);
