@@ -14,7 +14,7 @@ ghost use Rattle.hp_store.specs.Leaves.{doctype_item, leaf_item};
 ghost use Rattle.hp_store.specs.Lists.{attribute_count};
 
 use crate::leaves::{add_leaf, add_leaf_between, text_at};
-use crate::levels::{deepest, summed_levels};
+use crate::levels::summed_levels;
 use crate::links::{splice, unlink};
 use crate::readers::{NodeView, Runs, Spot};
 use hp_control::{Child, Edit, Place, Ref};
@@ -96,6 +96,7 @@ impl<'p> Arena<'p> {
         ensures { self.new.branches ≡ self.old.branches }
     {
         self.spare = 0;
+        self.cells.clear();
         self.store.shrink();
     }
 
@@ -411,7 +412,7 @@ impl<'p> Arena<'p> {
         if most <= FEW_LEVELS {
             return most;
         }
-        let most = lines.saturating_mul(deepest(&self.store));
+        let most = lines.saturating_mul(self.store.deepest());
         if most <= FEW_LEVELS {
             return most;
         }

@@ -32,47 +32,6 @@ pub fn summed_levels(store: &Store<'_>, more: u64) -> u64
     with_more(sum, deepest, more)
 }
 
-/// How many levels stand above the deepest item that the links lead to from the document. Nothing is promised of it. An element stands
-/// right before the end of its own children.
-#[inline(never)]
-pub fn deepest(store: &Store<'_>) -> u64 {
-    let count = store.counts().nodes;
-    let mut level = 0u64;
-    let mut deepest = 0u64;
-    let (mut at, mut part) = next_of(store, count, 1, 0);
-    for _turn in 0..count {
-        if count <= at {
-            return deepest;
-        }
-        let (node, found) = store.node_near(at, part);
-        match node.kind {
-            Kind::Leaf(_) => (at, part) = (node.next, found),
-            Kind::Element(_) => {
-                level = level.wrapping_add(1);
-                deepest = deepest.max(level);
-                (at, part) = next_of(store, count, at.wrapping_add(1), found);
-            }
-            Kind::End(_) => {
-                level = level.wrapping_sub(1);
-                (at, part) = next_of(store, count, at.wrapping_sub(1), found);
-            }
-        }
-    }
-    deepest
-}
-
-/// The node after this one, if it is there, and in which part this one stands.
-#[inline(always)]
-fn next_of(store: &Store<'_>, count: u32, at: u32, near: u32) -> (u32, u32)
-    requires { count ≡ length store.now.nodes }
-{
-    if count <= at {
-        return (at, near);
-    }
-    let (node, part) = store.node_near(at, near);
-    (node.next, part)
-}
-
 /// Where the link of a node leads, to what, and in which part. `None` where one of the two nodes isn't there.
 #[inline(always)]
 fn link_at(store: &Store<'_>, count: u32, at: u32, near: u32) -> Option<(u32, Kind, u32)>

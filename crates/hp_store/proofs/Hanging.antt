@@ -14,7 +14,7 @@ use Rattle.hp_store.specs.declared.store.Store.TheInside.{Inside}
 use Rattle.hp_store.specs.Numbers.{Fits, sum_of, counted, element_in, no_counts}
 use Rattle.hp_store.specs.Grafting.{counts_of, raised_kind, raised_node, raised_element, retired, IsAppended}
 use Rattle.hp_store.specs.Lists.{node_at, document}
-use Rattle.hp_store.specs.Parts.{part_nodes, part_elements, part_leaves, end_of, free_of, moved_part, AreLaid, IsEmptied, KeepsNodesAside, SameItems}
+use Rattle.hp_store.specs.Parts.{part_nodes, part_elements, part_leaves, end_of, moved_part, AreLaid, IsEmptied, KeepsNodesAside, SameItems}
 use Rattle.hp_store.specs.Whole.{seen, IsSound, IsFilled, IsFinished, IsRetired, own_elements, all_leaves, part_of}
 use Rattle.hp_store.proofs.Wraps.{counted-further}
 use Rattle.hp_store.proofs.Listed.{joined_node, tagged}

@@ -7,12 +7,14 @@ use Rattle.hp_elements.specs.declared.tag.Tag.{Tag}
 use Rattle.hp_store.specs.declared.node.Counts.{Counts}
 use Rattle.hp_store.specs.declared.node.Kind.{Kind}
 use Rattle.hp_store.specs.declared.node.Node.{Node}
+use Rattle.hp_store.specs.declared.node.Side.{Side}
+use Rattle.hp_store.specs.declared.node.Side.TheVariants.{Next, Prev}
 use Rattle.hp_store.specs.declared.part.Element.{Element as OwnElement}
 use Rattle.hp_store.specs.Store.{Element as ElementOf}
 use Rattle.hp_store.specs.Numbers.{counted, way, element_in}
 use Rattle.hp_store.specs.Grafting.{raised_kind, raised_node}
 use Rattle.hp_store.proofs.Wraps.{counted-way, way-place}
-use Rattle.hp_store.specs.Lists.{blank, node_at, no_element, with_next, with_prev, linked, put_between, with_tag_at}
+use Rattle.hp_store.specs.Lists.{blank, node_at, no_element, node_linked, with_link, with_next, with_prev, linked, put_between, with_tag_at}
 
 abbrev pub joined_node : ℕ → ℕ → Kind → Node
 joined_node prev next kind = record { prev = prev; next = next; kind = kind }
@@ -27,19 +29,16 @@ attributed tag attributes = record { namespace = tag.namespace; name = tag.name;
 pub node-raised : (b : Counts) (ns : List Node) (i : ℕ) → i < length ns → node_at (map (raised_node b) ns) i ≡ raised_node b (node_at ns i)
 node-raised b ns i h = get_or-map (raised_node b) ns i blank blank h
 
-pub next-raised : (b : Counts) (ns : List Node) (i own to : ℕ) → i < length ns → counted b.nodes own ≡ to → map (raised_node b) (with_next ns i own) ≡ with_next (map (raised_node b) ns) i to
-next-raised b ns i own to h is =
-    let n = node_at ns i in
-    map-set (raised_node b) ns i (record n { next = own })
-    ∙ ap (λ t. set (map (raised_node b) ns) i (joined_node (counted b.nodes n.prev) t (raised_kind b n.kind))) is
-    ∙ ap (λ m. set (map (raised_node b) ns) i (joined_node m.prev to m.kind)) (sym (node-raised b ns i h))
+-- numbers rise as well after as before the link
+link-risen : (b : Counts) (side : Side) (n : Node) (own to : ℕ) → counted b.nodes own ≡ to → raised_node b (node_linked side n own) ≡ node_linked side (raised_node b n) to
+link-risen b Next n own to is = ap (λ t. joined_node (counted b.nodes n.prev) t (raised_kind b n.kind)) is
+link-risen b Prev n own to is = ap (λ t. joined_node t (counted b.nodes n.next) (raised_kind b n.kind)) is
 
-pub prev-raised : (b : Counts) (ns : List Node) (i own to : ℕ) → i < length ns → counted b.nodes own ≡ to → map (raised_node b) (with_prev ns i own) ≡ with_prev (map (raised_node b) ns) i to
-prev-raised b ns i own to h is =
-    let n = node_at ns i in
-    map-set (raised_node b) ns i (record n { prev = own })
-    ∙ ap (λ t. set (map (raised_node b) ns) i (joined_node t (counted b.nodes n.next) (raised_kind b n.kind))) is
-    ∙ ap (λ m. set (map (raised_node b) ns) i (joined_node to m.next m.kind)) (sym (node-raised b ns i h))
+pub link-raised : (b : Counts) (side : Side) (ns : List Node) (i own to : ℕ) → i < length ns → counted b.nodes own ≡ to → map (raised_node b) (with_link side ns i own) ≡ with_link side (map (raised_node b) ns) i to
+link-raised b side ns i own to h is =
+    map-set (raised_node b) ns i (node_linked side (node_at ns i) own)
+    ∙ ap (λ n. set (map (raised_node b) ns) i n) (link-risen b side (node_at ns i) own to is)
+    ∙ ap (λ n. set (map (raised_node b) ns) i (node_linked side n to)) (sym (node-raised b ns i h))
 
 pub length-linked : (ns : List Node) (first second : ℕ) → length (linked ns first second) ≡ length ns
 length-linked ns first second =
@@ -48,8 +47,8 @@ length-linked ns first second =
 pub linked-raised : (b : Counts) (ns : List Node) (i j first second : ℕ) → i < length ns → j < length ns → counted b.nodes i ≡ first → counted b.nodes j ≡ second
     → map (raised_node b) (linked ns i j) ≡ with_prev (with_next (map (raised_node b) ns) i second) j first
 linked-raised b ns i j first second hi hj isFirst isSecond =
-    prev-raised b (with_next ns i j) j i first (omega (arith, length-set ns i (record (node_at ns i) { next = j }))) isFirst
-    ∙ ap (λ ms. with_prev ms j first) (next-raised b ns i j second hi isSecond)
+    link-raised b Prev (with_next ns i j) j i first (omega (arith, length-set ns i (record (node_at ns i) { next = j }))) isFirst
+    ∙ ap (λ ms. with_prev ms j first) (link-raised b Next ns i j second hi isSecond)
 
 -- reads and writes behind other nodes
 module _ (front ns : List Node) (start : ℕ) (is : start ≡ length front) where
@@ -63,15 +62,9 @@ module _ (front ns : List Node) (start : ℕ) (is : start ≡ length front) wher
       let same : at - start ≡ i = omega (arith, place) in
       set-append_right front ns start at n (sym is) (omega (arith, place)) ∙ ap (λ j. front ++ set ns j n) same
 
-pub next-behind : (front ns : List Node) (start i at to : ℕ) → start ≡ length front → start + i ≡ at → front ++ with_next ns i to ≡ with_next (front ++ ns) at to
-next-behind front ns start i at to is place =
-    sym (set-behind front ns start is i at (record (node_at ns i) { next = to }) place)
-    ∙ ap (λ n. set (front ++ ns) at (joined_node n.prev to n.kind)) (sym (node-behind front ns start is i at place))
-
-pub prev-behind : (front ns : List Node) (start i at to : ℕ) → start ≡ length front → start + i ≡ at → front ++ with_prev ns i to ≡ with_prev (front ++ ns) at to
-prev-behind front ns start i at to is place =
-    sym (set-behind front ns start is i at (record (node_at ns i) { prev = to }) place)
-    ∙ ap (λ n. set (front ++ ns) at (joined_node to n.next n.kind)) (sym (node-behind front ns start is i at place))
+pub link-behind : (side : Side) (front ns : List Node) (start i at to : ℕ) → start ≡ length front → start + i ≡ at → front ++ with_link side ns i to ≡ with_link side (front ++ ns) at to
+link-behind side front ns start i at to is place =
+    sym (set-behind front ns start is i at (node_linked side (node_at ns i) to) place) ∙ ap (λ n. set (front ++ ns) at (node_linked side n to)) (sym (node-behind front ns start is i at place))
 
 -- nodes of a part are linked, and those of the whole with them
 pub linked-behind : (b : Counts) (front ns : List Node) (i j : ℕ) → b.nodes ≡ length front → i < length ns → j < length ns → b.nodes + length ns < 2 ^ 32
@@ -80,8 +73,8 @@ linked-behind b front ns i j is hi hj fits =
     let first : counted b.nodes i ≡ b.nodes + i = grind arith in
     let second : counted b.nodes j ≡ b.nodes + j = grind arith in
     ap (λ ms. front ++ ms) (linked-raised b ns i j (b.nodes + i) (b.nodes + j) hi hj first second)
-    ∙ prev-behind front (with_next (map (raised_node b) ns) i (b.nodes + j)) b.nodes j (b.nodes + j) (b.nodes + i) is refl
-    ∙ ap (λ ms. with_prev ms (b.nodes + j) (b.nodes + i)) (next-behind front (map (raised_node b) ns) b.nodes i (b.nodes + i) (b.nodes + j) is refl)
+    ∙ link-behind Prev front (with_next (map (raised_node b) ns) i (b.nodes + j)) b.nodes j (b.nodes + j) (b.nodes + i) is refl
+    ∙ ap (λ ms. with_prev ms (b.nodes + j) (b.nodes + i)) (link-behind Next front (map (raised_node b) ns) b.nodes i (b.nodes + i) (b.nodes + j) is refl)
 
 pub put-behind : (b : Counts) (front ns : List Node) (at node : ℕ) → b.nodes ≡ length front → at < length ns → node < length ns → (node_at ns at).prev < length ns → b.nodes + length ns < 2 ^ 32
     → front ++ map (raised_node b) (put_between ns at node) ≡ put_between (front ++ map (raised_node b) ns) (b.nodes + at) (b.nodes + node)
@@ -106,22 +99,17 @@ tag-written nodes es i e tag t h held is =
     ∙ ap (λ s. set (map (element_in nodes) es) i (tagged s (counted nodes e.node))) is
     ∙ ap (λ x. set (map (element_in nodes) es) i (tagged t x.node)) (sym (element-raised nodes es i e h held))
 
--- a node of a part is changed, and that of the whole with it
-module _ (b : Counts) (ns : List Node) (at to place : ℕ) (n : Node) (fits : b.nodes + length ns < 2 ^ 32) (at_fits : at < 2 ^ 32) (to_fits : to < 2 ^ 32) (found : place ≡ way b.nodes at) (h : place < length ns) (held : n ≡ get_or ns place n) where
+-- a node of a part is linked, and that of the whole with it
+module _ (b : Counts) (side : Side) (ns : List Node) (at to place : ℕ) (n : Node) (fits : b.nodes + length ns < 2 ^ 32) (at_fits : at < 2 ^ 32) (to_fits : to < 2 ^ 32) (found : place ≡ way b.nodes at) (h : place < length ns) (held : n ≡ get_or ns place n) where
   at_place : place ≡ at - b.nodes
   at_place = omega (arith, way-place b.nodes at (length ns) fits at_fits (subst (λ k. k < length ns) found h), found)
 
   read : n ≡ node_at ns place
   read = held ∙ get_or_default ns place n blank h
 
-  pub next-written : map (raised_node b) (set ns place (record { prev = n.prev; next = way b.nodes to; kind = n.kind })) ≡ with_next (map (raised_node b) ns) (at - b.nodes) to
-  next-written =
-      ap (λ (m : Node). map (raised_node b) (set ns place (record m { next = way b.nodes to }))) read
-      ∙ next-raised b ns place (way b.nodes to) to h (counted-way b.nodes to (omega (arith, fits)) to_fits)
-      ∙ ap (λ i. with_next (map (raised_node b) ns) i to) at_place
-
-  pub prev-written : map (raised_node b) (set ns place (record { prev = way b.nodes to; next = n.next; kind = n.kind })) ≡ with_prev (map (raised_node b) ns) (at - b.nodes) to
-  prev-written =
-      ap (λ (m : Node). map (raised_node b) (set ns place (record m { prev = way b.nodes to }))) read
-      ∙ prev-raised b ns place (way b.nodes to) to h (counted-way b.nodes to (omega (arith, fits)) to_fits)
-      ∙ ap (λ i. with_prev (map (raised_node b) ns) i to) at_place
+  pub link-written : (m : Node) → m ≡ node_linked side n (way b.nodes to) → map (raised_node b) (set ns place m) ≡ with_link side (map (raised_node b) ns) (at - b.nodes) to
+  link-written m is =
+      ap (λ k. map (raised_node b) (set ns place k)) is
+      ∙ ap (λ k. map (raised_node b) (set ns place (node_linked side k (way b.nodes to)))) read
+      ∙ link-raised b side ns place (way b.nodes to) to h (counted-way b.nodes to (omega (arith, fits)) to_fits)
+      ∙ ap (λ i. with_link side (map (raised_node b) ns) i to) at_place

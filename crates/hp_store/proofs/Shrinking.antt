@@ -1,8 +1,8 @@
 -- Parts whose items stay.
-use Rattle.std.proofs.Common.{◌≡◌, ℕ, refl, List, [], ◌∷◌, ◌++◌, length, map, flat_map, arith, ap, ◌∙◌}
+use Rattle.std.proofs.Common.{◌≡◌, refl, List, [], ◌∷◌, ◌++◌, length, map, flat_map, arith, ap, ◌∙◌}
 use Rattle.hp_store.specs.declared.node.Counts.{Counts}
 use Rattle.hp_store.specs.declared.part.Part.{Part}
-use Rattle.hp_store.specs.Numbers.{no_counts, element_in, sum_of}
+use Rattle.hp_store.specs.Numbers.{element_in, sum_of}
 use Rattle.hp_store.specs.Grafting.{raised_node}
 use Rattle.hp_store.specs.Parts.{part_nodes, part_elements, part_leaves, end_of, free_of, size_of, AreLaid, SameItems}
 use Rattle.hp_store.specs.declared.store.Store.TheInside.{Inside}

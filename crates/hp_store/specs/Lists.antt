@@ -4,6 +4,8 @@ use Rattle.hp_elements.specs.declared.tag.Tag.{Tag}
 use Rattle.hp_store.specs.declared.node.Kind.{Kind}
 use Rattle.hp_store.specs.declared.node.Kind.TheVariants.{End, Element, Leaf}
 use Rattle.hp_store.specs.declared.node.Node.{Node}
+use Rattle.hp_store.specs.declared.node.Side.{Side}
+use Rattle.hp_store.specs.declared.node.Side.TheVariants.{Next, Prev}
 use Rattle.hp_store.specs.declared.part.Leaf.{Leaf as LeafOf}
 use Rattle.hp_store.specs.declared.part.Leaf.TheVariants.{Text}
 use Rattle.hp_store.specs.Store.{Element as ElementOf}
@@ -16,13 +18,22 @@ blank = record { prev = 0; next = 0; kind = End 0 }
 abbrev pub node_at : List Node → ℕ → Node
 node_at nodes at = slice_index_or nodes at blank
 
+-- a node with another on this side
+abbrev pub node_linked : Side → Node → ℕ → Node
+node_linked Next n to = record n { next = to }
+node_linked Prev n to = record n { prev = to }
+
+-- the nodes with another on this side of the one at this place
+abbrev pub with_link : Side → List Node → ℕ → ℕ → List Node
+with_link side nodes at to = slice_set nodes at (node_linked side (node_at nodes at) to)
+
 -- the nodes with another after the one at this place
 abbrev pub with_next : List Node → ℕ → ℕ → List Node
-with_next nodes at to = slice_set nodes at (record (node_at nodes at) { next = to })
+with_next nodes at to = with_link Next nodes at to
 
 -- the nodes with another before the one at this place
 abbrev pub with_prev : List Node → ℕ → ℕ → List Node
-with_prev nodes at to = slice_set nodes at (record (node_at nodes at) { prev = to })
+with_prev nodes at to = with_link Prev nodes at to
 
 -- the nodes with the second put after the first
 abbrev pub linked : List Node → ℕ → ℕ → List Node

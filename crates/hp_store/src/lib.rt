@@ -3,6 +3,7 @@
 
 mod appending;
 mod attributes;
+mod depth;
 mod finding;
 mod linking;
 mod node;

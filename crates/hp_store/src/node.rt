@@ -2,7 +2,7 @@
 
 ghost use Rattle.std.specs.Prelude.{◌≡◌};
 ghost use Rattle.hp_store.specs.Numbers.{counted, no_counts, sum_of, Fits};
-ghost use Rattle.hp_store.specs.Lists.{alone};
+ghost use Rattle.hp_store.specs.Lists.{alone, node_linked};
 ghost use Rattle.hp_store.specs.Grafting.{raised_kind, raised_node};
 
 /// How many nodes, elements and leaves there are, or come before something. The document is no element here.
@@ -33,6 +33,15 @@ pub struct Node {
 }
 
 const _: () = prove!(size_of::<Node>() == 16);
+
+/// A side of a node.
+#[derive(Clone, Copy)]
+pub(crate) enum Side {
+    /// Where the node after it is.
+    Next,
+    /// Where the node before it is.
+    Prev,
+}
 
 impl Counts {
     /// Nothing.
@@ -118,6 +127,17 @@ impl Node {
             prev: before.nodes.wrapping_add(self.prev),
             next: before.nodes.wrapping_add(self.next),
             kind: self.kind.counted(before),
+        }
+    }
+
+    /// Makes another node the one on this side.
+    #[inline(always)]
+    pub(crate) fn link(&mut self, side: Side, to: u32)
+        ensures { self.new ≡ node_linked side self.old to }
+    {
+        match side {
+            Side::Next => self.next = to,
+            Side::Prev => self.prev = to,
         }
     }
 }

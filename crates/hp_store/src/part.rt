@@ -4,13 +4,13 @@ ghost use Rattle.std.specs.Prelude.{◌≡◌, ◌+◌, ◌-◌, ◌<◌, ◌≤
 ghost use Rattle.hp_control.specs.Tree.{with_attributes};
 ghost use Rattle.hp_store.specs.Numbers.{counted, no_counts, sum_of, way, Fits};
 ghost use Rattle.hp_store.specs.Store.{HasFree};
-ghost use Rattle.hp_store.specs.Lists.{node_at, with_next, with_prev, node_of, tag_at, with_tag_at, attribute_count, leaf_at, element_nodes, leaf_nodes};
+ghost use Rattle.hp_store.specs.Lists.{node_at, with_link, node_of, tag_at, with_tag_at, attribute_count, leaf_at, element_nodes, leaf_nodes};
 ghost use Rattle.hp_store.specs.Leaves.{run_count, is_text_of, IsCell, IsTextLonger};
 ghost use Rattle.hp_store.specs.Parts.{part_nodes, part_elements, part_leaves, end_of, moved_part, free_of, HasNode, HasElement, HasLeaf, LacksNode, LacksElement, LacksLeaf, IsFresh, IsEmptied, IsWider, KeepsNodesAside, KeepsElementsAside, KeepsLeavesAside, IsPutBetween, SameItems};
 
 use crate::attributes::add_attributes;
 use crate::linking::put_between;
-use crate::node::{Counts, Kind, Node, alone, own_number};
+use crate::node::{Counts, Kind, Node, Side, alone, own_number};
 use crate::runs::append_text;
 use hp_elements::{Attribute, Chain, Doctype, Tag, Text};
 use std::alloc::{AllocError, Global};
@@ -233,37 +233,19 @@ impl<'p> Part<'p> {
         self.leaves.get(self.place_of_leaf(number))
     }
 
-    /// Makes another node the one after this one, if this one stands here. Whether it does.
+    /// Makes another node the one on this side of this one, if this one stands here. Whether it does.
     #[inline(always)]
-    pub fn set_next(&mut self, at: u32, to: u32) -> bool
+    pub fn link(&mut self, side: Side, at: u32, to: u32) -> bool
         requires { (end_of self.old).nodes < 2 ^ 32 }
         ensures here { result ≡ true → HasNode self.old at }
-        ensures nodes { result ≡ true → part_nodes self.new ≡ with_next (part_nodes self.old) (at - self.old.before.nodes) to }
+        ensures nodes { result ≡ true → part_nodes self.new ≡ with_link side (part_nodes self.old) (at - self.old.before.nodes) to }
         ensures absent { result ≡ false → LacksNode self.old at }
         ensures unchanged { result ≡ false → self.new ≡ self.old }
         ensures kept { KeepsNodesAside self.old self.new }
     {
         let place = self.place_of(at);
         if place < self.nodes.len() {
-            self.nodes[place].next = to.wrapping_sub(self.before.nodes);
-            return true;
-        }
-        false
-    }
-
-    /// Makes another node the one before this one, if this one stands here. Whether it does.
-    #[inline(always)]
-    pub fn set_prev(&mut self, at: u32, to: u32) -> bool
-        requires { (end_of self.old).nodes < 2 ^ 32 }
-        ensures here { result ≡ true → HasNode self.old at }
-        ensures nodes { result ≡ true → part_nodes self.new ≡ with_prev (part_nodes self.old) (at - self.old.before.nodes) to }
-        ensures absent { result ≡ false → LacksNode self.old at }
-        ensures unchanged { result ≡ false → self.new ≡ self.old }
-        ensures kept { KeepsNodesAside self.old self.new }
-    {
-        let place = self.place_of(at);
-        if place < self.nodes.len() {
-            self.nodes[place].prev = to.wrapping_sub(self.before.nodes);
+            self.nodes[place].link(side, to.wrapping_sub(self.before.nodes));
             return true;
         }
         false

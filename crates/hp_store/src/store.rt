@@ -1,15 +1,16 @@
 //! The lists of a tree.
 
-ghost use Rattle.std.specs.Prelude.{◌≡◌, ◌≢◌, ◌+◌, ◌*◌, ◌<◌, ◌≤◌, ◌^◌, ◌++◌, [], ◌∷◌, ℕ, true, false, length, All, OnOk, OnErr, IfOk, IfErr, Some, vec_len};
+ghost use Rattle.std.specs.Prelude.{◌≡◌, ◌≢◌, ◌+◌, ◌<◌, ◌≤◌, ◌^◌, ◌++◌, [], ◌∷◌, true, false, length, All, OnOk, OnErr, IfOk, IfErr, Some, vec_len};
 ghost use Rattle.hp_control.specs.Tree.{with_attributes};
 ghost use Rattle.hp_store.specs.Store.{HasFree, KeepsFree};
-ghost use Rattle.hp_store.specs.Lists.{node_at, alone, element_nodes, leaf_nodes, with_next, with_prev, linked, put_between, document, node_of, tag_at, with_tag_at, attribute_count, leaf_at};
+ghost use Rattle.hp_store.specs.Lists.{node_at, alone, element_nodes, leaf_nodes, with_link, linked, put_between, document, node_of, tag_at, with_tag_at, attribute_count, leaf_at};
 ghost use Rattle.hp_store.specs.Leaves.{run_count, is_text_of, IsCell, IsTextAdded};
 ghost use Rattle.hp_store.specs.Grafting.{IsAppended};
 
 use crate::appending::{finish, hang, move_all, retire};
+use crate::depth::deepest_from;
 use crate::finding::{element_part, leaf_part, node_part, part_at};
-use crate::node::{Counts, Kind, Node, alone};
+use crate::node::{Counts, Kind, Node, Side, alone};
 use crate::part::{Leaf, Part};
 use hp_elements::{Attribute, Chain, Tag, Text};
 use std::alloc::{AllocError, Global};
@@ -147,6 +148,14 @@ impl<'p> Store<'p> {
         }
     }
 
+    /// How many levels stand above the deepest item of a tree's text. Nothing is promised of it.
+    pub fn deepest(&self) -> u64 {
+        if self.counts().nodes < 2 {
+            return 0;
+        }
+        deepest_from(&self.parts, &self.last, self.node(1).next)
+    }
+
     /// The node of the element of this id.
     #[inline(always)]
     pub fn node_of(&self, id: u32) -> u32
@@ -282,32 +291,21 @@ impl<'p> Store<'p> {
         ensures { self.new ≡ record self.old { nodes = linked self.old.nodes first second } }
     {
         let near = self.recent;
-        self.set_next(first, second, near);
-        let _ = self.set_prev(second, first, near);
+        let _ = self.link(Side::Next, first, second, near);
+        let _ = self.link(Side::Prev, second, first, near);
     }
 
-    /// Makes another node the one after this one, which is looked for in the part that grows first, then in the one of the given number.
+    /// Makes another node the one on this side of this one, which is looked for in the part that grows first, then in the one of the given
+    /// number. The number of the finished part in which it stands comes back, or else the given one.
     #[inline(always)]
-    fn set_next(&mut self, at: u32, to: u32, near: u32)
+    fn link(&mut self, side: Side, at: u32, to: u32, near: u32) -> u32
         requires { at < length self.old.nodes }
-        ensures { self.new ≡ record self.old { nodes = with_next self.old.nodes at to } }
+        ensures { self.new ≡ record self.old { nodes = with_link side self.old.nodes at to } }
     {
-        if !self.last.set_next(at, to) {
-            set_finished_next(&mut self.parts, &self.last, at, to, near);
-        }
-    }
-
-    /// Makes another node the one before this one, which is looked for in the part that grows first, then in the one of the given number.
-    /// The number of the finished part in which it stands comes back, or else the given one.
-    #[inline(always)]
-    fn set_prev(&mut self, at: u32, to: u32, near: u32) -> u32
-        requires { at < length self.old.nodes }
-        ensures { self.new ≡ record self.old { nodes = with_prev self.old.nodes at to } }
-    {
-        if self.last.set_prev(at, to) {
+        if self.last.link(side, at, to) {
             return near;
         }
-        set_finished_prev(&mut self.parts, &self.last, at, to, near)
+        link_finished(&mut self.parts, &self.last, side, at, to, near)
     }
 
     /// Puts a node that is alone before another, where the caller knows which node is before that.
@@ -335,10 +333,10 @@ impl<'p> Store<'p> {
         ensures { self.new ≡ record self.old { nodes = linked (linked self.old.nodes before node) node at } }
     {
         let newest = self.newest();
-        self.set_next(before, node, newest);
-        let _ = self.set_prev(node, before, newest);
-        self.set_next(node, at, newest);
-        self.recent = self.set_prev(at, node, self.recent);
+        let _ = self.link(Side::Next, before, node, newest);
+        let _ = self.link(Side::Prev, node, before, newest);
+        let _ = self.link(Side::Next, node, at, newest);
+        self.recent = self.link(Side::Prev, at, node, self.recent);
     }
 
     /// Appends a text to the leaf of this number, which is a text.
@@ -454,12 +452,19 @@ ghost use Rattle.hp_store.specs.Numbers.{no_counts, Fits};
 ghost use Rattle.hp_store.specs.Parts.{end_of, AreLaid};
 ghost use Rattle.hp_store.specs.Whole.{all_nodes, KeepsPartsAside};
 
-/// Makes another node the one after this one, if this one stands in the finished part of this number. Whether it does.
+/// Makes another node the one on this side of this one, if this one stands in the finished part of this number. Whether it does.
 #[inline(always)]
-fn set_next_in(parts: &mut [Part<'_>], last: &Part<'_>, at: u32, to: u32, number: u32) -> bool
+fn link_in(
+    parts: &mut [Part<'_>],
+    last: &Part<'_>,
+    side: Side,
+    at: u32,
+    to: u32,
+    number: u32,
+) -> bool
     requires laid { AreLaid no_counts (parts.old ++ last.now ∷ []) }
     requires fits { Fits (end_of last.now) }
-    ensures nodes { result ≡ true → all_nodes parts.new last.now ≡ with_next (all_nodes parts.old last.now) at to }
+    ensures nodes { result ≡ true → all_nodes parts.new last.now ≡ with_link side (all_nodes parts.old last.now) at to }
     ensures kept { result ≡ true → KeepsPartsAside last.now parts.old parts.new }
     ensures unchanged { result ≡ false → parts.new ≡ parts.old }
 {
@@ -468,83 +473,44 @@ fn set_next_in(parts: &mut [Part<'_>], last: &Part<'_>, at: u32, to: u32, number
     if place >= parts.len() {
         return false;
     }
-    parts[place].set_next(at, to)
+    parts[place].link(side, at, to)
 }
 
-/// Makes another node the one after this one, which stands in a finished part. It is looked for in the part of the given number first.
+/// Makes another node the one on this side of this one, which stands in a finished part. It is looked for in the part of the given number
+/// first. The number of its part comes back.
 #[inline(always)]
-fn set_finished_next(parts: &mut [Part<'_>], last: &Part<'_>, at: u32, to: u32, near: u32)
+fn link_finished(
+    parts: &mut [Part<'_>],
+    last: &Part<'_>,
+    side: Side,
+    at: u32,
+    to: u32,
+    near: u32,
+) -> u32
     requires laid { AreLaid no_counts (parts.old ++ last.now ∷ []) }
     requires few { length parts.old < 2 ^ 32 }
     requires fits { Fits (end_of last.now) }
     requires at_in { at < last.now.before.nodes }
-    ensures nodes { all_nodes parts.new last.now ≡ with_next (all_nodes parts.old last.now) at to }
+    ensures nodes { all_nodes parts.new last.now ≡ with_link side (all_nodes parts.old last.now) at to }
     ensures kept { KeepsPartsAside last.now parts.old parts.new }
 {
-    if !set_next_in(parts, last, at, to, near) {
-        set_far_next(parts, last, at, to, near);
-    }
-}
-
-/// Makes another node the one after this one, which stands in a finished part.
-#[inline(never)]
-fn set_far_next(parts: &mut [Part<'_>], last: &Part<'_>, at: u32, to: u32, near: u32)
-    requires laid { AreLaid no_counts (parts.old ++ last.now ∷ []) }
-    requires few { length parts.old < 2 ^ 32 }
-    requires fits { Fits (end_of last.now) }
-    requires at_in { at < last.now.before.nodes }
-    ensures nodes { all_nodes parts.new last.now ≡ with_next (all_nodes parts.old last.now) at to }
-    ensures kept { KeepsPartsAside last.now parts.old parts.new }
-{
-    let number = node_part(parts, last, at, near);
-    let _ = parts[number as usize].set_next(at, to);
-}
-
-/// Makes another node the one before this one, if this one stands in the finished part of this number. Whether it does.
-#[inline(always)]
-fn set_prev_in(parts: &mut [Part<'_>], last: &Part<'_>, at: u32, to: u32, number: u32) -> bool
-    requires laid { AreLaid no_counts (parts.old ++ last.now ∷ []) }
-    requires fits { Fits (end_of last.now) }
-    ensures nodes { result ≡ true → all_nodes parts.new last.now ≡ with_prev (all_nodes parts.old last.now) at to }
-    ensures kept { result ≡ true → KeepsPartsAside last.now parts.old parts.new }
-    ensures unchanged { result ≡ false → parts.new ≡ parts.old }
-{
-    let _ = last;
-    let place = number as usize;
-    if place >= parts.len() {
-        return false;
-    }
-    parts[place].set_prev(at, to)
-}
-
-/// Makes another node the one before this one, which stands in a finished part. It is looked for in the part of the given number first.
-/// The number of its part comes back.
-#[inline(always)]
-fn set_finished_prev(parts: &mut [Part<'_>], last: &Part<'_>, at: u32, to: u32, near: u32) -> u32
-    requires laid { AreLaid no_counts (parts.old ++ last.now ∷ []) }
-    requires few { length parts.old < 2 ^ 32 }
-    requires fits { Fits (end_of last.now) }
-    requires at_in { at < last.now.before.nodes }
-    ensures nodes { all_nodes parts.new last.now ≡ with_prev (all_nodes parts.old last.now) at to }
-    ensures kept { KeepsPartsAside last.now parts.old parts.new }
-{
-    if set_prev_in(parts, last, at, to, near) {
+    if link_in(parts, last, side, at, to, near) {
         return near;
     }
-    set_far_prev(parts, last, at, to, near)
+    link_far(parts, last, side, at, to, near)
 }
 
-/// Makes another node the one before this one, which stands in a finished part, whose number comes back.
+/// Makes another node the one on this side of this one, which stands in a finished part, whose number comes back.
 #[inline(never)]
-fn set_far_prev(parts: &mut [Part<'_>], last: &Part<'_>, at: u32, to: u32, near: u32) -> u32
+fn link_far(parts: &mut [Part<'_>], last: &Part<'_>, side: Side, at: u32, to: u32, near: u32) -> u32
     requires laid { AreLaid no_counts (parts.old ++ last.now ∷ []) }
     requires few { length parts.old < 2 ^ 32 }
     requires fits { Fits (end_of last.now) }
     requires at_in { at < last.now.before.nodes }
-    ensures nodes { all_nodes parts.new last.now ≡ with_prev (all_nodes parts.old last.now) at to }
+    ensures nodes { all_nodes parts.new last.now ≡ with_link side (all_nodes parts.old last.now) at to }
     ensures kept { KeepsPartsAside last.now parts.old parts.new }
 {
     let number = node_part(parts, last, at, near);
-    let _ = parts[number as usize].set_prev(at, to);
+    let _ = parts[number as usize].link(side, at, to);
     number
 }

@@ -2,12 +2,13 @@ use Rattle.std.proofs.Common.{◌<◌, length, get_or, arith}
 use Rattle.std.proofs.lemmas.List.{get_or_default}
 use Rattle.hp_store.specs.declared.node.Node.{Node}
 use Rattle.hp_store.specs.declared.part.Part.{Part}
+use Rattle.hp_store.specs.Lists.{node_linked}
 use Rattle.hp_store.proofs.Standing.{fits-here, part-held}
 use Rattle.hp_store.proofs.Whole.{nodes-part, KeepsPartsAside-set}
-use Rattle.hp_store.proofs.store.set_prev_in.Goals as goal
+use Rattle.hp_store.proofs.store.link_in.Goals as goal
 
-pub set_prev-requires : goal.set_prev-requires
-set_prev-requires c =
+pub link-requires : goal.link-requires
+link-requires c =
     let ps = c.args.parts.now in
     let k = c.args.number in
     let e = c.index-parts-place.result in
@@ -23,7 +24,7 @@ returns-clause-nodes c = λ done.
     let e = c.index-parts-place.result in
     let p : Part = get_or ps k e in
     let h : k < length ps = omega arith in
-    nodes-part ps c.args.last.now k c.args.at p c.set_prev.new.self (λ (n : Node). record n { prev = c.args.to }) c.requires.laid h (get_or_default ps k e p h) (c.set_prev.ensures.here done) (c.set_prev.ensures.nodes done)
+    nodes-part ps c.args.last.now k c.args.at p c.link.new.self (λ (n : Node). node_linked c.args.side n c.args.to) c.requires.laid h (get_or_default ps k e p h) (c.link.ensures.here done) (c.link.ensures.nodes done)
 
 pub returns-clause-kept : goal.returns-clause-kept
 returns-clause-kept c = λ done.
@@ -32,4 +33,4 @@ returns-clause-kept c = λ done.
     let e = c.index-parts-place.result in
     let p : Part = get_or ps k e in
     let h : k < length ps = omega arith in
-    KeepsPartsAside-set ps c.args.last.now k p c.set_prev.new.self c.requires.laid h (get_or_default ps k e p h) c.set_prev.ensures.kept
+    KeepsPartsAside-set ps c.args.last.now k p c.link.new.self c.requires.laid h (get_or_default ps k e p h) c.link.ensures.kept
