@@ -2,7 +2,7 @@
 """Prints the tables of a rules crate from its rows in specs/.
 
     tools/row_tables.py crates/hp_rules_page numbers > crates/hp_rules_page/src/numbers.rt
-    tools/row_tables.py crates/hp_rules_page acts > crates/hp_rules_page/src/acts.rt
+    tools/row_tables.py crates/hp_rules_page acts       the two tables of src/acts.rt, without what stands before and behind them
 
 A row's number is its place in `all_rows` of specs/Table.antt. `numbers` writes for each list of rows that
 specs/Table.antt names the number of each kind of token (the order is that of `every_kind` in
