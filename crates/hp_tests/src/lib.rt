@@ -30,6 +30,8 @@ mod parts;
 #[cfg(test)]
 mod raw;
 #[cfg(test)]
+mod selecting;
+#[cfg(test)]
 mod tags;
 #[cfg(test)]
 mod teller;

@@ -1,0 +1,9 @@
+pub mod Depths
+pub mod Steps
+pub mod Views
+pub mod Walking
+pub mod Paths
+pub mod Lengths
+pub mod Compounds
+pub mod Texts
+pub mod Words
