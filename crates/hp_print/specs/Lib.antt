@@ -1,3 +1,4 @@
+pub mod Elements
 pub mod Faults
 pub mod Order
 pub mod Out

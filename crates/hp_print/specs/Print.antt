@@ -36,10 +36,13 @@ attribute_lines depth attributes = flat_map (attribute_line depth) attributes
 abbrev pub contents_line : ℕ → List ℕ
 contents_line depth = indentation depth ++ codes "content\n"
 
+-- an element with its attributes
+abbrev pub tag_lines : ℕ → Tag → List ℕ
+tag_lines depth tag = opening depth tag ++ attribute_lines (depth + 1) (in_order tag.attributes)
+
 -- the lines of an element: it, its attributes, and the line above its contents
 abbrev pub element_lines : ℕ → Tag → List ℕ
-element_lines depth tag =
-    opening depth tag ++ attribute_lines (depth + 1) (in_order tag.attributes) ++ (if is_template tag then contents_line (depth + 1) else [])
+element_lines depth tag = tag_lines depth tag ++ (if is_template tag then contents_line (depth + 1) else [])
 
 -- a text in quotation marks
 abbrev pub text_line : ℕ → List ℕ → List ℕ

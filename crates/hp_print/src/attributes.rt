@@ -180,6 +180,7 @@ fn is_in_order(attributes: &Chain<Attribute>) -> bool
 }
 
 /// Prints the attributes of an element as they stand.
+#[inline(always)]
 fn print_unsorted<K: Sink>(out: &mut Out, sink: &mut K, attributes: &Chain<Attribute>, depth: u64)
     requires { depth < 2 ^ 63 }
     ensures { Prints out.old out.new (K.taken sink.old, K.faults sink.old) (K.taken sink.new, K.faults sink.new) (attribute_lines depth attributes.now) }
@@ -278,6 +279,7 @@ const FEW: usize = 20;
 
 /// Prints the attributes of an element in their order. Where they stand in order already, nothing is sorted. The list has
 /// room for them.
+#[inline(always)]
 pub fn print_attributes<'t, K: Sink>(
     alloc: Global,
     out: &mut Out,

@@ -7,7 +7,7 @@ ghost use Rattle.hp_control.specs.Tree.{Tree};
 ghost use Rattle.hp_arena.specs.Readers.{shown, text_of, HasTag};
 ghost use Rattle.hp_print.specs.Out.{Prints};
 ghost use Rattle.hp_print.specs.Stack.{attributes_in};
-ghost use Rattle.hp_print.specs.Print.{opening, indentation, namespace_word, contents_line, element_lines, text_line, comment_line, identifiers, doctype_line, lines_of, tag_extra};
+ghost use Rattle.hp_print.specs.Print.{opening, indentation, namespace_word, contents_line, element_lines, text_line, comment_line, identifiers, doctype_line, lines_of, tag_extra, tag_lines};
 
 use crate::attributes::{Shown, print_attributes};
 use crate::output::Out;
@@ -28,6 +28,7 @@ fn open_text(namespace: Namespace) -> &'static [u8]
 }
 
 /// Prints an element without its attributes.
+#[inline(always)]
 fn print_opening<K: Sink>(out: &mut Out, sink: &mut K, tag: &Tag, depth: u64)
     requires { depth < 2 ^ 63 }
     ensures { Prints out.old out.new (K.taken sink.old, K.faults sink.old) (K.taken sink.new, K.faults sink.new) (opening depth tag.now) }
@@ -154,6 +155,26 @@ fn print_identifier<K: Sink>(out: &mut Out, sink: &mut K, identifier: Option<&Te
     }
 }
 
+/// Prints an element with its attributes. The list for these has room for them.
+#[tactic(auto, using(crate::proofs::Pieces::prints_then))]
+#[inline(always)]
+pub fn print_tag<'t, K: Sink>(
+    alloc: Global,
+    out: &mut Out,
+    sink: &mut K,
+    list: &mut Vec<Shown<'t>>,
+    tag: &'t Tag,
+    depth: u64,
+)
+    requires room { length tag.now.attributes ≤ vec_capacity list.old }
+    requires depth { depth < 2 ^ 62 }
+    ensures printed { Prints out.old out.new (K.taken sink.old, K.faults sink.old) (K.taken sink.new, K.faults sink.new) (tag_lines depth tag.now) }
+    ensures room { vec_capacity list.old ≤ vec_capacity list.new }
+{
+    print_opening(out, sink, tag, depth);
+    print_attributes(alloc, out, sink, list, &tag.attributes, depth + 1);
+}
+
 /// Prints the lines of an element, before those of what stands inside it. The list for its attributes has room for them.
 #[tactic(auto, using(crate::proofs::Pieces::prints_then))]
 fn print_element<'t, K: Sink>(
@@ -169,11 +190,9 @@ fn print_element<'t, K: Sink>(
     ensures printed { Prints out.old out.new (K.taken sink.old, K.faults sink.old) (K.taken sink.new, K.faults sink.new) (element_lines depth tag.now) }
     ensures room { vec_capacity list.old ≤ vec_capacity list.new }
 {
-    let inner = depth + 1;
-    print_opening(out, sink, tag, depth);
-    print_attributes(alloc, out, sink, list, &tag.attributes, inner);
+    print_tag(alloc, out, sink, list, tag, depth);
     if is_template(tag) {
-        out.indent(sink, inner);
+        out.indent(sink, depth + 1);
         out.put(sink, b"content\n");
     }
 }

@@ -162,7 +162,7 @@ fn first_marks(alloc: Global, tree: &Tree<'_>) -> Result<Vec<Mark>, NoMemory>
 }
 
 /// Memory for the attributes of any element of the tree.
-fn attribute_list<'t>(alloc: Global, tree: &'t Tree<'_>) -> Result<Vec<Shown<'t>>, NoMemory>
+pub fn attribute_list<'t>(alloc: Global, tree: &'t Tree<'_>) -> Result<Vec<Shown<'t>>, NoMemory>
     ensures { IfOk result (λ list. HasRoom tree.now.branches (vec_capacity list)) }
 {
     let list = Vec::with_capacity(alloc, tree.most_attributes())?;
