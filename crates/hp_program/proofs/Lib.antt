@@ -1,3 +1,4 @@
 pub mod Answered
 pub mod Noted
+pub mod Selecting
 pub mod Drilled

@@ -6,7 +6,7 @@ use Rattle.hp_cut.specs.declared.listed.CutRefusal.TheVariants as cut
 
 -- the words that the program takes to parse a page
 abbrev pub usage_line : List ℕ
-usage_line = codes "usage: hpar [--workers N] [--chunk N] [--cuts A,B,C] [--guess quiet|prescan|contrary] [--report]\n"
+usage_line = codes "usage: hpar [--workers N] [--chunk N] [--cuts A,B,C] [--guess quiet|prescan|contrary] [--report] [--html] [--select TEXT]\n"
 
 -- the place of the first byte that isn't UTF-8, counted in the bytes as they were read
 abbrev pub not_utf8_line : ℕ → List ℕ
@@ -21,6 +21,9 @@ read_fault_line = codes "the page could not be read\n"
 -- how many bytes the output took
 abbrev pub write_fault_line : ℕ → List ℕ
 write_fault_line taken = codes "the tree could not be written after " ++ decimal taken ++ codes " bytes\n"
+
+abbrev pub bad_selector_line : List ℕ
+bad_selector_line = codes "selector is malformed\n"
 
 abbrev pub no_memory_line : List ℕ
 no_memory_line = codes "out of memory\n"

@@ -2,6 +2,7 @@
 #![tactic(auto)]
 
 mod answering;
+mod form;
 mod modes;
 mod notes;
 mod outcome;

@@ -11,7 +11,7 @@ use itoa::Buffer;
 
 /// The words that the program takes to parse a page.
 const USAGE: &[u8] =
-    b"usage: hpar [--workers N] [--chunk N] [--cuts A,B,C] [--guess quiet|prescan|contrary] [--report]\n";
+    b"usage: hpar [--workers N] [--chunk N] [--cuts A,B,C] [--guess quiet|prescan|contrary] [--report] [--html] [--select TEXT]\n";
 
 /// Writes a run's report, or the line of its refusal. Takes no memory. Where the notes fail they took a prefix of it.
 pub(crate) fn write_note<N: Sink>(notes: &mut N, outcome: &Outcome)
@@ -31,6 +31,7 @@ pub(crate) fn write_note<N: Sink>(notes: &mut N, outcome: &Outcome)
         ),
         Outcome::NoMemory => write_text(notes, b"out of memory\n"),
         Outcome::BadCuts { refusal } => write_bad_cuts(notes, *refusal),
+        Outcome::BadSelector => write_text(notes, b"selector is malformed\n"),
     }
 }
 

@@ -24,6 +24,8 @@ pub(crate) enum Outcome {
     NoMemory,
     /// The page can't be cut at the places that the words list.
     BadCuts { refusal: CutRefusal },
+    /// The text of the selector is none.
+    BadSelector,
 }
 
 impl Outcome {
@@ -40,6 +42,7 @@ impl Outcome {
             Outcome::WriteFault { .. } => Status::WriteFault,
             Outcome::NoMemory => Status::NoMemory,
             Outcome::BadCuts { .. } => Status::BadCuts,
+            Outcome::BadSelector => Status::BadSelector,
         }
     }
 }

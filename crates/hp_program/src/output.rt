@@ -1,34 +1,41 @@
 //! Writing the tree of a page.
-ghost use Rattle.std.specs.Prelude.{◌≡◌, ◌≢◌};
+ghost use Rattle.std.specs.Prelude.{◌≡◌, ◌≢◌, Err, OnOk};
+ghost use Rattle.std.specs.Io.KnownBytes.{append_known};
+ghost use Rattle.hp_text.specs.Device.{Rose};
+ghost use Rattle.hp_print.specs.Faults.{OnFault};
+ghost use Rattle.hp_print.specs.Out.{TakesFirst};
 ghost use Rattle.hp_program.specs.Forms.{tree_text};
-ghost use Rattle.hp_program.specs.Outcomes.{IsTextOutcome, status_of};
+ghost use Rattle.hp_program.specs.Outcomes.{IsTextOutcome, ended_as, status_of};
 
+use crate::form::Form;
 use crate::outcome::Outcome;
 use crate::status::Status;
 use hp_arena::Tree;
-use hp_print::{Refusal, write_tree_by};
+use hp_print::{Refusal, write_elements, write_tree_by};
+use hp_select::{Selector, select};
 use hp_serial::html_text;
 use hp_text::{Sink, write_whole};
-use hp_words::{OutputForm, PageSetting};
 use std::alloc::Global;
 use std::mem;
 use std::thread::Threads;
 
-/// Writes a tree to `out` in the form that is asked for. The report is for the notes.
+/// Writes a tree to `out` in this form, printed by as many threads as there are workers. The report is for the notes.
 pub(crate) fn put_tree<R: Threads + Sync, K: Sink>(
     rt: &R,
     alloc: Global,
     tree: Tree<'_>,
     report: Vec<u8>,
-    asked: &PageSetting,
+    workers: u32,
+    form: &Form,
     out: &mut K,
 ) -> Outcome
-    ensures written { IsTextOutcome (tree_text asked.now.form tree.entry.branches) report.items (record { before = K.taken out.old; after = K.taken out.new; faults = K.faults out.old; faults_after = K.faults out.new }) result }
+    ensures written { IsTextOutcome (tree_text form.now tree.entry.branches) report.items (record { before = K.taken out.old; after = K.taken out.new; faults = K.faults out.old; faults_after = K.faults out.new }) result }
     ensures nothing { status_of result ≢ Status.Done → status_of result ≢ Status.WriteFault → out.new ≡ out.old }
 {
-    match asked.form {
-        OutputForm::PrintedTree => put_printed(rt, alloc, tree, report, asked.workers, out),
-        OutputForm::HtmlText => put_html(alloc, tree, report, out),
+    match form {
+        Form::PrintedTree => put_printed(rt, alloc, tree, report, workers, out),
+        Form::HtmlText => put_html(alloc, tree, report, out),
+        Form::Elements(selector) => put_elements(alloc, tree, report, selector, out),
     }
 }
 
@@ -41,13 +48,55 @@ fn put_printed<R: Threads + Sync, K: Sink>(
     workers: u32,
     out: &mut K,
 ) -> Outcome
-    ensures written { IsTextOutcome (tree_text OutputForm.PrintedTree tree.entry.branches) report.items (record { before = K.taken out.old; after = K.taken out.new; faults = K.faults out.old; faults_after = K.faults out.new }) result }
+    ensures written { IsTextOutcome (tree_text Form.PrintedTree tree.entry.branches) report.items (record { before = K.taken out.old; after = K.taken out.new; faults = K.faults out.old; faults_after = K.faults out.new }) result }
     ensures nothing { status_of result ≢ Status.Done → status_of result ≢ Status.WriteFault → out.new ≡ out.old }
 {
-    let outcome = write_tree_by(rt, alloc, &tree, out, workers);
+    let written = write_tree_by(rt, alloc, &tree, out, workers);
     // The process ends once the text is written, and its memory goes back whole: nothing is given back piece by piece.
     mem::forget(tree);
-    match outcome {
+    ended(written, report)
+}
+
+/// Writes the elements of a tree that a selector matches to `out`, each with its attributes.
+fn put_elements<K: Sink>(
+    alloc: Global,
+    tree: Tree<'_>,
+    report: Vec<u8>,
+    selector: &Selector,
+    out: &mut K,
+) -> Outcome
+    ensures written { IsTextOutcome (tree_text (Form.Elements selector.now) tree.entry.branches) report.items (record { before = K.taken out.old; after = K.taken out.new; faults = K.faults out.old; faults_after = K.faults out.new }) result }
+    ensures nothing { status_of result ≢ Status.Done → status_of result ≢ Status.WriteFault → out.new ≡ out.old }
+{
+    let written = write_selected(alloc, &tree, selector, out);
+    // As in `put_printed` nothing is given back piece by piece.
+    mem::forget(tree);
+    ended(written, report)
+}
+
+/// Writes the elements that a selector matches.
+fn write_selected<K: Sink>(
+    alloc: Global,
+    tree: &Tree<'_>,
+    selector: &Selector,
+    out: &mut K,
+) -> Result<(), Refusal>
+    ensures whole { OnOk result (K.taken out.new ≡ append_known (K.taken out.old) (tree_text (Form.Elements selector.now) tree.now.branches)) }
+    ensures part { OnFault result (λ taken. TakesFirst taken (tree_text (Form.Elements selector.now) tree.now.branches) (K.taken out.old) (K.taken out.new)) }
+    ensures failed { OnFault result (λ _. Rose (K.faults out.old) (K.faults out.new)) }
+    ensures nothing { result ≡ Err Refusal.NoMemory → out.new ≡ out.old }
+{
+    match select(alloc, tree, selector) {
+        Ok(found) => write_elements(alloc, tree, found.as_slice(), out),
+        Err(_) => Err(Refusal::NoMemory),
+    }
+}
+
+/// How a run ends whose output was written so.
+fn ended(written: Result<(), Refusal>, report: Vec<u8>) -> Outcome
+    ensures { result ≡ ended_as written report }
+{
+    match written {
         Ok(()) => Outcome::Done { report },
         Err(Refusal::Fault { taken }) => Outcome::WriteFault { taken },
         Err(Refusal::NoMemory) => Outcome::NoMemory,
@@ -56,7 +105,7 @@ fn put_printed<R: Threads + Sync, K: Sink>(
 
 /// Writes a tree to `out` as HTML.
 fn put_html<K: Sink>(alloc: Global, tree: Tree<'_>, report: Vec<u8>, out: &mut K) -> Outcome
-    ensures written { IsTextOutcome (tree_text OutputForm.HtmlText tree.entry.branches) report.items (record { before = K.taken out.old; after = K.taken out.new; faults = K.faults out.old; faults_after = K.faults out.new }) result }
+    ensures written { IsTextOutcome (tree_text Form.HtmlText tree.entry.branches) report.items (record { before = K.taken out.old; after = K.taken out.new; faults = K.faults out.old; faults_after = K.faults out.new }) result }
     ensures nothing { status_of result ≢ Status.Done → status_of result ≢ Status.WriteFault → out.new ≡ out.old }
 {
     let html = html_text(alloc, &tree);

@@ -21,6 +21,8 @@ pub enum Status {
     NoMemory,
     /// The page can't be cut at the places that the words list.
     BadCuts,
+    /// The text that the words give for a selector is none.
+    BadSelector,
 }
 
 impl Status {
@@ -37,6 +39,7 @@ impl Status {
             Status::WriteFault => 6,
             Status::NoMemory => 7,
             Status::BadCuts => 8,
+            Status::BadSelector => 15,
         }
     }
 }

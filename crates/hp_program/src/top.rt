@@ -5,10 +5,12 @@ ghost use Rattle.hp_text.specs.Page.{text_of};
 ghost use Rattle.hp_words.specs.Settings.{settings};
 ghost use Rattle.hp_words.specs.Within.{IsBetween, IsPageWithin, IsWithin};
 ghost use Rattle.hp_program.specs.Answers.{IsAnswer, IsBytesAnswer, IsTextAnswer};
+ghost use Rattle.hp_program.specs.Forms.{form_of};
 ghost use Rattle.hp_program.specs.Outcomes.{note_of, status_of, unread_as};
 ghost use Rattle.hp_program.specs.Reports.{cutting_of, refusal_of};
-ghost use Rattle.hp_program.specs.Runs.{IsAnswerTo, IsExactRun, IsRun, IsWithoutPage};
+ghost use Rattle.hp_program.specs.Runs.{IsAnswerTo, IsExactRun, IsFormAnswer, IsRun, IsWithoutPage};
 
+use crate::form::{Form, read_form};
 use crate::modes::{Drilling, drill, make};
 use crate::notes::write_note;
 use crate::outcome::Outcome;
@@ -16,6 +18,7 @@ use crate::output::put_tree;
 use crate::parsing::{cuts_for, parse};
 use crate::status::Status;
 use hp_cut::{CutRefusal, Cuts};
+use hp_select::SelectRefusal;
 use hp_text::{PAGE_LIMIT, Page, ReadRefusal, Sink, Source, check_page, read_page};
 use hp_words::{PageSetting, Setting, Words, read_setting};
 use hp_workers::Gate;
@@ -41,6 +44,7 @@ fn put_cut<R: Threads + Wait + Sync, K: Sink, G: Gate + Sync>(
     page: Page<'_>,
     cuts: &Cuts,
     asked: &PageSetting,
+    form: &Form,
     out: &mut K,
     gate: &G,
 ) -> Outcome
@@ -49,11 +53,11 @@ fn put_cut<R: Threads + Wait + Sync, K: Sink, G: Gate + Sync>(
     requires as_asked { cuts.now ≡ cutting_of asked.now.cutting (text_of page) }
     requires accepted { refusal_of asked.now.cutting (text_of page) ≡ None }
     requires workers { IsBetween 1 64 asked.now.workers }
-    ensures answer { IsTextAnswer asked.now (text_of page.entry) (record { before = K.taken out.old; after = K.taken out.new; faults = K.faults out.old; faults_after = K.faults out.new }) (note_of result) (status_of result) }
+    ensures answer { IsTextAnswer asked.now form.now (text_of page.entry) (record { before = K.taken out.old; after = K.taken out.new; faults = K.faults out.old; faults_after = K.faults out.new }) (note_of result) (status_of result) }
     ensures nothing { status_of result ≢ Status.Done → status_of result ≢ Status.WriteFault → out.new ≡ out.old }
 {
     match parse(rt, alloc, page, cuts, asked, gate) {
-        Ok((tree, report)) => put_tree(rt, alloc, tree, report, asked, out),
+        Ok((tree, report)) => put_tree(rt, alloc, tree, report, asked.workers, form, out),
         Err(_) => Outcome::NoMemory,
     }
 }
@@ -64,16 +68,17 @@ fn put_text<R: Threads + Wait + Sync, K: Sink, G: Gate + Sync>(
     alloc: Global,
     page: Page<'_>,
     asked: &PageSetting,
+    form: &Form,
     out: &mut K,
     gate: &G,
 ) -> Outcome
     requires limit { length (text_of page) ≤ PAGE_LIMIT }
     requires within { IsPageWithin asked.now }
-    ensures answer { IsTextAnswer asked.now (text_of page.entry) (record { before = K.taken out.old; after = K.taken out.new; faults = K.faults out.old; faults_after = K.faults out.new }) (note_of result) (status_of result) }
+    ensures answer { IsTextAnswer asked.now form.now (text_of page.entry) (record { before = K.taken out.old; after = K.taken out.new; faults = K.faults out.old; faults_after = K.faults out.new }) (note_of result) (status_of result) }
     ensures nothing { status_of result ≢ Status.Done → status_of result ≢ Status.WriteFault → out.new ≡ out.old }
 {
     match cuts_for(alloc, page, &asked.cutting) {
-        Ok(cuts) => put_cut(rt, alloc, page, &cuts, asked, out, gate),
+        Ok(cuts) => put_cut(rt, alloc, page, &cuts, asked, form, out, gate),
         Err(CutRefusal::NoMemory) => Outcome::NoMemory,
         Err(refusal) => Outcome::BadCuts { refusal },
     }
@@ -85,16 +90,17 @@ fn put_bytes<R: Threads + Wait + Sync, K: Sink, G: Gate + Sync>(
     alloc: Global,
     bytes: &[u8],
     asked: &PageSetting,
+    form: &Form,
     out: &mut K,
     gate: &G,
 ) -> Outcome
     requires limit { length bytes.now ≤ PAGE_LIMIT }
     requires within { IsPageWithin asked.now }
-    ensures answer { IsBytesAnswer asked.now bytes.now (record { before = K.taken out.old; after = K.taken out.new; faults = K.faults out.old; faults_after = K.faults out.new }) (note_of result) (status_of result) }
+    ensures answer { IsBytesAnswer asked.now form.now bytes.now (record { before = K.taken out.old; after = K.taken out.new; faults = K.faults out.old; faults_after = K.faults out.new }) (note_of result) (status_of result) }
     ensures nothing { status_of result ≢ Status.Done → status_of result ≢ Status.WriteFault → out.new ≡ out.old }
 {
     match check_page(bytes) {
-        Ok(page) => put_text(rt, alloc, page, asked, out, gate),
+        Ok(page) => put_text(rt, alloc, page, asked, form, out, gate),
         Err(fault) => Outcome::NotUtf8 { at: fault.at },
     }
 }
@@ -104,17 +110,39 @@ fn put_page<R: Threads + Wait + Sync, S: Source, K: Sink, G: Gate + Sync>(
     rt: &R,
     alloc: Global,
     asked: &PageSetting,
+    form: &Form,
     page: &mut S,
     out: &mut K,
     gate: &G,
 ) -> Outcome
     requires within { IsPageWithin asked.now }
-    ensures answer { IsAnswer asked.now (record { before = S.left page.old; after = S.left page.new; faults = S.faults page.old; faults_after = S.faults page.new }) (record { before = K.taken out.old; after = K.taken out.new; faults = K.faults out.old; faults_after = K.faults out.new }) (note_of result) (status_of result) }
+    ensures answer { IsAnswer asked.now form.now (record { before = S.left page.old; after = S.left page.new; faults = S.faults page.old; faults_after = S.faults page.new }) (record { before = K.taken out.old; after = K.taken out.new; faults = K.faults out.old; faults_after = K.faults out.new }) (note_of result) (status_of result) }
     ensures nothing { status_of result ≢ Status.Done → status_of result ≢ Status.WriteFault → out.new ≡ out.old }
 {
     match read_page(alloc, page) {
-        Ok(bytes) => put_bytes(rt, alloc, bytes.as_slice(), asked, out, gate),
+        Ok(bytes) => put_bytes(rt, alloc, bytes.as_slice(), asked, form, out, gate),
         Err(refusal) => unread(refusal),
+    }
+}
+
+/// Reads the selector, if one is asked for, and then the page, and writes its tree to `out`.
+fn put_asked<R: Threads + Wait + Sync, S: Source, K: Sink, G: Gate + Sync>(
+    rt: &R,
+    alloc: Global,
+    asked: &PageSetting,
+    page: &mut S,
+    out: &mut K,
+    gate: &G,
+) -> Outcome
+    requires within { IsPageWithin asked.now }
+    ensures answer { IsFormAnswer (form_of asked.now.form) asked.now (record { before = S.left page.old; after = S.left page.new; faults = S.faults page.old; faults_after = S.faults page.new }) (record { before = K.taken out.old; after = K.taken out.new; faults = K.faults out.old; faults_after = K.faults out.new }) (note_of result) (status_of result) }
+    ensures unread { form_of asked.now.form ≡ None → page.new ≡ page.old }
+    ensures nothing { status_of result ≢ Status.Done → status_of result ≢ Status.WriteFault → out.new ≡ out.old }
+{
+    match read_form(alloc, &asked.form) {
+        Ok(form) => put_page(rt, alloc, asked, &form, page, out, gate),
+        Err(SelectRefusal::Malformed) => Outcome::BadSelector,
+        Err(SelectRefusal::NoMemory) => Outcome::NoMemory,
     }
 }
 
@@ -133,7 +161,7 @@ fn put<R: Threads + Wait + Sync, S: Source, K: Sink, G: Gate + Sync>(
     ensures nothing { status_of result ≢ Status.Done → status_of result ≢ Status.WriteFault → out.new ≡ out.old }
 {
     match asked {
-        Setting::Page(asked) => put_page(rt, alloc, asked, page, out, gate),
+        Setting::Page(asked) => put_asked(rt, alloc, asked, page, out, gate),
         Setting::Make { seed, bytes } => make(alloc, *seed, *bytes, out),
         Setting::Drill {
             seed,
@@ -191,8 +219,8 @@ fn put_for<R: Threads + Wait + Sync, S: Source, K: Sink, G: Gate + Sync>(
     }
 }
 
-/// Does what the words ask for: without a mode it reads the page and writes its tree to `out`, printed or as HTML. The first refusal decides,
-/// in the order words, reading, UTF-8, cuts, parsing, writing; want of memory may come at any of them. The run's report, or the line of its
+/// Does what the words ask for: without a mode it reads the page and writes its tree to `out`, printed or as HTML, or of its elements those
+/// that a selector matches. The first refusal decides, in the order words, selector, reading, UTF-8, cuts, parsing, writing; want of memory may come at any of them. The run's report, or the line of its
 /// refusal, goes to `notes`; where they fail, nothing else changes. A worker passes the gate before it guesses a chunk.
 ///
 /// It promises this where it returns: by its bound `Wait` it owes no return.
@@ -216,7 +244,7 @@ pub fn hpar<R: Threads + Wait + Sync, S: Source, K: Sink, N: Sink, G: Gate + Syn
         (record { before = S.left page.old; after = S.left page.new; faults = S.faults page.old; faults_after = S.faults page.new })
         (record { before = K.taken out.old; after = K.taken out.new; faults = K.faults out.old; faults_after = K.faults out.new }) result }
 
-    // Without a page nothing is read, and a refusal writes nothing.
+    // Where no page is called for, and where the selector is none, nothing is read, and a refusal writes nothing.
     ensures unread { IsWithoutPage (settings words.now) → page.new ≡ page.old }
     ensures nothing { result ≢ Status.Done → result ≢ Status.WriteFault → out.new ≡ out.old }
 {

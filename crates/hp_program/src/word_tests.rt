@@ -28,7 +28,10 @@ type Worked = (
 );
 
 const USAGE: &[u8] =
-    b"usage: hpar [--workers N] [--chunk N] [--cuts A,B,C] [--guess quiet|prescan|contrary] [--report]\n";
+    b"usage: hpar [--workers N] [--chunk N] [--cuts A,B,C] [--guess quiet|prescan|contrary] [--report] [--html] [--select TEXT]\n";
+
+/// Two items in a list, and one behind it.
+const LISTS: &[u8] = b"<ul class=\"a b\"><li id=x>1<li>2</ul><li>3";
 
 const WORKED: &[Worked] = &[
     (
@@ -194,6 +197,49 @@ const WORKED: &[Worked] = &[
         b"chunk 0: 69 bytes, exact\ntotal: 1 chunks, 1 exact, 0 kept, 0 repaired, 0 rolled back\n",
     ),
     (
+        "--select ul.b>li",
+        LISTS,
+        Status::Done,
+        b"| <li>\n|   id=\"x\"\n| <li>\n",
+        b"",
+    ),
+    (
+        "--select li,#x --workers 2 --cuts 21,30",
+        LISTS,
+        Status::Done,
+        b"| <li>\n|   id=\"x\"\n| <li>\n| <li>\n",
+        b"",
+    ),
+    (
+        "--select=* --report",
+        b"<svg viewbox=1></svg><template><b>",
+        Status::Done,
+        b"| <html>\n| <head>\n| <body>\n| <svg svg>\n|   viewBox=\"1\"\n| <template>\n| <b>\n",
+        b"chunk 0: 34 bytes, exact\ntotal: 1 chunks, 1 exact, 0 kept, 0 repaired, 0 rolled back\n",
+    ),
+    ("--select dl", LISTS, Status::Done, b"", b""),
+    (
+        "--select ul>",
+        LISTS,
+        Status::BadSelector,
+        b"",
+        b"selector is malformed\n",
+    ),
+    (
+        "--select=",
+        b"a\xFF",
+        Status::BadSelector,
+        b"",
+        b"selector is malformed\n",
+    ),
+    (
+        "--select li",
+        b"a\xFF",
+        Status::NotUtf8,
+        b"",
+        b"not UTF-8 at byte 1\n",
+    ),
+    (
         "--make 0 --bytes 40",
         b"",
         Status::Done,
@@ -210,6 +256,21 @@ const WORKED: &[Worked] = &[
     ("--html --html", b"x", Status::Usage, b"", USAGE),
     (
         "--make 0 --bytes 40 --html",
+        b"x",
+        Status::Usage,
+        b"",
+        USAGE,
+    ),
+    ("--select li --html", b"x", Status::Usage, b"", USAGE),
+    (
+        "--select li --make 0 --bytes 40",
+        b"x",
+        Status::Usage,
+        b"",
+        USAGE,
+    ),
+    (
+        "--drill 0 --bytes 20 --select ul>",
         b"x",
         Status::Usage,
         b"",

@@ -4,7 +4,7 @@ use Rattle.std.specs.List.{All, slice_split}
 use Rattle.std.specs.Option.{IfSome}
 use Rattle.hp_words.specs.Numbers.{from, number, number_or, places_in}
 use Rattle.hp_words.specs.Options.{Values, found}
-use Rattle.hp_words.specs.Settings.{asks_for_page_alone, bytes_of, chunk_of, cutting_of, drill_of, guess_of, has_separator, make_of, page_of, seed_of, setting_of, settings, workers_of}
+use Rattle.hp_words.specs.Settings.{asks_for_page_alone, bytes_of, chunk_of, cutting_of, drill_of, form_of, guess_of, has_separator, make_of, page_of, seed_of, setting_of, settings, workers_of}
 use Rattle.hp_words.specs.Within.{IsBetween, IsCuttingWithin, IsWithin}
 use Rattle.hp_words.proofs.NumberLemmas.{all_present-all, number_within}
 use Rattle.std.specs.Prelude.{is_some, ◌||◌, ◌==◌}
@@ -62,7 +62,8 @@ page_within values =
     from_within (IsBetween 1 64) IsWithin (workers_of values.workers) _ (workers_within values.workers) (λ workers in_range.
     from_any IsWithin (guess_of values.guess) _ (λ guess.
     from_within IsCuttingWithin IsWithin (cutting_of values.cuts values.chunk) _ (cutting_within values.cuts values.chunk) (λ cutting kept.
-    record { workers = in_range; cutting = kept })))
+    from_any IsWithin (form_of values.html values.select) _ (λ form.
+    record { workers = in_range; cutting = kept }))))
 
 make_within : (seed bytes : List ℕ) (values : Values) → IfSome (make_of seed bytes values) IsWithin
 make_within seed bytes values =

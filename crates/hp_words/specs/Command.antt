@@ -23,13 +23,14 @@ plain_app = on_top (λ (s : Shape). record s {
 -- the options of a page that is read
 abbrev pub page_app : App
 page_app =
-    with_rule (with_rule (with_rule (with_rule (with_rule (with_rule plain_app
+    with_rule (with_rule (with_rule (with_rule (with_rule (with_rule (with_rule plain_app
     (option (codes "workers")))
     (option (codes "chunk")))
     (option (codes "cuts")))
     (option (codes "guess")))
     (flag (codes "report")))
-    (flag (codes "html"))
+    (flag (codes "html")))
+    (option (codes "select"))
 
 -- and those of the modes that read none
 unfoldable pub app : App

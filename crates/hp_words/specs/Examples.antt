@@ -5,7 +5,7 @@ use Rattle.hp_words.specs.Settings.{settings}
 use Rattle.hp_words.specs.declared.setting.CutSetting.{CutSetting}
 use Rattle.hp_words.specs.declared.setting.CutSetting.TheVariants.{AtTags, Listed}
 use Rattle.hp_words.specs.declared.setting.OutputForm.{OutputForm}
-use Rattle.hp_words.specs.declared.setting.OutputForm.TheVariants.{PrintedTree, HtmlText}
+use Rattle.hp_words.specs.declared.setting.OutputForm.TheVariants.{PrintedTree, HtmlText, Elements}
 use Rattle.hp_words.specs.declared.setting.Setting.{Setting}
 use Rattle.hp_words.specs.declared.setting.Setting.TheVariants.{Page, Make, Drill}
 use Rattle.hp_predict.specs.declared.quiet.GuessKind.{GuessKind}
@@ -23,6 +23,7 @@ pub record Examples : Type 0 where
   pub no_words : settings [] ≡ page 4 (AtTags 65536) Prescan false PrintedTree
   pub listed_cuts : asked (codes "--cuts=3,6 --guess=quiet --report --workers=2") ≡ page 2 (Listed (3 ∷ 6 ∷ [])) Quiet true PrintedTree
   pub as_html : asked (codes "--html --workers 1") ≡ page 1 (AtTags 65536) Prescan false HtmlText
+  pub as_elements : asked (codes "--select ul.b>li,#x --cuts 3") ≡ page 4 (Listed (3 ∷ [])) Prescan false (Elements (codes "ul.b>li,#x"))
   pub made : asked (codes "--make 0 --bytes 40") ≡ Some (Make 0 40)
   pub drilled : asked (codes "--drill 7 --bytes 20 --chunk 4096") ≡ Some (Drill 7 20 4 4096)
   pub no_worker : asked (codes "--workers 0") ≡ None
@@ -31,6 +32,7 @@ pub record Examples : Type 0 where
   pub two_commas : asked (codes "--cuts 3,,4") ≡ None
   pub unknown_guess : asked (codes "--guess loud") ≡ None
   pub twice : asked (codes "--report --report") ≡ None
+  pub two_forms : asked (codes "--select li --html") ≡ None
   pub html_of_a_made_page : asked (codes "--make 0 --bytes 40 --html") ≡ None
   pub no_mode : asked (codes "--bytes 20") ≡ None
   pub help : asked (codes "--help") ≡ None

@@ -16,6 +16,7 @@ pub record Values : Type 0 where
   pub guess : Option Text
   pub report : Bool
   pub html : Bool
+  pub select : Option Text
   pub make : Option Text
   pub drill : Option Text
   pub bytes : Option Text
@@ -38,6 +39,7 @@ options_in rows = record {
   guess = first_of (codes "guess") rows;
   report = is_given (codes "report") rows;
   html = is_given (codes "html") rows;
+  select = first_of (codes "select") rows;
   make = first_of (codes "make") rows;
   drill = first_of (codes "drill") rows;
   bytes = first_of (codes "bytes") rows;
@@ -52,6 +54,7 @@ texts_of o = record {
   guess = option_map (λ text. text.now) o.guess;
   report = o.report;
   html = o.html;
+  select = option_map (λ text. text.now) o.select;
   make = option_map (λ text. text.now) o.make;
   drill = option_map (λ text. text.now) o.drill;
   bytes = option_map (λ text. text.now) o.bytes;

@@ -1,5 +1,6 @@
 -- What the words ask for.
-use Rattle.std.specs.Prelude.{ℕ, Bool, ◌||◌, List, Option, Some, None, codes, if◌then◌else◌, is_some, option_map}
+use Rattle.std.specs.Prelude.{ℕ, Bool, true, false, ◌||◌, length, List, Option, Some, None, codes, if◌then◌else◌, is_some, option_map}
+use Rattle.std.specs.Int.{is_in_range}
 use Rattle.std.specs.List.{list_any}
 use Rattle.std.specs.Str.{bytes_eq}
 use Rattle.hp_words.specs.Numbers.{from, number, number_or, places_in}
@@ -9,7 +10,7 @@ use Rattle.hp_words.specs.declared.setting.Setting.TheVariants.{Page, Make, Dril
 use Rattle.hp_words.specs.declared.setting.CutSetting.{CutSetting}
 use Rattle.hp_words.specs.declared.setting.CutSetting.TheVariants.{AtTags, Listed}
 use Rattle.hp_words.specs.declared.setting.OutputForm.{OutputForm}
-use Rattle.hp_words.specs.declared.setting.OutputForm.TheVariants.{PrintedTree, HtmlText}
+use Rattle.hp_words.specs.declared.setting.OutputForm.TheVariants.{PrintedTree, HtmlText, Elements}
 use Rattle.hp_predict.specs.declared.quiet.GuessKind.{GuessKind}
 use Rattle.hp_predict.specs.declared.quiet.GuessKind.TheVariants.{Quiet, Prescan, Contrary}
 
@@ -39,9 +40,16 @@ guess_of (Some name) =
     else (if bytes_eq name (codes "prescan") then Some Prescan
     else (if bytes_eq name (codes "contrary") then Some Contrary else None))
 
--- as what the tree is written, by whether the option is there
-abbrev pub form_of : Bool → OutputForm
-form_of html = if html then HtmlText else PrintedTree
+-- the elements that a selector matches, where its text has at most 1,024 bytes
+abbrev pub elements_of : List ℕ → Option OutputForm
+elements_of text = if is_in_range 0 1024 (length text) then Some (Elements text) else None
+
+-- as what the tree is written: HTML and a selector exclude each other
+abbrev pub form_of : Bool → Option (List ℕ) → Option OutputForm
+form_of false None = Some PrintedTree
+form_of true None = Some HtmlText
+form_of false (Some selector) = elements_of selector
+form_of true (Some selector) = None
 
 -- the page on the standard input is parsed
 abbrev pub page_of : Values → Option Setting
@@ -49,11 +57,12 @@ page_of values =
     from (workers_of values.workers) (λ workers.
     from (guess_of values.guess) (λ guess.
     from (cutting_of values.cuts values.chunk) (λ cutting.
-    Some (Page (record { workers = workers; cutting = cutting; guess = guess; report = values.report; form = form_of values.html })))))
+    from (form_of values.html values.select) (λ form.
+    Some (Page (record { workers = workers; cutting = cutting; guess = guess; report = values.report; form = form }))))))
 
 -- an option is given that no mode allows
 abbrev pub asks_for_page_alone : Values → Bool
-asks_for_page_alone values = is_some values.cuts || is_some values.guess || values.report || values.html
+asks_for_page_alone values = is_some values.cuts || is_some values.guess || values.report || values.html || is_some values.select
 
 -- a seed: 0 to 2^64 - 1
 abbrev pub seed_of : List ℕ → Option ℕ

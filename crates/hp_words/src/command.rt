@@ -47,6 +47,7 @@ fn command<'a>(alloc: Global) -> Result<Command<'a>, NoMemory>
         .arg(option(alloc, "guess"))?
         .arg(flag(alloc, "report"))?
         .arg(flag(alloc, "html"))?
+        .arg(option(alloc, "select"))?
         .arg(option(alloc, "make"))?
         .arg(option(alloc, "drill"))?
         .arg(option(alloc, "bytes"))

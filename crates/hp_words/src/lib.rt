@@ -15,7 +15,7 @@ mod words;
 pub use hp_predict::GuessKind;
 pub use hp_text::NoMemory;
 pub use reading::read_setting;
-pub use setting::{CutSetting, OutputForm, PageSetting, Places, Setting};
+pub use setting::{CutSetting, OutputForm, PageSetting, Places, SelectorText, Setting};
 pub use words::{Words, words_after_name};
 
 /// Lines of words ask for what they are meant to.

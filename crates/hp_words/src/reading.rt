@@ -1,13 +1,13 @@
 //! What the words ask for, from the values of their options.
 ghost use Rattle.std.specs.Prelude.{◌≡◌, IfOk, IfSome, map, string_bytes, option_map};
-ghost use Rattle.hp_words.specs.Settings.{asks_for_page_alone, cutting_of, drill_of, form_of, guess_of, has_separator, make_of, page_of, setting_of, settings};
+ghost use Rattle.hp_words.specs.Settings.{asks_for_page_alone, cutting_of, drill_of, elements_of, form_of, guess_of, has_separator, make_of, page_of, setting_of, settings};
 ghost use Rattle.hp_words.specs.Options.{texts_of};
 ghost use Rattle.hp_words.specs.Within.{IsWithin};
 
 use crate::command::find_options;
 use crate::numbers::{number, number_or, places, small_number};
 use crate::options::Options;
-use crate::setting::{CutSetting, OutputForm, PageSetting, Setting};
+use crate::setting::{CutSetting, OutputForm, PageSetting, SelectorText, Setting};
 use crate::words::Words;
 use hp_predict::GuessKind;
 use hp_text::NoMemory;
@@ -27,6 +27,9 @@ const DEFAULT_CHUNK: u32 = 65_536;
 
 /// The most bytes of a page, and of a chunk.
 const MAX_BYTES: u32 = 16_777_216;
+
+/// The most bytes of a selector.
+const MAX_SELECTOR: usize = 1_024;
 
 /// What the words ask for. `None` exactly where they are wrong usage. It fails only for want of memory.
 pub fn read_setting(alloc: Global, words: &Words) -> Result<Option<Setting>, NoMemory>
@@ -81,12 +84,15 @@ fn page_of(alloc: Global, options: &Options<'_>) -> Result<Option<Setting>, NoMe
     let Some(cutting) = cutting_of(alloc, options.cuts, options.chunk)? else {
         return Ok(None);
     };
+    let Some(form) = form_of(alloc, options.html, options.select)? else {
+        return Ok(None);
+    };
     Ok(Some(Setting::Page(PageSetting {
         workers,
         cutting,
         guess,
         report: options.report,
-        form: form_of(options.html),
+        form,
     })))
 }
 
@@ -119,22 +125,42 @@ fn guess_of(name: Option<&str>) -> Option<GuessKind>
     }
 }
 
-/// As what the tree is written.
-fn form_of(html: bool) -> OutputForm
-    ensures { result ≡ form_of html }
+/// As what the tree is written. HTML and a selector exclude each other.
+fn form_of(
+    alloc: Global,
+    html: bool,
+    selector: Option<&str>,
+) -> Result<Option<OutputForm>, NoMemory>
+    ensures { IfOk result (λ form. form ≡ form_of html (option_map (λ text. text.now) selector.entry)) }
 {
-    if html {
-        OutputForm::HtmlText
-    } else {
-        OutputForm::PrintedTree
+    match (html, selector) {
+        (false, None) => Ok(Some(OutputForm::PrintedTree)),
+        (true, None) => Ok(Some(OutputForm::HtmlText)),
+        (false, Some(text)) => elements_of(alloc, text),
+        (true, Some(_)) => Ok(None),
     }
+}
+
+/// The elements that a selector matches are written, where its text isn't too long.
+fn elements_of(alloc: Global, text: &str) -> Result<Option<OutputForm>, NoMemory>
+    ensures { IfOk result (λ form. form ≡ elements_of text.now) }
+{
+    if text.len() > MAX_SELECTOR {
+        return Ok(None);
+    }
+    let selector = SelectorText::new(alloc, text)?;
+    Ok(Some(OutputForm::Elements { selector }))
 }
 
 /// Whether an option is given that no mode allows.
 fn asks_for_page_alone(options: &Options<'_>) -> bool
     ensures { result ≡ asks_for_page_alone (texts_of options.now) }
 {
-    options.cuts.is_some() || options.guess.is_some() || options.report || options.html
+    options.cuts.is_some()
+        || options.guess.is_some()
+        || options.report
+        || options.html
+        || options.select.is_some()
 }
 
 /// The page of a seed is written, with no other option.

@@ -1,7 +1,9 @@
 //! What the words ask for, as types.
-ghost use Rattle.std.specs.Prelude.{◌≡◌};
+ghost use Rattle.std.specs.Prelude.{◌≡◌, IfOk};
 
 use hp_predict::GuessKind;
+use hp_text::NoMemory;
+use std::alloc::Global;
 use std::marker::Model;
 
 /// What the words ask for.
@@ -39,12 +41,45 @@ pub struct PageSetting {
 }
 
 /// As what a tree is written.
-#[derive(Clone, Copy, Debug, PartialEq, Eq)]
+#[derive(Drop)]
 pub enum OutputForm {
     /// The printed form: a line for each element, attribute, text, comment and doctype.
     PrintedTree,
     /// The HTML text.
     HtmlText,
+    /// The lines of the elements that a selector matches, with those of their attributes.
+    Elements { selector: SelectorText },
+}
+
+/// The text that a word gives for a selector: at most 1,024 bytes. It may be none. A contract sees its bytes.
+#[derive(Drop)]
+pub struct SelectorText {
+    text: String,
+}
+
+impl Model for SelectorText {
+    ghost use Rattle.std.specs.Prelude.{List, ℕ, string_bytes};
+
+    ghost Value = { List ℕ };
+
+    ghost view = { λ s. string_bytes s.text };
+}
+
+impl SelectorText {
+    /// The text of a word.
+    pub(crate) fn new(alloc: Global, text: &str) -> Result<SelectorText, NoMemory>
+        ensures { IfOk result (λ selector. selector ≡ text.now) }
+    {
+        let text = String::from_str(alloc, text)?;
+        Ok(SelectorText { text })
+    }
+
+    /// The text.
+    pub fn as_str(&self) -> &str
+        ensures { result.now ≡ self.now }
+    {
+        self.text.as_str()
+    }
 }
 
 /// Where the page is cut.

@@ -1,9 +1,10 @@
 //! Words and what they ask for.
-use crate::{CutSetting, NoMemory, PageSetting, Setting, Words, read_setting};
+use crate::{CutSetting, NoMemory, OutputForm, PageSetting, Setting, Words, read_setting};
 use std::alloc::Global;
+use std::process::Abort;
 
 /// Lines that ask for something, each with what it is in short.
-static TAKEN: [(&str, &str); 18] = [
+static TAKEN: [(&str, &str); 21] = [
     ("", "page 4 tags 65536 Prescan false PrintedTree"),
     ("--workers 1", "page 1 tags 65536 Prescan false PrintedTree"),
     (
@@ -41,6 +42,18 @@ static TAKEN: [(&str, &str); 18] = [
         "--cuts 3,6 --html --report --guess quiet",
         "page 4 [3, 6] Quiet true HtmlText",
     ),
+    (
+        "--select ul.b>li",
+        "page 4 tags 65536 Prescan false Elements ul.b>li",
+    ),
+    (
+        "--cuts 3,6 --select=* --report --guess quiet --workers 2",
+        "page 2 [3, 6] Quiet true Elements *",
+    ),
+    (
+        "--chunk 64 --select=>",
+        "page 4 tags 64 Prescan false Elements >",
+    ),
     ("--make 0 --bytes 40", "make 0 40"),
     (
         "--bytes=16777216 --make=18446744073709551615",
@@ -52,7 +65,7 @@ static TAKEN: [(&str, &str); 18] = [
 ];
 
 /// Lines that are wrong usage.
-static REFUSED: [&str; 50] = [
+static REFUSED: [&str; 55] = [
     "--workers 0",
     "--workers 65",
     "--workers 000000000000000000007",
@@ -83,6 +96,11 @@ static REFUSED: [&str; 50] = [
     "--html=true",
     "--make 0 --bytes 40 --html",
     "--drill 7 --bytes 20 --html",
+    "--select",
+    "--select li --select li",
+    "--select li --html",
+    "--make 0 --bytes 40 --select li",
+    "--drill 7 --bytes 20 --select li",
     "--help",
     "--version",
     "-h",
@@ -130,6 +148,18 @@ fn in_short(alloc: Global, setting: &Setting) -> Result<String, NoMemory> {
     }
 }
 
+/// As what a tree is written, in short.
+fn form_in_short(alloc: Global, form: &OutputForm) -> Result<String, NoMemory> {
+    match form {
+        OutputForm::PrintedTree => format!(in alloc; "PrintedTree"),
+        OutputForm::HtmlText => format!(in alloc; "HtmlText"),
+        OutputForm::Elements { selector } => {
+            let text = selector.as_str();
+            format!(in alloc; "Elements {text}")
+        }
+    }
+}
+
 /// The setting of a page in short.
 fn page_in_short(alloc: Global, page: &PageSetting) -> Result<String, NoMemory> {
     let PageSetting {
@@ -139,13 +169,15 @@ fn page_in_short(alloc: Global, page: &PageSetting) -> Result<String, NoMemory> 
         report,
         form,
     } = page;
+    let form = form_in_short(alloc, form)?;
+    let form = form.as_str();
     match cutting {
         CutSetting::AtTags { size } => format!(in alloc;
-            "page {workers} tags {size} {guess:?} {report} {form:?}"
+            "page {workers} tags {size} {guess:?} {report} {form}"
         ),
         CutSetting::Listed { places } => {
             let places = places.as_slice();
-            format!(in alloc; "page {workers} {places:?} {guess:?} {report} {form:?}")
+            format!(in alloc; "page {workers} {places:?} {guess:?} {report} {form}")
         }
     }
 }
@@ -165,4 +197,22 @@ fn lines_ask_for_settings(rt: HostRuntime) {
         let setting = read_setting(rt.alloc(), &words).expect(&rt, "memory");
         assert!(rt; setting.is_none(), "{line}");
     }
+}
+
+/// Whether a selector of so many bytes is taken.
+fn is_taken<R: AllocGlobal + Abort>(rt: &R, bytes: usize) -> bool {
+    let mut text = String::new(rt.alloc());
+    for _ in 0..bytes {
+        text.push('a').expect(rt, "memory");
+    }
+    let mut words = Words::new();
+    words.push(rt.alloc(), "--select").expect(rt, "memory");
+    words.push(rt.alloc(), text.as_str()).expect(rt, "memory");
+    let setting = read_setting(rt.alloc(), &words).expect(rt, "memory");
+    setting.is_some()
+}
+
+#[test]
+fn a_selector_has_at_most_1024_bytes(rt: HostRuntime) {
+    assert_eq!(&rt; (is_taken(&rt, 1_024), is_taken(&rt, 1_025)), (true, false));
 }

@@ -20,3 +20,6 @@ returns-in-WriteFault g c = noted_as _ (note_of c.args.outcome.now) _ (sym (ap n
 
 pub returns-in-NoMemory : goal.returns-in-NoMemory
 returns-in-NoMemory g c = noted_as _ (note_of c.args.outcome.now) _ (sym (ap note_of c.in-NoMemory.is)) c.write_text-in-NoMemory.ensures
+
+pub returns-in-BadSelector : goal.returns-in-BadSelector
+returns-in-BadSelector g c = noted_as _ (note_of c.args.outcome.now) _ (sym (ap note_of c.in-BadSelector.is)) c.write_text-in-BadSelector.ensures
