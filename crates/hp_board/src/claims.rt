@@ -78,15 +78,15 @@ impl<'p> Board<'p> {
         matches!(self.slots.get(self.done as usize), Some(Slot::Again))
     }
 
-    /// The first chunk that is Unclaimed.
+    /// The first chunk that is Unclaimed. Those before the front chunk are Done.
     fn first_free(&self) -> Option<u32>
         ensures within { IfSome result (λ chunk. chunk < length self.now.slots) }
         ensures first { IfSome result (λ chunk. is_first is_unclaimed (statuses self.now) chunk ≡ true) }
         ensures none { IfNone result (none is_unclaimed (statuses self.now) ≡ true) }
     {
         let _few = self.chunks();
-        match first_unclaimed(self.slots.as_slice()) {
-            Some(chunk) => Some(chunk as u32),
+        match first_unclaimed(&self.slots[self.done as usize..]) {
+            Some(behind) => Some(self.done + behind as u32),
             None => None,
         }
     }
