@@ -4,6 +4,7 @@ use Rattle.std.specs.Prelude.{OnOk}
 use Rattle.std.specs.List.{list_all}
 use Rattle.std.proofs.lemmas.Bool.{and_from, and_parts}
 use Rattle.std.proofs.lemmas.List.{map-append}
+use Rattle.std.proofs.lemmas.Simd.{map-map}
 use Rattle.hp_control.specs.Apply.{named_edit}
 use Rattle.hp_control.specs.Nothing.{nothing}
 use Rattle.hp_control.specs.States.{ControlState}
@@ -14,7 +15,7 @@ use Rattle.hp_groves.proofs.Joined.{joined-make_same, one_by_one-join}
 use Rattle.hp_growth.specs.Growing.{Grows as GrowsBy, IsGrown}
 use Rattle.hp_groves.specs.Naming.{own_grove, own_outer, refs}
 use Rattle.hp_growth.specs.Marking.{is_first, name_first}
-use Rattle.hp_growth.specs.Telling.{own_told}
+use Rattle.hp_growth.specs.Telling.{own_named, own_told}
 use Rattle.hp_model.proofs.JoinedTexts.{join-behind}
 use Rattle.hp_runs.proofs.Together.{applied-append}
 use Rattle.hp_fragment.specs.Making.{AllComeTo, AllMade, Amounts, ComeTo, HasGrownTo, HasSplit, MayBeSplit, SinkKind, SplitBy, as_split, kind_of}
@@ -130,7 +131,7 @@ pub numbers-taken : {T E : Type 0} (result : Result T E) (old new : Splitting) (
 numbers-taken (Ok done) old new made numbers same grows few = split-numbers old new made numbers same grows few
 numbers-taken (Err fault) old new made numbers same grows few = tt
 
-pub ids-taken : {T E : Type 0} (result : Result T E) (old new : Splitting) (made told : List Edit) (next : ℕ) → old.naming ≡ Ids next → new.naming ≡ old.naming → told ≡ map (named_edit nothing) made → OnOk result (GrowsBy old.growing (map (own_told next) told) new.growing)
+pub ids-taken : {T E : Type 0} (result : Result T E) (old new : Splitting) (made : List Edit) (next : ℕ) → old.naming ≡ Ids next → new.naming ≡ old.naming → OnOk result (GrowsBy old.growing (map (own_named next) made) new.growing)
     → OnOk result (HasSplit old made new)
-ids-taken (Ok done) old new made told next ids same is grows = split-ids old new made next ids same (subst (λ (es : List Edit). GrowsBy old.growing (map (own_told next) es) new.growing) is grows)
-ids-taken (Err fault) old new made told next ids same is grows = tt
+ids-taken (Ok done) old new made next ids same grows = split-ids old new made next ids same (subst (λ (es : List Edit). GrowsBy old.growing es new.growing) (sym (map-map (own_told next) (named_edit nothing) made)) grows)
+ids-taken (Err fault) old new made next ids same grows = tt

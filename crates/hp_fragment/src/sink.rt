@@ -103,10 +103,7 @@ pub(crate) fn split<'p>(
 {
     match splitting.naming {
         Naming::Numbers => splitting.growing.put_all(alloc, edits),
-        Naming::Ids { next } => {
-            edits.tell();
-            splitting.growing.put_all_told(alloc, next, edits)
-        }
+        Naming::Ids { next } => splitting.growing.put_all_told(alloc, next, edits),
     }
 }
 

@@ -6,7 +6,7 @@ ghost use Rattle.hp_groves.specs.Naming.{own_grove, own_outer};
 ghost use Rattle.hp_growth.specs.Growing.{Grows, IsGrown, own_edit};
 ghost use Rattle.hp_growth.specs.Marking.{name_first, names_made};
 ghost use Rattle.hp_growth.specs.Reaching.{IsInnerPut, IsOuterPut, reaches};
-ghost use Rattle.hp_growth.specs.Telling.{own_told};
+ghost use Rattle.hp_growth.specs.Telling.{own_named};
 
 use crate::edits_split_one_by_one;
 use crate::marks::Marks;
@@ -21,7 +21,7 @@ use std::marker::Model;
 use std::mem;
 
 /// How much room for edits is made at once.
-const ROOM: u64 = 64;
+const ROOM: u64 = 16;
 
 /// How many edits the next batch has room for before it takes memory.
 const BATCH: usize = 256;
@@ -88,15 +88,15 @@ impl<'p> Growing<'p> {
         self.put_each(alloc, &mut batch)
     }
 
-    /// Takes all edits of a run over a known state, in order, and leaves none. They tell each element by its id, and own elements have the
-    /// ids from `next` on. At an `Err`, which is want of memory as that of `put`, some may have been taken, and the others are dropped.
+    /// Takes all edits of a run over a known state, in order, and leaves none. Told where no older state is below, own elements have the ids
+    /// from `next` on. At an `Err`, which is want of memory as that of `put`, some may have been taken, and the others are dropped.
     pub fn put_all_told(
         &mut self,
         alloc: Global,
         next: u64,
         edits: &mut Edits<'p>,
     ) -> Result<(), AllocError>
-        ensures ok { OnOk result (Grows self.old (map (own_told next) edits.old) self.new) }
+        ensures ok { OnOk result (Grows self.old (map (own_named next) edits.old) self.new) }
         ensures left { OnOk result (edits.new ≡ []) }
     {
         let mut batch = take(alloc, edits)?;
@@ -124,7 +124,7 @@ impl<'p> Growing<'p> {
         next: u64,
         edits: &mut [Edit<'p>],
     ) -> Result<(), AllocError>
-        ensures { OnOk result (Grows self.old (map (own_told next) edits.old) self.new) }
+        ensures { OnOk result (Grows self.old (map (own_named next) edits.old) self.new) }
     {
         for edit in edits.iter_mut() {
             tell_own(edit, next);

@@ -2,13 +2,13 @@
 
 ghost use Rattle.std.specs.Prelude.{◌≡◌, ◌≤◌, true};
 ghost use Rattle.std.specs.List.{list_all};
-ghost use Rattle.hp_control.specs.Apply.{named_edit};
+ghost use Rattle.hp_control.specs.Apply.{named, named_child, named_edit, named_place};
 ghost use Rattle.hp_control.specs.Nothing.{nothing};
 ghost use Rattle.hp_control.specs.Tree.{id_of};
 ghost use Rattle.hp_groves.specs.Naming.{child_by, child_refs, own_at, place_by, place_refs, refs};
 ghost use Rattle.hp_growth.specs.Growing.{own_edit};
 ghost use Rattle.hp_growth.specs.Marking.{is_child_made, is_first, is_made, is_place_made, names_made};
-ghost use Rattle.hp_growth.specs.Telling.{own_from, own_told};
+ghost use Rattle.hp_growth.specs.Telling.{own_from, own_named};
 
 use hp_control::{Child, Edit, Place, Ref};
 
@@ -91,10 +91,10 @@ fn tell_node(node: &mut Ref, count: u32)
     *node = Ref::Fixed(own_id(*node, count) as u64);
 }
 
-/// Tells elements by number that have an id from `next` on.
+/// Tells each element by its id, where no older state is below, and by number those that have an id from `next` on.
 #[inline(always)]
 pub(crate) fn tell_own(edit: &mut Edit<'_>, next: u64)
-    ensures { edit.new ≡ own_told next edit.old }
+    ensures { edit.new ≡ own_named next edit.old }
 {
     if let Edit::Put { place, .. } = edit {
         tell_own_place(place, next);
@@ -113,7 +113,7 @@ pub(crate) fn tell_own(edit: &mut Edit<'_>, next: u64)
 
 #[inline(always)]
 fn tell_own_child(child: &mut Child<'_>, next: u64)
-    ensures { child.new ≡ child_by (own_from next) child.old }
+    ensures { child.new ≡ child_by (own_from next) (named_child nothing child.old) }
 {
     match child {
         Child::Element(node) => tell_own_node(node, next),
@@ -123,7 +123,7 @@ fn tell_own_child(child: &mut Child<'_>, next: u64)
 
 #[inline(always)]
 fn tell_own_place(place: &mut Place, next: u64)
-    ensures { place.new ≡ place_by (own_from next) place.old }
+    ensures { place.new ≡ place_by (own_from next) (named_place nothing place.old) }
 {
     match place {
         Place::Into(parent) => tell_own_node(parent, next),
@@ -136,13 +136,14 @@ fn tell_own_place(place: &mut Place, next: u64)
 
 #[inline(always)]
 fn tell_own_node(node: &mut Ref, next: u64)
-    ensures { node.new ≡ own_from next node.old }
+    ensures { node.new ≡ own_from next (named nothing node.old) }
 {
-    if let Ref::Fixed(id) = *node
-        && id >= next
-    {
-        *node = Ref::Own(id - next);
-    }
+    let id = node.told();
+    *node = if id < next {
+        Ref::Fixed(id)
+    } else {
+        Ref::Own(id - next)
+    };
 }
 
 /// Whether the edit names by ids no other elements than the document and the page's first one.

@@ -102,7 +102,7 @@ const CASES: &[Case] = &[
     ),
 ];
 
-/// `<ul><li>x<li>x</ul>` in the element 4, told by ids: own elements have those from 5 on.
+/// `<ul><li>x<li>x</ul>` in the element 4, told by ids: own elements have those from 5 on. An own element's number is its id.
 const TOLD: Case = (
     &[
         Step::New,
@@ -111,8 +111,8 @@ const TOLD: Case = (
         Step::Put(Ref::Fixed(6), Place::Into(Ref::Fixed(5))),
         Step::Text(Place::Into(Ref::Fixed(6))),
         Step::New,
-        Step::Put(Ref::Fixed(7), Place::Into(Ref::Fixed(5))),
-        Step::Text(Place::Into(Ref::Fixed(7))),
+        Step::Put(Ref::Own(7), Place::Into(Ref::Fixed(5))),
+        Step::Text(Place::Into(Ref::Own(7))),
     ],
     "-e 0t 0t ",
     "p",

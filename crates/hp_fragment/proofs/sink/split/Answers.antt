@@ -8,4 +8,4 @@ returns-in-Numbers-clause-split c =
 
 pub returns-in-Ids-clause-split : goal.returns-in-Ids-clause-split
 returns-in-Ids-clause-split c =
-    ids-taken c.put_all_told.result c.args.splitting.now (record { growing = c.put_all_told.new.self; naming = c.args.splitting.now.naming }) c.args.edits.now c.tell.new.self c.in-Ids.next c.in-Ids.is refl c.tell.ensures c.put_all_told.ensures.ok
+    ids-taken c.put_all_told.result c.args.splitting.now (record { growing = c.put_all_told.new.self; naming = c.args.splitting.now.naming }) c.args.edits.now c.in-Ids.next c.in-Ids.is refl c.put_all_told.ensures.ok
