@@ -1,46 +1,49 @@
-#!/usr/bin/env python3
-"""Prints the tables of a rules crate from its rows in specs/.
+"""The tables of the rules crates, from their rows in specs/; `tools/tables.py rows` prints them.
 
-    tools/row_tables.py crates/hp_rules_page numbers > crates/hp_rules_page/src/numbers.rt
-    tools/row_tables.py crates/hp_rules_page acts       the two tables of src/acts.rt, without what stands before and behind them
-
-A row's number is its place in `all_rows` of specs/Table.antt. `numbers` writes for each list of rows that
+A row's number is its place in `all_rows` of specs/Table.antt. src/numbers.rt has for each list of rows that
 specs/Table.antt names the number of each kind of token (the order is that of `every_kind` in
-hp_elements/specs/Placing.antt), `acts` the acts of all rows, flat, with the places where a failed test goes on, and
+hp_elements/specs/Placing.antt), src/acts.rt the acts of all rows, flat, with the places where a failed test goes on, and
 where each row begins.
-Nothing rests on this script: the check proves both tables equal to the rows.
 """
 import re
-import sys
-from pathlib import Path
 
-def constant(name):
-    """The constant of a name that specs/ write in camel case."""
-    return re.sub(r'(?<=[a-z0-9])(?=[A-Z])', '_', name.rstrip('_')).upper()
+from definitions import CRATES, all_known, body, constant, known_names, read
+from layout import between, filled, listed
 
-
-def known_names(elements):
-    """The constants and texts of the known names, in their order."""
-    text = (elements / 'specs' / 'Names.antt').read_text()
-    texts = dict(re.findall(r'^text_of \(\w+ \w+\.(\w+)\) = codes "([^"]*)"', text, re.M))
-    every = re.search(r'^every =((?:.|\n)*?\[\])', text, re.M)
-    order = re.findall(r'k\.(\w+)', every.group(1))
-    return [(constant(name), texts[name]) for name in order]
-
-
-def kinds(names):
-    out = [('start', text) for _, text in names] + [('start', None)]
-    out += [('end', text) for _, text in names] + [('end', None)]
-    return out + [('white',), ('nul',), ('other',), ('comment',), ('doctype',), ('end_of_input',)]
-
-
+NUMBERS_HEAD = """\
+//! The number of the row of each kind of token, by the place of the kind: the start tags of the known
+//! names and of other names, the end tags alike, the three classes of characters, comment, doctype, end of
+//! input. `tools/row_tables.py` prints this file from specs/.
+"""
 TOKEN = re.compile(r'"[^"]*"|[A-Za-z_][\w.]*|⨾|⟶|∷|\+\+|\(|\)|\[\]')
 
 
+def kinds():
+    """Every kind of token: start or end and its name, None for other names; what has no name, as patterns write it."""
+    texts = [name.text for name in known_names()] + [None]
+    _, _, nameless = body(read(CRATES / 'hp_elements', 'Placing.antt'), 'every_kind').partition('End None ∷')
+    others = [constant(kind.split()[-1]).lower() for kind in nameless.split(' ∷ ')[:-1]]
+    return [(tag, text) for tag in ('start', 'end') for text in texts] + [(kind,) for kind in others]
+
+
+def named_plans():
+    """The plans that specs/Rules.antt names: their parameters and their words."""
+    text = read(CRATES / 'hp_elements', 'Rules.antt')
+    found = re.findall(r'^abbrev pub \w+ : (?:\w+ → )?Plan\n(\w+)(.*?) =(.*)', text, re.M)
+    return {name: (parameters.split(), TOKEN.findall(plan)) for name, parameters, plan in found}
+
+
+def argument_types():
+    """The types of the arguments of each act, test and name of an element that has some."""
+    text = (CRATES / 'hp_elements' / 'src' / 'act.rt').read_text()
+    return {name: types.split(', ') for name, types in re.findall(r'^    (\w+)\((\w+(?:, \w+)*)\),', text, re.M)}
+
+
 class Reader:
-    def __init__(self, text):
-        self.words = TOKEN.findall(text)
-        self.at = 0
+    """Reads rows from the words of a list."""
+
+    def __init__(self, text, plans):
+        self.words, self.plans, self.at = TOKEN.findall(text), plans, 0
 
     def peek(self):
         return self.words[self.at] if self.at < len(self.words) else None
@@ -49,26 +52,28 @@ class Reader:
         self.at += 1
         return self.words[self.at - 1]
 
+    def take(self, word):
+        found = self.next()
+        assert found == word, (found, self.words[self.at - 5:self.at + 5])
+
     def pattern(self):
+        """The parts of a pattern, each with the names that it has."""
         out = []
         while True:
             word = self.next()
-            if word in ('start', 'end', 'end_but'):
-                out.append((word, self.next()[1:-1].split(' ')))
-            else:
-                out.append((word,))
+            out.append((word, self.next()[1:-1].split(' ')) if word in ('start', 'end', 'end_but') else (word,))
             if self.peek() != 'or':
                 return out
             self.next()
 
     def term(self):
         """A constructor with its arguments in parentheses or bare."""
-        if self.peek() == '(':
-            self.next()
-            out = self.call()
-            assert self.next() == ')'
-            return out
-        return (self.next().split('.')[-1],)
+        if self.peek() != '(':
+            return (self.next().split('.')[-1],)
+        self.next()
+        out = self.call()
+        self.take(')')
+        return out
 
     def call(self):
         out = [self.next().split('.')[-1]]
@@ -76,143 +81,140 @@ class Reader:
             out.append(self.term())
         return tuple(out)
 
+    def named_plan(self):
+        """Puts what the plan of a name is in the place of the name and its arguments."""
+        start = self.at
+        parameters, plan = self.plans[self.next()]
+        for parameter in parameters:
+            first = self.at
+            self.term()
+            plan = [other for word in plan for other in (self.words[first:self.at] if word == parameter else [word])]
+        self.words[start:self.at] = plan
+        self.at = start
+
     def plan(self):
-        word = self.peek()
-        if word == '(':
+        """The acts of a plan; a test with the acts where it holds, or fails."""
+        while self.peek() in self.plans:
+            self.named_plan()
+        if self.peek() == '(':
             self.next()
             out = self.plan()
-            assert self.next() == ')'
+            self.take(')')
             return out
-        if word in ('ends', 'ignored'):
+        if self.peek() == 'ends':
             self.next()
             return []
-        if word == 'void':
-            self.next()
-            return [('Insert',), ('Pop',)]
-        if word == 'raw':
-            self.next()
-            return [('Insert',), ('Lexer', self.term()), ('KeepOriginal',), ('Switch', ('Text',))]
-        if word in ('when', 'unless'):
-            self.next()
-            test = self.term()
-            inner, rest = self.plan(), self.plan()
-            return [(word, test, inner)] + rest
+        if self.peek() in ('when', 'unless'):
+            word, test = self.next(), self.term()
+            inner = self.plan()
+            return [(word, test, inner)] + self.plan()
         act = self.call()
-        assert self.next() == '⨾', (act, self.words[self.at - 5:self.at + 5])
+        self.take('⨾')
         return [act] + self.plan()
 
     def rows(self):
         out = []
         while self.peek() != '[]':
             pattern = self.pattern()
-            assert self.next() == '⟶', self.words[self.at - 5:self.at + 5]
-            plan = self.plan()
-            assert self.next() == '∷', self.words[self.at - 5:self.at + 5]
-            out.append((pattern, plan))
+            self.take('⟶')
+            out.append((pattern, self.plan()))
+            self.take('∷')
         return out
 
 
-def lists(crate):
-    """The lists of rows of a crate's specs/, by name."""
-    out, sums = {}, {}
+def row_lists(crate):
+    """The lists of rows of a crate that `all_rows` has, by name, in their order."""
+    lists, sums, plans = {}, {}, named_plans()
     for path in sorted((crate / 'specs').glob('*.antt')):
-        text = re.sub(r'^ *--.*$', '', path.read_text(), flags=re.M)
-        for name, body in re.findall(r'^abbrev pub (?:\w+) : List Row\n(\w+) =((?:.|\n)*?)(?=^\S|\Z)', text, re.M):
-            if '⟶' in body:
-                out[name] = Reader(body).rows()
+        text = read(crate, path.name)
+        for name in re.findall(r'^abbrev pub (\w+) : List Row$', text, re.M):
+            if '⟶' in body(text, name):
+                lists[name] = Reader(body(text, name), plans).rows()
             else:
-                sums[name] = [word.split('.')[-1] for word in body.split() if word != '++']
-    for name in sums:
-        if name != 'all_rows':
-            out[name] = [row for part in sums[name] for row in out[part]]
-    return out, sums['all_rows']
+                sums[name] = [word.split('.')[-1] for word in body(text, name).split() if word != '++']
+    order = sums.pop('all_rows')
+    lists.update((name, [row for part in parts for row in lists[part]]) for name, parts in sums.items())
+    return {name: lists[name] for name in order}
 
 
 def is_for(pattern, kind):
-    for part in pattern:
-        if part[0] == 'any' or part[0] == 'any_' + kind[0] or part[0] == kind[0] and len(part) == 1:
+    """Whether a part of the pattern is for a token of that kind."""
+    for word, *names in pattern:
+        if word in ('any', 'any_' + kind[0]) or word == kind[0] and not names:
             return True
-        if len(part) == 2 and part[0] == kind[0] and kind[1] in part[1]:
-            return True
-        if part[0] == 'end_but' and kind[0] == 'end' and kind[1] not in part[1]:
+        if names and kind[0] == word.split('_')[0] and (kind[1] in names[0]) == (word != 'end_but'):
             return True
     return False
 
 
 def first_for(rows, kind):
-    for number, (pattern, _) in enumerate(rows):
-        if is_for(pattern, kind):
-            return number
-    raise ValueError(kind)
+    """The number of the first row that is for a token of that kind."""
+    return next(number for number, (pattern, _) in enumerate(rows) if is_for(pattern, kind))
 
 
 def flat(plan, at=0):
+    """The acts of a plan, each test with the later place where the row goes on where it fails."""
     out = []
     for act in plan:
         if act[0] in ('when', 'unless'):
-            inner = flat(act[2], at + 1)
-            out.append(('If' if act[0] == 'when' else 'Unless', act[1], at + 1 + len(inner)))
-            out += inner
-            at += 1 + len(inner)
+            inner = flat(act[2], at + len(out) + 1)
+            out += [('If' if act[0] == 'when' else 'Unless', act[1], at + len(out) + 1 + len(inner)), *inner]
         else:
             out.append(act)
-            at += 1
     return out
 
 
-ARGUMENTS = {
-    'InScope': ('Scope', 'Which'), 'OneInScope': ('Scope', 'SetName'), 'CurrentIs': ('Known',), 'BelowIs': ('Known',),
-    'CurrentIsIn': ('SetName',), 'Listed': ('Known',), 'AgainAs': ('Known',), 'As': ('Mode',), 'AsFostered': ('Mode',),
-    'InsertBare': ('Known',), 'PopTo': ('SetName',), 'Through': ('Which',), 'ThroughFirstOf': ('SetName',),
-    'ImpliedExcept': ('Which',), 'Adopt': ('Which',), 'Lexer': ('Rest',), 'Switch': ('Mode',),
-    'PushTemplateMode': ('Mode',), 'ReplaceTemplateMode': ('Mode',), 'Named': ('Known',),
-}
+def rust(term, kind, types):
+    """A term of that type as the code writes it."""
+    name, *arguments = term
+    text = name if kind == 'Act' else f'{kind}::{constant(name) if kind == "Known" else name}'
+    if not arguments:
+        return text
+    assert len(types[name]) == len(arguments), term
+    return f'{text}({", ".join(rust(argument, of, types) for argument, of in zip(arguments, types[name]))})'
 
 
-def rust(term, kind):
-    name = term[0]
-    text = name if kind == 'Act' else kind + '::' + (constant(name) if kind == 'Known' else name)
-    if len(term) > 1:
-        kinds_of = ARGUMENTS[name]
-        assert len(kinds_of) == len(term) - 1, term
-        text += '(' + ', '.join(rust(arg, of) for arg, of in zip(term[1:], kinds_of)) + ')'
-    return text
-
-
-def rust_act(act):
+def act_lines(act, types):
+    """The lines of an act in the code's table."""
     if act[0] in ('If', 'Unless'):
-        return '%s { test: %s, otherwise: %d }' % (act[0], rust(act[1], 'Test'), act[2])
-    return rust(act, 'Act')
+        return [f'{act[0]} {{', f'    test: {rust(act[1], "Test", types)},', f'    otherwise: {act[2]},', '},']
+    return [rust(act, 'Act', types) + ',']
 
 
-def main(crate, what):
-    crate = Path(crate).resolve()
-    names = known_names(crate.parent / 'hp_elements')
-    rows, order = lists(crate)
-    every, first, acts, starts = kinds(names), 0, [], [0]
-    if what == 'numbers':
-        print('//! The number of the row of each kind of token, by the place of the kind: the start tags of the known')
-        print('//! names and of other names, the end tags alike, the three classes of characters, comment, doctype, end of')
-        print('//! input. `tools/row_tables.py` prints this file from specs/.')
-    for name in order:
-        if what == 'numbers':
-            numbers = [first + first_for(rows[name], kind) for kind in every]
-            print()
-            print('pub(crate) static %s: [u8; %d] = [%s];' % (name.upper(), len(every), ', '.join(map(str, numbers))))
-        for number, (_, plan) in enumerate(rows[name], first):
-            acts.append('// %s, from %d' % (name.replace('_', ' '), first) if number == first else '// %d' % number)
-            acts += [rust_act(act) + ',' for act in flat(plan)]
-            starts.append(starts[-1] + len(flat(plan)))
-        first += len(rows[name])
-    if what == 'acts':
-        print('/// The acts of the rows, one row after the other; each row stands behind its number.')
-        print('static ACTS: [Act; %d] = [' % starts[-1])
-        print('\n'.join('    ' + line for line in acts))
-        print('];')
-        print()
-        print('/// Where each row begins among the acts, and behind them where the last one ends.')
-        print('static STARTS: [u8; %d] = [%s];' % (len(starts), ', '.join(map(str, starts))))
+def numbers_text(lists):
+    """The text of src/numbers.rt."""
+    out, first, every = [NUMBERS_HEAD], 0, kinds()
+    for name, rows in lists.items():
+        numbers = [str(first + first_for(rows, kind)) for kind in every]
+        out.append(f'pub(crate) static {name.upper()}: {filled("u8", numbers)};\n')
+        first += len(rows)
+    return '\n'.join(out)
 
 
-if __name__ == '__main__':
-    main(*sys.argv[1:])
+def acts_text(lists, text):
+    """The text of src/acts.rt, with its two tables printed anew."""
+    lines, starts, types = [], [0], argument_types()
+    for name, rows in lists.items():
+        for place, (_, plan) in enumerate(rows):
+            number, acts = len(starts) - 1, flat(plan)
+            lines.append(f'// {number}' if place else f'// {name.replace("_", " ")}, from {number}')
+            lines += [line for act in acts for line in act_lines(act, types)]
+            starts.append(starts[-1] + len(acts))
+    assert starts[-1] < 256, 'the places of the rows are bytes'
+    text = between(text, 'static ACTS: ', ';\n\n', listed('Act', lines, starts[-1]))
+    return between(text, 'static STARTS: ', ';\n\n', filled('u8', list(map(str, starts))))
+
+
+def rules_crates():
+    """The crates that have rows."""
+    return sorted(path.parent.parent for path in CRATES.glob('hp_rules_*/specs/Table.antt'))
+
+
+def row_files():
+    """Each file with its text."""
+    for crate in rules_crates():
+        lists = row_lists(crate)
+        parts = (part for rows in lists.values() for pattern, _ in rows for part in pattern)
+        all_known(f'A row of {crate.name}', (name for part in parts for names in part[1:] for name in names))
+        yield crate / 'src' / 'numbers.rt', numbers_text(lists)
+        yield crate / 'src' / 'acts.rt', acts_text(lists, (crate / 'src' / 'acts.rt').read_text())

@@ -20,19 +20,12 @@ What is read so:
 - In text a comment is inserted, as in each mode that doesn't say otherwise. ORACLE ignores it there; the lexer gives
   no comment in that mode.
 """
-import re
 import sys
 from pathlib import Path
 
-from row_tables import known_names
+from definitions import known_names, listed_sets, sets_of_rows
+from row_tables import row_lists, rules_crates
 
-MODES = {
-    'hp_rules_page': 'initial, before html, before head, in head, in head noscript, after head, after body, in frameset, '
-                     'after frameset, after after body, after after frameset',
-    'hp_rules_body': 'in body, text',
-    'hp_rules_table': 'in table, in table text, in caption, in column group, in table body, in row, in cell',
-    'hp_rules_rest': 'in select, in select in table, in template, foreign',
-}
 OTHERS = ('other start', 'other end', 'white', 'nul', 'other', 'comment', 'doctype', 'end of input')
 KEPT = object()
 
@@ -102,8 +95,9 @@ class Recorder:
         return 'Which::Its' if name == self.token.name else 'Which::Named(%s)' % self.known(name)
 
     def set_name(self, names):
-        for name, members in SETS.items():
-            if frozenset(members.split()) == frozenset(names):
+        """The set of these HTML elements, of those that rows name."""
+        for name in sets_of_rows():
+            if listed_sets()[name] == {('html', name) for name in names}:
                 return 'SetName::' + name
         raise ValueError(sorted(names))
 
@@ -333,13 +327,6 @@ class Recorder:
             raise ValueError(field)
 
 
-SETS = {
-    'Headings': 'h1 h2 h3 h4 h5 h6', 'Cells': 'td th', 'TableSections': 'tbody tfoot thead',
-    'TableTextParents': 'table tbody template tfoot thead tr', 'TableContext': 'table template html',
-    'TableBodyContext': 'tbody tfoot thead template html', 'TableRowContext': 'tr template html',
-}
-
-
 class Oracle:
     def __init__(self, folder):
         sys.path.insert(0, str(folder))
@@ -444,6 +431,12 @@ def write(names, modes, tables):
     print('use super::Step::{self, Asked, Does};')
     print('use hp_elements::{Act, Known, Mode, Rest, Scope, SetName, Test, Which};')
     print()
+    write_tokens(names, tables)
+    write_ways(tables)
+
+
+def write_tokens(names, tables):
+    """The groups of each kind of token."""
     named = []
     for column, (starts, ends, _, _) in enumerate(tables):
         for word, groups in (('true', starts), ('false', ends)):
@@ -462,6 +455,10 @@ def write(names, modes, tables):
         print('    &[%s],' % ', '.join(str(of(t)) for t in tables))
     print('];')
     print()
+
+
+def write_ways(tables):
+    """The groups' ways."""
     ways = [(column, number, [step(part) for part in way]) for column, t in enumerate(tables) for number, group in enumerate(t[3]) for way in group]
     steps = []
     for _, _, way in ways:
@@ -487,14 +484,10 @@ def write(names, modes, tables):
 
 
 def main(oracle, crate=None):
-    here = Path(__file__).resolve().parent.parent / 'crates'
-    crates = [Path(crate).resolve().name] if crate else list(MODES)
-    if crate:
-        here = Path(crate).resolve().parent
-    names = known_names(here / 'hp_elements')
+    names = [(name.constant, name.text) for name in known_names()]
     oracle = Oracle(oracle)
-    for crate_name in crates:
-        modes = MODES[crate_name].split(', ')
+    for found in [Path(crate).resolve()] if crate else rules_crates():
+        modes = [name.replace('_', ' ') for name in row_lists(found)]
         tables = [table(oracle, names, mode) for mode in modes]
         if crate is None:
             show(names, modes, tables)
