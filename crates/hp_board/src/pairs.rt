@@ -24,7 +24,7 @@ pub(crate) fn question_at<'f>(fragment: &'f Fragment<'_>, place: usize) -> &'f Q
 pub(crate) fn take_pairs(alloc: Global, pairs: &mut ListIntoIter<Kept>, count: usize) -> Vec<Kept>
     ensures { pairs.new ≡ drop count pairs.old }
 {
-    let mut taken = Vec::new(alloc);
+    let mut taken = Vec::with_capacity(alloc, count).unwrap_or(Vec::new(alloc));
     for _turn in 0..count {
         take_pair(pairs, &mut taken);
     }

@@ -8,8 +8,6 @@ mod growing;
 mod marks;
 mod naming;
 mod reaching;
-#[cfg(test)]
-mod tests;
 mod touched;
 mod touching;
 

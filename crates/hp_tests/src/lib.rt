@@ -1,6 +1,6 @@
 //! Tests of the crates from outside: short texts, whole and cut at each place, against an independent lexer; guesses of open elements; the
 //! steps of tree construction on views; whole pages, and pages that are read in two parts from known states, and how much of the second a right guess covers; large trees that edits make,
-//! printed; pages and their HTML text.
+//! printed; pages and their HTML text; a fragment's edits as they come; the program's words.
 #![tactic(auto)]
 
 #[cfg(test)]
@@ -11,6 +11,8 @@ mod cases;
 mod covering;
 #[cfg(test)]
 mod growing;
+#[cfg(test)]
+mod growth;
 #[cfg(test)]
 mod guessed;
 #[cfg(test)]
@@ -37,5 +39,7 @@ mod tags;
 mod teller;
 #[cfg(test)]
 mod tree;
+#[cfg(test)]
+mod words;
 #[cfg(test)]
 mod writing;

@@ -8,8 +8,6 @@ mod numbers;
 mod options;
 mod reading;
 mod setting;
-#[cfg(test)]
-mod tests;
 mod words;
 
 pub use hp_predict::GuessKind;

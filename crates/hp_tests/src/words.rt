@@ -1,5 +1,5 @@
 //! Words and what they ask for.
-use crate::{CutSetting, NoMemory, OutputForm, PageSetting, Setting, Words, read_setting};
+use hp_words::{CutSetting, NoMemory, OutputForm, PageSetting, Setting, Words, read_setting};
 use std::alloc::Global;
 use std::process::Abort;
 
