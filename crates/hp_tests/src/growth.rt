@@ -1,8 +1,8 @@
 //! Small fragments, split as the worked examples of inner and outer edits are.
-use hp_growth::Growing;
 use hp_arena::{NodeView, Tree};
 use hp_control::{Child, Edit, Edits, Place, Ref};
 use hp_elements::{Chain, Known, Name, Namespace, Tag, Text};
+use hp_growth::Growing;
 use std::alloc::Global;
 use std::process::Abort;
 
